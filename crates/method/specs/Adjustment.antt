@@ -1,0 +1,85 @@
+-- 01, "Adjustment and baseline".
+use Prim.Native.Nat.{ℕ, zero, suc, _+_, _-_, _*_, _/_, _%_}
+use mathlib.Core.Bool.{Bool, cond, _&&_}
+use mathlib.Core.List.{List, [], _∷_, _++_, map}
+use mathlib.Core.Option.{Option, none, some}
+use lib.ListN.{getD, take, drop}
+use lib.IntN.{ℤ, pos, negsuc, _+ℤ_, _-ℤ_}
+use lib.Dec.{leb, eqb}
+use Rattle.lists.specs.Lists.{all, sumOf}
+use Rattle.method.specs.declared.Request.{Request}
+use Rattle.method.specs.Table.{Day, present}
+
+-- "a two-day ruler where day D-1 is 0 to 95 and day D is 96 to 191": the readings along it
+abbrev pub ruler : Day → Day → List ℕ
+ruler yesterday today = yesterday .readings ++ today .readings
+
+-- "the twelve ruler quarters ending at" `end`
+abbrev pub twelve : List ℕ → ℕ → List ℕ
+twelve readings end = take 12 (drop (end - 12) readings)
+
+-- twelve quarters end there, and all their readings are present
+unfoldable pub windowEnds : List ℕ → ℕ → Bool
+windowEnds readings end = leb 12 end && all present (twelve readings end)
+
+-- the latest place from `end` down where such twelve quarters end; 0 where there is none
+unfoldable pub latestEnd : List ℕ → ℕ → ℕ
+latestEnd readings zero = 0
+latestEnd readings (suc k) = let earlier = latestEnd readings k in cond (windowEnds readings (suc k)) (suc k) earlier
+
+-- "Adjustment window: the twelve ruler quarters ending at n, if n is at least 12 and all twelve readings are present. Otherwise .. the
+-- latest twelve consecutive ruler quarters with all readings present that end at or before s." Where it ends; 0 where there is none
+unfoldable pub adjustmentEnd : Request → List ℕ → ℕ
+adjustmentEnd r readings = cond (windowEnds readings (r .n)) (r .n) (latestEnd readings (r .s))
+
+-- the `k` places from `t` on
+unfoldable pub places : ℕ → ℕ → List ℕ
+places zero t = []
+places (suc k) t = t ∷ places k (suc t)
+
+-- "For a ruler quarter t let S(t) be the sum, over the N chosen days, of the reading at quarter t mod 96."
+unfoldable pub S : List (ℕ × Day) → ℕ → ℕ
+S chosen t = sumOf (map (λ (p : ℕ × Day). getD (p .1 .readings) (t % 96) 0) chosen)
+
+-- "A is the sum of the twelve readings of the adjustment window, B the sum of S over it."
+unfoldable pub A : List ℕ → ℕ → ℕ
+A readings end = sumOf (twelve readings end)
+
+unfoldable pub B : List (ℕ × Day) → ℕ → ℕ
+B chosen end = sumOf (map (S chosen) (places 12 (end - 12)))
+
+-- "The adjustment is (N·A - B)/(12N), possibly negative.": its numerator
+abbrev pub adjustment : ℕ → ℕ → ℕ → ℤ
+adjustment n a b = pos (n * a) -ℤ pos b
+
+-- "The baseline at event quarter t is max(0, 12·S(t) + N·A - B)/(12N).": its numerator before the floor, and floored at zero
+abbrev pub unfloored : ℕ → ℤ → ℤ
+unfloored s adj = pos (12 * s) +ℤ adj
+
+abbrev pub floored : ℤ → ℕ
+floored (pos k) = k
+floored (negsuc k) = 0
+
+-- what is worked out of the chosen days: 12N, the adjustment's numerator, and the numerators of the event's quarters before the floor
+pub record Baseline : Type 0 where
+  pub denominator : ℕ
+  pub adjusted : ℤ
+  pub numerators : List ℤ
+
+unfoldable pub baselineAt : Request → ℕ → List (ℕ × Day) → ℤ → Baseline
+baselineAt r n chosen adj =
+    record {
+      denominator = 12 * n;
+      adjusted = adj;
+      numerators = map (λ t. unfloored (S chosen t) adj) (places (r .e - r .s) (r .s));
+    }
+
+-- none where there is no adjustment window
+unfoldable pub baseline : Request → ℕ → List (ℕ × Day) → Day → Day → Option Baseline
+baseline r n chosen yesterday today =
+    let end = adjustmentEnd r (ruler yesterday today) in
+    cond (eqb end 0) none (some (baselineAt r n chosen (adjustment n (A (ruler yesterday today) end) (B chosen end))))
+
+-- "Rounded kW is the nearest whole number, halves up"
+abbrev pub rounded : ℕ → ℕ → ℕ
+rounded numerator denominator = (2 * numerator + denominator) / (2 * denominator)

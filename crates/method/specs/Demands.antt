@@ -1,0 +1,87 @@
+-- Demand 3 of the order (document 00), stated over the definitions. `proofs/Demand3` proves it for every group of days, table and request.
+use mathlib.Core.Path.{_≡_}
+use mathlib.Core.Bool.{Bool, true, false}
+use mathlib.Core.List.{List}
+use Prim.Native.Nat.{ℕ, _+_, _-_, _≤_, _<_}
+use lib.Dec.{eqb}
+use Rattle.lists.specs.Lists.{any, member}
+use Rattle.calendar.specs.declared.Group.{Group}
+use Rattle.method.specs.declared.Request.{Request}
+use Rattle.method.specs.declared.Refusal.{Refusal}
+use Rattle.method.specs.declared.Refusal.the-variants.{MarginTooShort}
+use Rattle.method.specs.Table.{Table, heldDays, dayOf, held, history}
+use Rattle.method.specs.Method.{window, wholeReach, reach, dated}
+use Rattle.method.specs.HighXofY.{highXofY}
+use Rattle.method.specs.Verdict.{Reply, refused, answered, number, requestRefusals, methodology, wellFormed}
+
+-- 01: "A longer history adds days before F, after the last, or both; it agrees with the extract when each of the extract's days has the
+-- same marks and readings in both." Here none need be added, which says more
+pub record Longer (l t : Table) : Type 0 where
+  pub starts : l .first ≤ t .first
+  pub ends : t .first + heldDays t ≤ l .first + heldDays l
+  pub agrees : (d : ℕ) → held (history t) d ≡ true → dayOf l d ≡ dayOf t d
+
+-- `l` is well formed and longer than `t`
+pub record LongerFormed (l t : Table) : Type 0 where
+  pub formed : wellFormed l ≡ true
+  pub longer : Longer l t
+
+-- `p` is a well-formed part of `t` that holds the event day
+pub record Part (p t : Table) (r : Request) : Type 0 where
+  pub formed : wellFormed p ≡ true
+  pub longer : Longer t p
+  pub holds : held (history p) (r .event) ≡ true
+
+-- the days before the event that a table holds
+abbrev pub heldBefore : Table → Request → ℕ
+heldBefore t r = r .event - t .first
+
+-- the days of the baseline window of a table for a request
+abbrev pub windowDays : (ℕ → Group) → Table → Request → List ℕ
+windowDays group t r = dated (window (highXofY group r) (history t))
+
+-- two longer well-formed histories agree with `t` and have different windows: a day is in the one and not in the other
+pub record Undecided (group : ℕ → Group) (t : Table) (r : Request) : Type 0 where
+  pub one : Table
+  pub other : Table
+  pub one-longer : LongerFormed one t
+  pub other-longer : LongerFormed other t
+  pub day : ℕ
+  pub inside : member day (windowDays group one r) ≡ true
+  pub outside : member day (windowDays group other r) ≡ false
+
+-- the reply is "margin too short"
+abbrev pub isMargin : Reply → Bool
+isMargin (refused w) = eqb (number w) 8
+isMargin (answered a) = false
+
+-- no refusal before 8 applies
+abbrev pub NoneEarlier : Table → Request → ℕ → Type 0
+NoneEarlier t r room = any (λ (p : Bool × Refusal). p .0) (requestRefusals t r room) ≡ false
+
+-- Demand 3 at a well-formed table of any length that holds the event day
+pub record Demand3 (group : ℕ → Group) (t : Table) (r : Request) (room : ℕ) : Type 0 where
+  -- "Where an event over a well-formed extract gets an answer, 'too few days' or 'no adjustment window', every longer well-formed history
+  -- that agrees with the extract, for the same portfolio and request, gets the same by the methodology, all numbers included."
+  pub stable : isMargin (methodology group t r room) ≡ false
+      → (l : Table) → LongerFormed l t → methodology group l r room ≡ methodology group t r room
+  -- "'Margin too short' is given, once no earlier refusal applies, exactly when two longer well-formed histories agree with the extract and
+  -- have different baseline windows for that request." The two that are shown are strictly longer
+  pub given-when : NoneEarlier t r room → Undecided group t r → isMargin (methodology group t r room) ≡ true
+  pub only-when : NoneEarlier t r room → isMargin (methodology group t r room) ≡ true
+      → (u : Undecided group t r) × (heldDays t < heldDays (u .one)) × (heldDays t < heldDays (u .other))
+  -- it carries D minus the oldest relevant day, at most 45, and with that many days before the event it is never given
+  pub carried : isMargin (methodology group t r room) ≡ true
+      → methodology group t r room ≡ refused (MarginTooShort (wholeReach (highXofY group r)))
+  pub at-most : wholeReach (highXofY group r) ≤ 45
+  pub enough : wholeReach (highXofY group r) ≤ heldBefore t r → isMargin (methodology group t r room) ≡ false
+  -- "The reported reach is the fewest days before the event that give this result.": a part of the table with so many days before the event
+  -- gets the same reply, a part with fewer gets "margin too short", and there are parts with any number of days up to the reach
+  pub same : isMargin (methodology group t r room) ≡ false
+      → (p : Table) → Part p t r → reach (highXofY group r) (history t) ≤ heldBefore p r
+      → methodology group p r room ≡ methodology group t r room
+  pub fewer : NoneEarlier t r room → isMargin (methodology group t r room) ≡ false
+      → (p : Table) → Part p t r → heldBefore p r < reach (highXofY group r) (history t)
+      → isMargin (methodology group p r room) ≡ true
+  pub attained : NoneEarlier t r room → isMargin (methodology group t r room) ≡ false
+      → (k : ℕ) → k ≤ reach (highXofY group r) (history t) → (p : Table) × Part p t r × (heldBefore p r ≡ k)

@@ -1,0 +1,117 @@
+-- 01, "Refusal numbers, tested in this order".
+use Prim.Native.Nat.{ℕ, _+_, _-_}
+use mathlib.Core.Bool.{Bool, cond, not, _&&_}
+use mathlib.Core.List.{List, [], _∷_, _++_, map}
+use mathlib.Core.Option.{Option, none, some}
+use lib.ListN.{length, drop}
+use lib.IntN.{ℤ}
+use lib.Dec.{leb, ltb}
+use Rattle.lists.specs.Lists.{all, leading}
+use Rattle.calendar.specs.Days.{lastDay}
+use Rattle.calendar.specs.declared.Group.{Group}
+use Rattle.method.specs.declared.Request.{Request}
+use Rattle.method.specs.declared.Refusal.{Refusal}
+use Rattle.method.specs.declared.Refusal.the-variants.{BadFile, NoEvent, BadTable, BadMark, BadReading, BadRequest, NotHeld}
+use Rattle.method.specs.declared.Refusal.the-variants.{NotYetParticipating, NoRoom, MarginTooShort, TooFew, NoAdjustmentWindow}
+use Rattle.method.specs.Table.{Table, goodMark, goodReading, held, history, shaped, isExtract}
+use Rattle.method.specs.Method.{Outcome, short, few, chose, outcome}
+use Rattle.method.specs.Adjustment.{Baseline, floored}
+use Rattle.method.specs.HighXofY.{highXofY}
+
+-- the paper's number of a refusal, and the numbers that it carries
+abbrev pub number : Refusal → ℕ
+number (BadFile place) = 11
+number NoEvent = 12
+number BadTable = 1
+number (BadMark place) = 2
+number (BadReading place) = 3
+number BadRequest = 4
+number NotHeld = 5
+number NotYetParticipating = 6
+number NoRoom = 7
+number (MarginTooShort days) = 8
+number (TooFew size reach) = 9
+number (NoAdjustmentWindow reach) = 10
+
+abbrev pub carries : Refusal → List ℕ
+carries (BadFile place) = place ∷ []
+carries NoEvent = []
+carries BadTable = []
+carries (BadMark place) = place ∷ []
+carries (BadReading place) = place ∷ []
+carries BadRequest = []
+carries NotHeld = []
+carries NotYetParticipating = []
+carries NoRoom = []
+carries (MarginTooShort days) = days ∷ []
+carries (TooFew size reach) = size ∷ reach ∷ []
+carries (NoAdjustmentWindow reach) = reach ∷ []
+
+-- an answer: the chosen days by rank, the reach, and the baseline's numerators over one denominator
+pub record Answer : Type 0 where
+  pub days : List ℕ
+  pub reach : ℕ
+  pub denominator : ℕ
+  pub adjusted : ℤ
+  pub numerators : List ℕ
+
+pub data Reply : Type 0 where
+  refused : Refusal → Reply
+  answered : Answer → Reply
+
+-- 1, 2 and 3: "Places count from 0 over the whole table."
+unfoldable pub tableRefusals : Table → List (Bool × Refusal)
+tableRefusals t =
+    (not (isExtract t), BadTable) ∷
+    (not (all goodMark (t .marks)), BadMark (leading goodMark (t .marks))) ∷
+    (not (all goodReading (t .readings)), BadReading (leading goodReading (t .readings))) ∷ []
+
+-- "P above 36,524; s outside 96..191; e outside s+1..192; n above s": none of these
+unfoldable pub goodRequest : Request → Bool
+goodRequest r =
+    leb (r .participation) lastDay && (leb 96 (r .s) && leb (r .s) 191) && (leb (r .s + 1) (r .e) && leb (r .e) 192) && leb (r .n) (r .s)
+
+-- 4 to 7, where `room` is the output's length
+unfoldable pub requestRefusals : Table → Request → ℕ → List (Bool × Refusal)
+requestRefusals t r room =
+    (not (goodRequest r), BadRequest) ∷
+    (not (held (history t) (r .event)), NotHeld) ∷
+    (ltb (r .event) (r .participation), NotYetParticipating) ∷
+    (ltb room (r .e - r .s), NoRoom) ∷ []
+
+-- 8 to 10, or the answer
+unfoldable pub closing : Outcome (Option Baseline) → Reply
+closing (short days) = refused (MarginTooShort days)
+closing (few size reach) = refused (TooFew size reach)
+closing (chose days reach none) = refused (NoAdjustmentWindow reach)
+closing (chose days reach (some b)) =
+    answered
+    (record {
+      days = days;
+      reach = reach;
+      denominator = b .denominator;
+      adjusted = b .adjusted;
+      numerators = map floored (b .numerators);
+    })
+
+-- the first refusal of which the test holds, else the reply
+unfoldable pub firstOf : List (Bool × Refusal) → Reply → Reply
+firstOf [] reply = reply
+firstOf (t ∷ ts) reply = let later = firstOf ts reply in cond (t .0) (refused (t .1)) later
+
+-- what the methodology gives over a well-formed history of any length
+unfoldable pub methodology : (ℕ → Group) → Table → Request → ℕ → Reply
+methodology group t r room = firstOf (requestRefusals t r room) (closing (outcome (highXofY group r) (history t)))
+
+-- the verdict over a lent table
+unfoldable pub verdict : (ℕ → Group) → Table → Request → ℕ → Reply
+verdict group t r room = firstOf (tableRefusals t) (methodology group t r room)
+
+-- "Refused, every lent buffer keeps its bytes. Answered, the first e-s outputs are written and the rest kept."
+unfoldable pub written : Reply → List ℕ → List ℕ
+written (refused w) out = out
+written (answered a) out = a .numerators ++ drop (length (a .numerators)) out
+
+-- "Well formed means that 1, 2 and 3 are not given; for histories in demand 3 the limit of 128 days is lifted."
+unfoldable pub wellFormed : Table → Bool
+wellFormed t = shaped t && all goodMark (t .marks) && all goodReading (t .readings)
