@@ -6,3 +6,5 @@ pub mod HighXofY
 pub mod Verdict
 pub mod Lawful
 pub mod Demands
+pub mod Checks
+pub mod Edges

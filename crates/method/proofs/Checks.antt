@@ -1,0 +1,70 @@
+-- Every line of the table of checks holds, by computation of the definitions.
+use mathlib.Core.Path.{refl}
+use Prim.Native.Nat.{ℕ}
+use Rattle.lists.specs.Lists.{keep, all, any, leading, member, sumOf, leastOf}
+use Rattle.calendar.specs.Days.{leap, months, newYear, dayNumber, yearOf}
+use Rattle.calendar.specs.Holidays.{easter, fixedHolidays, easterHolidays, holidays, isHoliday, group}
+use Rattle.method.specs.Table.{size, offset, dayOf, held, shaped, isExtract}
+use Rattle.method.specs.Relevant.{daysBefore, relevant, relevantDays}
+use Rattle.method.specs.Method.{wholeReach, seen, eligibles, spares, window, chosen, reach, isShort, outcome}
+use Rattle.method.specs.Adjustment.{windowEnds, latestEnd, adjustmentEnd, places, S, A, B, baselineAt, baseline}
+use Rattle.method.specs.HighXofY.{complete, eligible, spare, eventSum, higher, insertBy, sortBy, highXofY}
+use Rattle.method.specs.Verdict.{tableRefusals, goodRequest, requestRefusals, closing, firstOf, methodology, verdict}
+use Rattle.method.specs.Checks.{Checks}
+use Rattle.method.specs.Edges.{Edges}
+
+-- unfolding this unfolds every definition that the tables compute with
+definitions : ℕ
+unfolding keep all any leading member sumOf leastOf leap months newYear dayNumber yearOf easter fixedHolidays easterHolidays holidays
+    isHoliday group size offset dayOf held shaped isExtract daysBefore relevant relevantDays wholeReach seen eligibles spares window chosen reach
+    isShort outcome windowEnds latestEnd adjustmentEnd places S A B baselineAt baseline complete eligible spare eventSum higher insertBy sortBy
+    highXofY tableRefusals goodRequest requestRefusals closing firstOf methodology verdict
+definitions = 0
+
+pub checks : Checks
+unfolding definitions
+checks =
+    record {
+      easter-2024 = refl;
+      easter-2024-day = refl;
+      easter-2025 = refl;
+      holy-saturday = refl;
+      saturday-day = refl;
+      saturday = refl;
+      assumption-day = refl;
+      assumption = refl;
+      august-day = refl;
+      august-window = refl;
+      august-reach = refl;
+      august-cut = refl;
+      table-4 = refl;
+      table-5-sums = refl;
+      table-5-days = refl;
+      table-6-sums = refl;
+      table-6-averages = refl;
+      numerator-30348 = refl;
+      numerator-0 = refl;
+      worked-answer = refl;
+      worked-kilowatts = refl;
+      worked-refusal = refl;
+    }
+
+pub edges : Edges
+unfolding definitions
+edges =
+    record {
+      easter-sunday = refl;
+      ties = refl;
+      forty-five = refl;
+      filled = refl;
+      not-filled = refl;
+      n-12 = refl;
+      n-11 = refl;
+      n-12-missing = refl;
+      s-missing = refl;
+      none-left = refl;
+      reading-taken = refl;
+      reading-refused = refl;
+      alone = refl;
+      later = refl;
+    }

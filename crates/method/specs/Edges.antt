@@ -1,0 +1,50 @@
+-- Both sides of lines that 01 draws and does not mark P, and of the slips that it names. `proofs/Checks` proves them.
+use mathlib.Core.Path.{_≡_}
+use mathlib.Core.Bool.{true, false}
+use mathlib.Core.List.{List, [], _∷_, _++_}
+use Prim.Native.Nat.{ℕ}
+use lib.ListN.{replicate, set}
+use Rattle.calendar.specs.Holidays.{group}
+use Rattle.method.specs.declared.Request.{Request}
+use Rattle.method.specs.declared.Refusal.{Refusal}
+use Rattle.method.specs.declared.Refusal.the-variants.{NotYetParticipating, MarginTooShort, TooFew}
+use Rattle.method.specs.Table.{Table, goodReading, missing, history}
+use Rattle.method.specs.Method.{chosen, dated}
+use Rattle.method.specs.Adjustment.{adjustmentEnd}
+use Rattle.method.specs.HighXofY.{highXofY}
+use Rattle.method.specs.Verdict.{Reply, refused, verdict}
+use Rattle.method.specs.Checks.{_January_, _February_, _April_, _May_, _July_, _August_, at15, marked, windowOf}
+
+abbrev pub chosenOf : Table → Request → List ℕ
+chosenOf t r = dated (chosen (highXofY group r) (history t))
+
+abbrev pub notified : ℕ → Request
+notified n = record { participation = 0; event = 1; s = 152; e = 156; n = n }
+
+-- from Tuesday 20 to Wednesday 28 August 2024, with this mark on Friday the 23rd
+abbrev pub fiveDays : ℕ → Table
+fiveDays mark = record { first = 20 August 2024; marks = set (replicate 9 0) 3 mark; readings = replicate 864 1000 }
+
+pub record Edges : Type 0 where
+  -- D-1 is left out for a weekday alone: Easter Sunday's window has Holy Saturday, Good Friday and Labour Day
+  pub easter-sunday : windowOf (marked (1 April 2024) (5 May 2024) []) (at15 8700 (5 May 2024)) ≡ 4 May 2024 ∷ 3 May 2024 ∷ 1 May 2024 ∷ []
+  -- equal sums: the nearer days are chosen, in that order
+  pub ties : chosenOf (marked (1 January 2019) (2 February 2019) []) (at15 6900 6972) ≡ 26 January 2019 ∷ 19 January 2019 ∷ []
+  -- of a Friday's look-back the 45th day is a Tuesday, and the 46th a Monday
+  pub forty-five : verdict group (marked (20 August 2024) (30 August 2024) []) (at15 8700 (30 August 2024)) 4 ≡ refused (MarginTooShort 45)
+  -- "four eligible weekdays and one complete relevant event day without outage: five chosen; without the event day, refusal 9"
+  pub filled : chosenOf (fiveDays 1) (at15 (20 August 2024) (28 August 2024)) ≡
+      26 August 2024 ∷ 23 August 2024 ∷ 22 August 2024 ∷ 21 August 2024 ∷ 20 August 2024 ∷ []
+  pub not-filled : verdict group (fiveDays 3) (at15 (20 August 2024) (28 August 2024)) 4 ≡ refused (TooFew 4 8)
+  -- "n 12 uses ruler quarter 0; n 11 takes the other rule"; so does n 12 where a quarter of the twelve is missing
+  pub n-12 : adjustmentEnd (notified 12) (replicate 192 1000) ≡ 12
+  pub n-11 : adjustmentEnd (notified 11) (replicate 192 1000) ≡ 152
+  pub n-12-missing : adjustmentEnd (notified 12) (set (replicate 192 1000) 0 missing) ≡ 152
+  pub s-missing : adjustmentEnd (notified 11) (set (replicate 192 1000) 151 missing) ≡ 151
+  pub none-left : adjustmentEnd (notified 11) (replicate 11 1000 ++ replicate 181 missing) ≡ 0
+  -- "Reading 10,000,000 taken; 10,000,001 refused."
+  pub reading-taken : goodReading 10000000 ≡ true
+  pub reading-refused : goodReading 10000001 ≡ false
+  -- "D equal to F and P equal to D: refusal 9 with 0 and 0. P one later: refusal 6."
+  pub alone : verdict group (marked (28 August 2024) (28 August 2024) []) (at15 9006 9006) 4 ≡ refused (TooFew 0 0)
+  pub later : verdict group (marked (28 August 2024) (28 August 2024) []) (at15 9007 9006) 4 ≡ refused NotYetParticipating
