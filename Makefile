@@ -1,0 +1,20 @@
+# The project's commands. `make help` lists them.
+.PHONY: help check test fmt changed clean
+
+help: ## list the targets
+	@sed -n 's/^\([a-z]*\):.*## /\1\t/p' $(MAKEFILE_LIST) | expand -t 10
+
+check: ## prove every crate that changed, and run the programs
+	rt check
+
+test: ## the gate: everything from nothing; the last line is 'N passed, 0 failed'
+	@tests/gate
+
+fmt: ## lay out every source and proof file
+	rt fmt
+
+changed: ## change each number of the table of checks by one, and see that each change is refused (minutes)
+	tests/changed
+
+clean: ## remove what was built
+	rm -rf target build
