@@ -13,7 +13,7 @@ test: ## the gate: everything from nothing; the last line is 'N passed, 0 failed
 fmt: ## lay out every source and proof file
 	rt fmt
 
-changed: ## change each number of the table of checks by one, and see that each change is refused (minutes)
+changed: ## change each answer in the table of checks by one, and see that each change is refused (minutes)
 	tests/changed
 
 clean: ## remove what was built

@@ -28,6 +28,7 @@ checks =
       easter-2024 = refl;
       easter-2024-day = refl;
       easter-2025 = refl;
+      holy-saturday-day = refl;
       holy-saturday = refl;
       saturday-day = refl;
       saturday = refl;

@@ -105,6 +105,7 @@ pub record Checks : Type 0 where
   pub easter-2025 : easter 2025 ≡ 20 April 2025
   -- "4 May 2024, Holy Saturday, is in the holiday group; day 6972 (2 February 2019) is a Saturday; day 8993 (15 August 2024) is in the
   -- holiday group."
+  pub holy-saturday-day : easter 2024 - 1 ≡ 4 May 2024
   pub holy-saturday : group (4 May 2024) ≡ HolidayGroup
   pub saturday-day : 2 February 2019 ≡ 6972
   pub saturday : group 6972 ≡ Saturday
