@@ -17,7 +17,7 @@ use Rattle.calendar.specs.Days.{lastDay, inCalendar, leap, months, newYe
 use Rattle.calendar.specs.declared.Date.{Date}
 use Rattle.calendar.specs.declared.Numbered.the-variants.{Day}
 use Rattle.calendar.specs.declared.Dated.the-variants.{On}
-use Rattle.calendar.proofs.Years.{in-calendar, leap-le, next-year, year-of-least, year-of-in, in-its-year, year-of-day}
+use Rattle.calendar.proofs.Years.{in-calendar, leap-le, next-year, calendar-end, year-of-least, year-of-in, in-its-year, year-of-day}
 use Rattle.calendar.proofs.Months.{days-of-year}
 
 abbrev pub on : ℕ → ℕ → ℕ → Date
@@ -158,3 +158,48 @@ module _ (d : ℕ) {y f : ℕ} (ey : y ≡ yearOf d) (ef : f ≡ newYear y) wher
 
   pub year-over : d - f < sumOf (take 12 (months y))
   year-over = rw ey (omega (arith, first, in-its-year d, next-year (yearOf d) (year-of-least d), days-of-year (yearOf d)))
+
+abbrev pub SameDay : ℕ → Date → Type 0
+SameDay d t = (isDate (t .year) (t .month) (t .day) ≡ true) × (dayNumber (t .year) (t .month) (t .day) ≡ d)
+
+-- from a day to its date and back
+pub day-date-day : (d : ℕ) → d ≤ lastDay → SameDay d (dateOf d)
+unfolding months dayNumber
+day-date-day d h = go (locate (months (yearOf d)) (d - newYear (yearOf d)) (year-over d refl refl))
+  where
+    go :
+        (k : ℕ) × (j : ℕ) × (d - newYear (yearOf d) ≡ sumOf (take k (months (yearOf d))) + j) ×
+        (j < getD (months (yearOf d)) k 0) → SameDay d (dateOf d)
+    go (k, j, e, b) =
+        let in-year = year-of-in d h in
+        let few = held-below (months (yearOf d)) k (omega arith) in
+        let over : 1 + k - 1 ≡ k = omega arith in
+        let real : Real (yearOf d) (1 + k) (j + 1) =
+          record {
+            first = in-year .0;
+            last = in-year .1;
+            least = omega arith;
+            most = omega arith;
+            begun = omega arith;
+            going = rw over (omega arith)
+          }
+        in
+        rw (date-at d k j e b)
+        (is-date (yearOf d) (1 + k) (j + 1) real, rw over (omega (arith, in-its-year d)))
+
+passed-in-year : (y m d : ℕ) → dayNumber y m d - newYear y ≡ sumOf (take (m - 1) (months y)) + (d - 1)
+unfolding dayNumber
+passed-in-year y m d = omega arith
+
+-- from a date to its day and back
+pub date-day-date :
+    (y m d : ℕ) → isDate y m d ≡ true → (dayNumber y m d ≤ lastDay) × (dateOf (dayNumber y m d) ≡ on y m d)
+unfolding dateOf
+date-day-date y m d h =
+    let r = date-is y m d h in
+    let b = date-in-year y m d r in
+    let month : 1 + (m - 1) ≡ m = omega arith in
+    let day : d - 1 + 1 ≡ d = omega arith in
+    let e = after-at y 1 (months y) (m - 1) (d - 1) (omega arith) in
+    (omega (arith, calendar-end y (r .last)),
+    rw (year-of-day y (dayNumber y m d) (r .first) (b .0) (b .1), passed-in-year y m d) (rw (month, day) at e))

@@ -10,7 +10,7 @@ use Rattle.lists.proofs.Bools.{lt-or-le}
 use Rattle.lists.proofs.Below.{at-each}
 use Rattle.lists.specs.Lists.{sumOf}
 use Rattle.calendar.specs.Days.{leap, months, newYear, dayNumber}
-use Rattle.calendar.specs.Holidays.{easterD, easterE, easterQ, easter}
+use Rattle.calendar.specs.Holidays.{easterD, easterE, easterQ, easter, isSunday}
 use Rattle.calendar.proofs.Years.{calendar-year, leap-le, new-year-le}
 
 march-or-april :
@@ -48,3 +48,16 @@ easter-bounds y l h = omega (arith, easter-sum y l h, moon-le y)
 
 pub easter-fits : (y : ℕ) → 2000 ≤ y → y ≤ 2099 → (93 ≤ easter y) × (easter y ≤ 36288)
 easter-fits y l h = omega (arith, easter-bounds y l h, new-year-le y h, leap-le y)
+
+-- the same day by the Julian calendar, and what the bounds are as dates
+pub julian-sum : (y : ℕ) → dayNumber y (easterQ y / 31) (easterQ y % 31 + 1) ≡ newYear y + leap y + 80 + easterD y + easterE y
+julian-sum y = omega (arith, march-or-april y (easterQ y) (omega arith) (omega arith))
+
+sunday : ℕ → Bool
+sunday k = isSunday (easter (2000 + k))
+
+pub on-sunday : (y : ℕ) → 2000 ≤ y → y ≤ 2099 → isSunday (easter y) ≡ true
+unfolding sunday easter dayNumber months newYear leap sumOf
+on-sunday y l h =
+    let e : 2000 + (y - 2000) ≡ y = omega arith in
+    rw e at (at-each sunday 100 refl (y - 2000) (omega arith))

@@ -36,6 +36,6 @@ pub each-in-year : (y : ℕ) → 2000 ≤ y → y ≤ 2099 → Each (OfYear y) (
 unfolding OfYear holidays easterHolidays fixedHolidays dayNumber months sumOf
 each-in-year y l h = omega (arith, next-year y l, easter-bounds y l h)
 
-pub holiday-in-year : (y h : ℕ) → 2000 ≤ y → y ≤ 2099 → member h (holidays y) ≡ true → (newYear y ≤ h) × (h < newYear (y + 1))
+pub stays-in-year : (y h : ℕ) → 2000 ≤ y → y ≤ 2099 → member h (holidays y) ≡ true → (newYear y ≤ h) × (h < newYear (y + 1))
 unfolding OfYear
-holiday-in-year y h l m e = each-member (OfYear y) h (holidays y) (each-in-year y l m) e
+stays-in-year y h l m e = each-member (OfYear y) h (holidays y) (each-in-year y l m) e

@@ -1,5 +1,5 @@
 -- Years: leap or not, how many days one has, and in which a day lies. All by linear arithmetic.
-use Prim.Native.Nat.{ℕ, _+_, _%_, _≤_, _<_}
+use Prim.Native.Nat.{ℕ, suc, _+_, _%_, _≤_, _<_}
 use mathlib.Core.Path.{_≡_, refl}
 use mathlib.Core.Bool.{true, false}
 use mathlib.Core.Logic.{_⊎_, inl, inr, ⊎-elim}
@@ -32,6 +32,10 @@ next-year y h = ⊎-elim (λ t. omega arith) (λ f. omega arith) (leap-cases y)
 pub new-year-le : (y : ℕ) → y ≤ 2099 → newYear y ≤ 36160
 unfolding newYear
 new-year-le y h = omega arith
+
+pub calendar-end : (y : ℕ) → y ≤ 2099 → newYear (y + 1) ≤ suc lastDay
+unfolding newYear
+calendar-end y h = omega arith
 
 pub year-of-least : (d : ℕ) → 2000 ≤ yearOf d
 unfolding yearOf
