@@ -1,0 +1,205 @@
+-- A day number and its date: the month is found where the days before it stop short of the days passed.
+use Prim.Native.Nat.{ℕ, zero, suc, _+_, _-_, _≤_, _<_}
+use mathlib.Core.Path.{_≡_, refl, ap, sym, _∙_}
+use mathlib.Core.Bool.{true, _&&_}
+use mathlib.Core.List.{List, [], _∷_}
+use mathlib.Core.Logic.{⊎-elim}
+use native.Mathlib.Omega.{arith}
+use native.Mathlib.Numerals.{add-one}
+use native.Mathlib.Nat.{not-suc-le-zero, zero-add, add-zero}
+use borrow.Author.Tests.{lt-ltb, le-ltb, le-leb, leb-true}
+use lib.Dec.{leb}
+use lib.ListN.{getD, take}
+use Rattle.lists.specs.Lists.{sumOf}
+use Rattle.lists.proofs.Bools.{lt-or-le, both}
+use Rattle.lists.proofs.Sums.{sum-take-suc, sum-take-le, held-below}
+use Rattle.calendar.specs.Days.{lastDay, inCalendar, leap, months, newYear, yearOf, dayNumber, isDate, numbered, dateAfter, dateOf, dated}
+use Rattle.calendar.specs.declared.Date.{Date}
+use Rattle.calendar.specs.declared.Numbered.the-variants.{Day}
+use Rattle.calendar.specs.declared.Dated.the-variants.{On}
+use Rattle.calendar.proofs.Years.{in-calendar, leap-le, next-year, calendar-end, year-of-least, year-of-in, in-its-year, year-of-day}
+use Rattle.calendar.proofs.Months.{days-of-year}
+
+abbrev pub on : ℕ → ℕ → ℕ → Date
+on y m d = record { year = y; month = m; day = d }
+
+-- with the days before a month and some of its own passed, it is that month
+pub after-at :
+    (y m : ℕ) (ls : List ℕ) (k j : ℕ) → j < getD ls k 0 → dateAfter y m ls (sumOf (take k ls) + j) ≡ on y (m + k) (j + 1)
+unfolding dateAfter sumOf
+after-at y m [] zero j h = absurd (not-suc-le-zero h)
+after-at y m [] (suc k) j h = absurd (not-suc-le-zero h)
+after-at y m (l ∷ ls) zero j h = rw (zero-add, add-zero, lt-ltb j l h)
+after-at y m (l ∷ ls) (suc k) j h =
+    let past : l ≤ l + sumOf (take k ls) + j = omega arith in
+    let rest : l + sumOf (take k ls) + j - l ≡ sumOf (take k ls) + j = omega arith in
+    let month : m + 1 + k ≡ m + suc k = omega arith in
+    rw (le-ltb (l + sumOf (take k ls) + j) l past, rest, ← month) (after-at y (m + 1) ls k j h)
+
+-- every day of the months lies in one of them
+pub locate : (ls : List ℕ) (n : ℕ) → n < sumOf ls → (k : ℕ) × (j : ℕ) × (n ≡ sumOf (take k ls) + j) × (j < getD ls k 0)
+unfolding sumOf
+locate [] n h = absurd (not-suc-le-zero h)
+locate (l ∷ ls) n h = ⊎-elim (λ t. (0, n, omega arith, t)) (λ f. later f (locate ls (n - l) (omega arith))) (lt-or-le n l)
+  where
+    later : l ≤ n → (k : ℕ) × (j : ℕ) × (n - l ≡ sumOf (take k ls) + j) × (j < getD ls k 0) →
+        (k : ℕ) × (j : ℕ) × (n ≡ sumOf (take k (l ∷ ls)) + j) × (j < getD (l ∷ ls) k 0)
+    later f (k, j, e, b) = (suc k, j, omega arith, b)
+
+-- what `isDate` tests
+pub record Real (y m d : ℕ) : Type 0 where
+  pub first : 2000 ≤ y
+  pub last : y ≤ 2099
+  pub least : 1 ≤ m
+  pub most : m ≤ 12
+  pub begun : 1 ≤ d
+  pub going : d ≤ getD (months y) (m - 1) 0
+
+pub is-date : (y m d : ℕ) → Real y m d → isDate y m d ≡ true
+unfolding isDate
+is-date y m d r =
+    simp (
+      le-leb 2000 y (r .first),
+      le-leb y 2099 (r .last),
+      le-leb 1 m (r .least),
+      le-leb m 12 (r .most),
+      le-leb 1 d (r .begun),
+      le-leb d (getD (months y) (m - 1) 0) (r .going),
+    )
+
+pub date-is : (y m d : ℕ) → isDate y m d ≡ true → Real y m d
+unfolding isDate
+date-is y m d h =
+    let b = both (inCalendar y && (leb 1 m && leb m 12)) (leb 1 d && leb d (getD (months y) (m - 1) 0)) h in
+    let ym = both (inCalendar y) (leb 1 m && leb m 12) (b .0) in
+    let year = in-calendar y (ym .0) in
+    let month = both (leb 1 m) (leb m 12) (ym .1) in
+    let day = both (leb 1 d) (leb d (getD (months y) (m - 1) 0)) (b .1) in
+    record {
+      first = year .0;
+      last = year .1;
+      least = leb-true 1 m (month .0);
+      most = leb-true m 12 (month .1);
+      begun = leb-true 1 d (day .0);
+      going = leb-true d (getD (months y) (m - 1) 0) (day .1);
+    }
+
+month-length : (y m : ℕ) → 1 ≤ m → getD (months y) (m - 1) 0 ≡ sumOf (take m (months y)) - sumOf (take (m - 1) (months y))
+month-length y m h =
+    let whole : suc (m - 1) ≡ m = omega arith in
+    let e = rw whole at (sum-take-suc (months y) (m - 1)) in
+    omega arith
+
+-- what is left to test of a date whose year and month are right
+pub date-test :
+    (y m d : ℕ) → 2000 ≤ y → y ≤ 2099 → 1 ≤ m → m ≤ 12 → 1 ≤ d →
+    isDate y m d ≡ leb d (sumOf (take m (months y)) - sumOf (take (m - 1) (months y)))
+unfolding isDate
+date-test y m d a b e f g =
+    rw (le-leb 2000 y a, le-leb y 2099 b, le-leb 1 m e, le-leb m 12 f, le-leb 1 d g, month-length y m e)
+
+-- a date lies in its year
+pub date-in-year : (y m d : ℕ) → Real y m d → (newYear y ≤ dayNumber y m d) × (dayNumber y m d < newYear (y + 1))
+unfolding dayNumber months
+date-in-year y m d r = (
+  omega arith,
+  omega (arith, next-year y (r .first), days-of-year y, sum-take-suc (months y) (m - 1), sum-take-le (months y) (suc (m - 1))),
+)
+
+pub day-fits : (y m d : ℕ) → Real y m d → d ≤ 366
+unfolding months
+day-fits y m d r =
+    omega (arith, leap-le y, days-of-year y, sum-take-suc (months y) (m - 1), sum-take-le (months y) (suc (m - 1)))
+
+-- the date of a day of which the months over are known
+pub date-at :
+    (d k j : ℕ) → d - newYear (yearOf d) ≡ sumOf (take k (months (yearOf d))) + j → j < getD (months (yearOf d)) k 0 →
+    dateOf d ≡ on (yearOf d) (1 + k) (j + 1)
+unfolding dateOf
+date-at d k j e h = rw e (after-at (yearOf d) 1 (months (yearOf d)) k j h)
+
+pub numbered-day :
+    (t : Date) (n : ℕ) → isDate (t .year) (t .month) (t .day) ≡ true → n ≡ dayNumber (t .year) (t .month) (t .day) →
+    Day n ≡ numbered t
+unfolding numbered
+numbered-day t n h e = rw h (ap Day e)
+
+pub dated-on :
+    (d y f k s : ℕ) → d ≤ lastDay → y ≡ yearOf d → f ≡ newYear y → s ≡ sumOf (take k (months y)) → s ≤ d - f →
+    d - f < sumOf (take (k + 1) (months y)) → On (on y (k + 1) (d - f - s + 1)) ≡ dated d
+unfolding dated
+dated-on d y f k s h ey ef es l g =
+    rw (le-leb d lastDay h) (ap On (λ i. on (ey i) (month i) (d - f - s + 1)) ∙ ap On (sym (date-at d k (d - f - s) passed held)))
+  where
+    month : k + 1 ≡ 1 + k
+    month = omega arith
+
+    first : f ≡ newYear (yearOf d)
+    first = rw ey at ef
+
+    before : s ≡ sumOf (take k (months (yearOf d)))
+    before = rw ey at es
+
+    end : d - f < sumOf (take (suc k) (months (yearOf d)))
+    end = rw (ey, add-one) at g
+
+    passed : d - newYear (yearOf d) ≡ sumOf (take k (months (yearOf d))) + (d - f - s)
+    passed = omega (arith, first, before)
+
+    held : d - f - s < getD (months (yearOf d)) k 0
+    held = omega (arith, before, end, sum-take-suc (months (yearOf d)) k)
+
+module _ (d : ℕ) {y f : ℕ} (ey : y ≡ yearOf d) (ef : f ≡ newYear y) where
+  first : f ≡ newYear (yearOf d)
+  first = rw ey at ef
+
+  pub first-le : f ≤ d
+  first-le = omega (arith, first, in-its-year d)
+
+  pub year-over : d - f < sumOf (take 12 (months y))
+  year-over = rw ey (omega (arith, first, in-its-year d, next-year (yearOf d) (year-of-least d), days-of-year (yearOf d)))
+
+abbrev pub SameDay : ℕ → Date → Type 0
+SameDay d t = (isDate (t .year) (t .month) (t .day) ≡ true) × (dayNumber (t .year) (t .month) (t .day) ≡ d)
+
+-- from a day to its date and back
+pub day-date-day : (d : ℕ) → d ≤ lastDay → SameDay d (dateOf d)
+unfolding months dayNumber
+day-date-day d h = go (locate (months (yearOf d)) (d - newYear (yearOf d)) (year-over d refl refl))
+  where
+    go :
+        (k : ℕ) × (j : ℕ) × (d - newYear (yearOf d) ≡ sumOf (take k (months (yearOf d))) + j) ×
+        (j < getD (months (yearOf d)) k 0) → SameDay d (dateOf d)
+    go (k, j, e, b) =
+        let in-year = year-of-in d h in
+        let few = held-below (months (yearOf d)) k (omega arith) in
+        let over : 1 + k - 1 ≡ k = omega arith in
+        let real : Real (yearOf d) (1 + k) (j + 1) =
+          record {
+            first = in-year .0;
+            last = in-year .1;
+            least = omega arith;
+            most = omega arith;
+            begun = omega arith;
+            going = rw over (omega arith)
+          }
+        in
+        rw (date-at d k j e b)
+        (is-date (yearOf d) (1 + k) (j + 1) real, rw over (omega (arith, in-its-year d)))
+
+passed-in-year : (y m d : ℕ) → dayNumber y m d - newYear y ≡ sumOf (take (m - 1) (months y)) + (d - 1)
+unfolding dayNumber
+passed-in-year y m d = omega arith
+
+-- from a date to its day and back
+pub date-day-date :
+    (y m d : ℕ) → isDate y m d ≡ true → (dayNumber y m d ≤ lastDay) × (dateOf (dayNumber y m d) ≡ on y m d)
+unfolding dateOf
+date-day-date y m d h =
+    let r = date-is y m d h in
+    let b = date-in-year y m d r in
+    let month : 1 + (m - 1) ≡ m = omega arith in
+    let day : d - 1 + 1 ≡ d = omega arith in
+    let e = after-at y 1 (months y) (m - 1) (d - 1) (omega arith) in
+    (omega (arith, calendar-end y (r .last)),
+    rw (year-of-day y (dayNumber y m d) (r .first) (b .0) (b .1), passed-in-year y m d) (rw (month, day) at e))

@@ -1,0 +1,8 @@
+pub mod Years
+pub mod Months
+pub mod Dates
+pub mod EasterSum
+pub mod EasterDates
+pub mod Holidays
+pub mod Groups
+pub mod Calendar

@@ -1,0 +1,4 @@
+pub mod Bools
+pub mod Below
+pub mod Members
+pub mod Sums
