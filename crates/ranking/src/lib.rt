@@ -1,2 +1,57 @@
 // Days by rank, as falling words: 64 times a day's sum over the event and its nearness to it, so that one comparison of two words is
 // document 01's order, the tie rule included. The word 0 is no day.
+ghost use mathlib.Core.Path.{_≡_};
+ghost use Prim.Native.Nat.{_+_, _*_, _%_};
+ghost use lib.ListN.{take};
+ghost use Rattle.ranking.specs.Words.{insertDown, insertAll};
+
+// The word of a day.
+pub fn word(sum: u32, nearness: u32) -> u64
+    ensures { λ r. ⌜ r ≡ 64 * sum + nearness ⌝ }
+{
+    64 * (sum as u64) + (nearness as u64)
+}
+
+// A day's nearness, out of its word.
+pub fn nearness_of(word: u64) -> u32
+    ensures { λ r. ⌜ r ≡ word % 64 ⌝ }
+{
+    (word % 64) as u32
+}
+
+// A word put before the first of the row that is smaller; the last of eleven is lost.
+pub fn insert(row: [u64; 10], word: u64) -> [u64; 10]
+    ensures { λ r. ⌜ r ≡ take 10 (insertDown word row) ⌝ }
+{
+    let mut out = row;
+    let mut carry = word;
+    let mut placed = false;
+    let mut i = 0;
+    while i < 10 {
+        let here = out[i];
+        if placed | (here < carry) {
+            out[i] = carry;
+            carry = here;
+            placed = true;
+        }
+        i += 1;
+    }
+    out
+}
+
+// The first `count` of the words, put into the row one after the other.
+pub fn insert_all(words: [u64; 10], count: usize, row: [u64; 10]) -> [u64; 10]
+    ensures { λ r. ⌜ r ≡ insertAll (take count words) row ⌝ }
+{
+    let mut kept = row;
+    let mut i = 0;
+    while i < 10 {
+        if count <= i {
+            return kept;
+        }
+        let next = insert(kept, words[i]);
+        kept = next;
+        i += 1;
+    }
+    kept
+}
