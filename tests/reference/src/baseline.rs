@@ -1,0 +1,106 @@
+//! Adjustment, baseline and the whole call (01, "Adjustment and baseline").
+
+use crate::choice::choose;
+use crate::refusal::Refusal;
+use crate::table::{check_request, check_table, Request, View, MISSING, QUARTERS};
+use std::ops::Range;
+
+/// Ruler quarters in an adjustment window.
+pub const ADJUSTMENT: u32 = 12;
+
+/// What an event is answered.
+#[derive(Clone, PartialEq, Eq, Debug)]
+pub struct Answer {
+    /// The chosen days in rank order.
+    pub days: Vec<u32>,
+    pub reach: u32,
+    /// 12N: 60 or 24.
+    pub denominator: u32,
+    /// N·A - B, over the denominator.
+    pub adjustment: i64,
+    /// One for each quarter of the event, over the denominator.
+    pub numerators: Vec<u32>,
+}
+
+/// The reading at a ruler quarter: day D-1 is 0 to 95, day D is 96 to 191.
+/// None if the day is not held or the reading is missing.
+fn ruler_reading(view: View, d: u32, t: u32) -> Option<u32> {
+    let (day, quarter) = if t < 96 {
+        (d.checked_sub(1)?, t)
+    } else {
+        (d, t - 96)
+    };
+    let reading = view.day(day)?[quarter as usize];
+    (reading != MISSING).then_some(reading)
+}
+
+fn all_present(view: View, d: u32, quarters: Range<u32>) -> bool {
+    quarters
+        .into_iter()
+        .all(|t| ruler_reading(view, d, t).is_some())
+}
+
+/// The twelve ruler quarters that end at `end`, if there are twelve and all
+/// their readings are present.
+fn twelve_ending_at(view: View, d: u32, end: u32) -> Option<Range<u32>> {
+    let twelve = end.checked_sub(ADJUSTMENT)?..end;
+    all_present(view, d, twelve.clone()).then_some(twelve)
+}
+
+/// The twelve quarters ending at n; otherwise (desk rule) the latest twelve
+/// that end at or before s.
+pub fn adjustment_window(view: View, request: &Request) -> Option<Range<u32>> {
+    let ending_at = |end| twelve_ending_at(view, request.d, end);
+    ending_at(request.n).or_else(|| (0..=request.s).rev().find_map(ending_at))
+}
+
+/// S(t): the sum, over the chosen days, of the reading at quarter t mod 96.
+pub fn chosen_sum(view: View, days: &[u32], t: u32) -> i64 {
+    let quarter = t as usize % QUARTERS;
+    days.iter()
+        .map(|&day| i64::from(view.day(day).expect("a held day")[quarter]))
+        .sum()
+}
+
+/// N·A - B.
+pub fn adjustment_numerator(n: i64, a: i64, b: i64) -> i64 {
+    n * a - b
+}
+
+/// max(0, 12·S + N·A - B).
+pub fn baseline_numerator(n: i64, s: i64, a: i64, b: i64) -> i64 {
+    (12 * s + adjustment_numerator(n, a, b)).max(0)
+}
+
+/// A and B of an adjustment window.
+fn window_sums(view: View, d: u32, days: &[u32], twelve: Range<u32>) -> (i64, i64) {
+    let a = twelve
+        .clone()
+        .map(|t| i64::from(ruler_reading(view, d, t).expect("a present reading")))
+        .sum();
+    let b = twelve.map(|t| chosen_sum(view, days, t)).sum();
+    (a, b)
+}
+
+/// The call: an answer or one refusal, 1 to 10 in order. `room` is the number
+/// of output quarters.
+pub fn verdict(view: View, request: &Request, room: usize) -> Result<Answer, Refusal> {
+    check_table(view)?;
+    check_request(view, request, room)?;
+    let choice = choose(view, request)?;
+    let reach = u64::from(choice.reach);
+    let twelve = adjustment_window(view, request).ok_or(Refusal::NoAdjustment { reach })?;
+    let (a, b) = window_sums(view, request.d, &choice.days, twelve);
+    let n = choice.days.len() as i64;
+    let numerators = (request.s..request.e)
+        .map(|t| baseline_numerator(n, chosen_sum(view, &choice.days, t), a, b))
+        .map(|numerator| u32::try_from(numerator).expect("never above 1,200,000,000"))
+        .collect();
+    Ok(Answer {
+        reach: choice.reach,
+        denominator: 12 * choice.days.len() as u32,
+        adjustment: adjustment_numerator(n, a, b),
+        numerators,
+        days: choice.days,
+    })
+}

@@ -1,0 +1,153 @@
+//! Choosing the days (01, "Choosing the days"). The table and the request have
+//! passed refusals 1 to 7.
+
+use crate::calendar::{group_of, Group};
+use crate::refusal::Refusal;
+use crate::table::{Request, View, EVENT, MISSING, OUTAGE};
+use std::cmp::Reverse;
+
+/// Days in the look-back.
+pub const LOOK_BACK: u32 = 45;
+
+/// What the choice of days gives.
+#[derive(Clone, PartialEq, Eq, Debug)]
+pub struct Choice {
+    /// The window; its order says nothing.
+    pub window: Vec<u32>,
+    /// The chosen days in rank order.
+    pub days: Vec<u32>,
+    pub reach: u32,
+}
+
+/// Y and N: 10 and 5 for a weekday, 3 and 2 otherwise.
+pub fn sizes(d: u32) -> (usize, usize) {
+    match group_of(d) {
+        Some(Group::Weekday) => (10, 5),
+        _ => (3, 2),
+    }
+}
+
+/// The relevant days, the nearest to D first, held or not.
+pub fn relevant_days(request: &Request) -> Vec<u32> {
+    let Request { p, d, .. } = *request;
+    let group = group_of(d);
+    let skips_eve = group == Some(Group::Weekday);
+    (1..=LOOK_BACK)
+        .filter_map(|back| d.checked_sub(back))
+        .filter(|&day| day >= p)
+        .filter(|&day| group_of(day) == group)
+        .filter(|&day| !(skips_eve && day + 1 == d))
+        .collect()
+}
+
+/// Held, and none of the 96 readings missing (desk rule).
+fn is_complete(view: View, day: u32) -> bool {
+    match view.day(day) {
+        Some(readings) => !readings.contains(&MISSING),
+        None => false,
+    }
+}
+
+/// The relevant, complete days, the nearest first.
+fn complete_days(view: View, request: &Request) -> Vec<u32> {
+    let mut days = relevant_days(request);
+    days.retain(|&day| is_complete(view, day));
+    days
+}
+
+fn has_bit(view: View, day: u32, bit: u8) -> bool {
+    view.mark(day).is_some_and(|mark| mark & bit != 0)
+}
+
+/// The eligible days, the nearest first: relevant, complete, both bits clear.
+pub fn eligible_days(view: View, request: &Request) -> Vec<u32> {
+    let mut days = complete_days(view, request);
+    days.retain(|&day| !has_bit(view, day, EVENT) && !has_bit(view, day, OUTAGE));
+    days
+}
+
+/// The spare days: relevant, complete, bit 0 set and bit 1 clear.
+pub fn spare_days(view: View, request: &Request) -> Vec<u32> {
+    let mut days = complete_days(view, request);
+    days.retain(|&day| has_bit(view, day, EVENT) && !has_bit(view, day, OUTAGE));
+    days
+}
+
+/// The sum of a held day's readings over the event's own quarters.
+pub fn event_sum(view: View, request: &Request, day: u32) -> u64 {
+    let readings = view.day(day).expect("a held day");
+    readings[request.event_quarters()]
+        .iter()
+        .map(|&reading| u64::from(reading))
+        .sum()
+}
+
+/// Highest first; equal sums put the day nearer D first (003, section 6).
+pub fn ranked(view: View, request: &Request, mut days: Vec<u32>) -> Vec<u32> {
+    days.sort_by_key(|&day| (Reverse(event_sum(view, request, day)), Reverse(day)));
+    days
+}
+
+/// The window: the Y most recent eligible days, or all of them, filled up to N
+/// with the highest spare days.
+pub fn window(view: View, request: &Request) -> Vec<u32> {
+    let (y, n) = sizes(request.d);
+    let mut window = eligible_days(view, request);
+    window.truncate(y);
+    if window.len() < n {
+        let spare = ranked(view, request, spare_days(view, request));
+        window.extend(spare.into_iter().take(n - window.len()));
+    }
+    window
+}
+
+/// D minus the oldest relevant day, or 0 if none is relevant.
+fn relevant_reach(request: &Request) -> u32 {
+    match relevant_days(request).last() {
+        Some(oldest) => request.d - oldest,
+        None => 0,
+    }
+}
+
+/// D minus the window's oldest day if it holds Y days; otherwise D minus the
+/// oldest relevant day, or 0.
+pub fn reach(request: &Request, window: &[u32]) -> u32 {
+    let (y, _) = sizes(request.d);
+    match window.iter().min() {
+        Some(oldest) if window.len() == y => request.d - oldest,
+        _ => relevant_reach(request),
+    }
+}
+
+/// Refusal 8: eligible held days below Y and a relevant day before F.
+pub fn check_margin(view: View, request: &Request) -> Result<(), Refusal> {
+    let (y, _) = sizes(request.d);
+    let few = eligible_days(view, request).len() < y;
+    let cut = relevant_days(request).iter().any(|&day| day < view.first);
+    if few && cut {
+        let days = u64::from(relevant_reach(request));
+        return Err(Refusal::Margin { days });
+    }
+    Ok(())
+}
+
+/// Refusals 8 and 9, or the window, the first N of its ranking and the reach.
+pub fn choose(view: View, request: &Request) -> Result<Choice, Refusal> {
+    check_margin(view, request)?;
+    let (_, n) = sizes(request.d);
+    let window = window(view, request);
+    let reach = reach(request, &window);
+    if window.len() < n {
+        return Err(Refusal::TooFew {
+            size: window.len() as u64,
+            reach: u64::from(reach),
+        });
+    }
+    let mut days = ranked(view, request, window.clone());
+    days.truncate(n);
+    Ok(Choice {
+        window,
+        days,
+        reach,
+    })
+}

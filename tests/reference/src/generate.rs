@@ -1,0 +1,9 @@
+//! Generated calls and record files. The same seed gives the same case on
+//! every machine; consecutive seeds give unrelated cases.
+
+mod calls;
+mod files;
+mod source;
+
+pub use calls::gen_call;
+pub use files::{gen_cuts, gen_file};

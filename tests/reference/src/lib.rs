@@ -1,0 +1,20 @@
+//! Document 01 worked a second time, from its text alone, slowly and plainly.
+//!
+//! Nothing here is meant to be fast. Each function follows one clause of
+//! document 01 and names it, so that the two can be laid side by side.
+
+pub mod baseline;
+pub mod calendar;
+pub mod choice;
+pub mod generate;
+pub mod listing;
+pub mod record;
+pub mod refusal;
+pub mod table;
+
+pub use baseline::{verdict, Answer};
+pub use generate::{gen_call, gen_cuts, gen_file};
+pub use listing::listing;
+pub use record::host;
+pub use refusal::Refusal;
+pub use table::{day_part, Request, Table, View};

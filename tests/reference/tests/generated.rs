@@ -1,0 +1,59 @@
+//! The generator: the same seed gives the same case, every refusal and every
+//! kind of answer comes up, and no case stops the call.
+
+use reference::record::read;
+use reference::{gen_call, gen_file, host, listing, verdict};
+
+#[test]
+fn seeds_are_kept() {
+    for seed in 0..500 {
+        assert_eq!(gen_call(seed), gen_call(seed));
+        assert_eq!(gen_file(seed), gen_file(seed));
+    }
+    assert_ne!(gen_call(1), gen_call(2));
+}
+
+#[test]
+fn calls_reach_every_outcome() {
+    let mut outcomes = [0; 11];
+    let (mut floored, mut falling, mut weekdays) = (0, 0, 0);
+    for seed in 0..40_000 {
+        let (table, request, room) = gen_call(seed);
+        match verdict(table.view(), &request, room) {
+            Ok(answer) => {
+                outcomes[0] += 1;
+                floored += u32::from(answer.numerators.contains(&0));
+                falling += u32::from(answer.adjustment < 0);
+                weekdays += u32::from(answer.denominator == 60);
+            }
+            Err(refusal) => outcomes[refusal.number() as usize] += 1,
+        }
+    }
+    println!("outcomes {outcomes:?}, floored {floored}, falling {falling}, weekdays {weekdays}");
+    assert!(outcomes.iter().all(|&count| count > 200));
+    assert!([floored, falling, weekdays]
+        .iter()
+        .all(|&count| count > 200));
+}
+
+#[test]
+fn files_reach_every_outcome() {
+    let mut outcomes = [0; 13];
+    let (mut refused, mut most) = (0, 0);
+    for seed in 0..8_000 {
+        let file = gen_file(seed);
+        let lines = listing(&file);
+        assert_eq!(lines.last(), Some(&b'\n'));
+        refused += u32::from(lines.starts_with(b"file refused "));
+        let events = read(&file).map_or(0, |contents| contents.events.len());
+        most = most.max(events);
+        for place in 0..=events {
+            let mut out = [0; 4 * 96];
+            let room = if seed % 4 == 0 { 4 * 12 } else { out.len() };
+            outcomes[host(&file, place, &mut out[..room]) as usize] += 1;
+        }
+    }
+    println!("outcomes {outcomes:?}, refused files {refused}");
+    assert!(outcomes.iter().all(|&count| count > 50));
+    assert_eq!(most, 64);
+}
