@@ -1,0 +1,5 @@
+pub mod Falling
+pub mod Seen
+pub mod Window
+pub mod Short
+pub mod Cut
