@@ -1,5 +1,7 @@
 pub mod Falling
+pub mod LookBack
 pub mod Seen
 pub mod Window
 pub mod Short
 pub mod Cut
+pub mod HighXofY
