@@ -5,3 +5,4 @@ pub mod Window
 pub mod Short
 pub mod Cut
 pub mod HighXofY
+pub mod Tables
