@@ -6,3 +6,5 @@ pub mod Short
 pub mod Cut
 pub mod HighXofY
 pub mod Tables
+pub mod Replies
+pub mod Demand3

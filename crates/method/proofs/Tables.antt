@@ -13,10 +13,11 @@ use borrow.Author.Tests.{eqb-true, eqb-false, eq-eqb, ne-eqb, leb-true, le-leb, 
 use Rattle.lists.specs.Lists.{all}
 use Rattle.lists.proofs.Keep.{and-left, and-right, all-append, all-replicate, all-take, all-drop}
 use Rattle.calendar.specs.Days.{lastDay}
+use Rattle.method.specs.declared.Request.{Request}
 use Rattle.method.specs.Table.{Table, Day, heldDays, size, offset, dayOf, goodMark, goodReading, held, history, shaped}
 use Rattle.method.specs.Verdict.{wellFormed}
-use Rattle.method.specs.Demands.{Longer}
-use Rattle.method.proofs.Seen.{Extends, held-first, held-last}
+use Rattle.method.specs.Demands.{Longer, Part, heldBefore}
+use Rattle.method.proofs.Seen.{Extends, held-first, held-last, is-held}
 
 -- the readings before the (k + j)-th day: those of `k` days, and those of the `j` days after them
 pub offset-add : (f k j : ℕ) → offset f (k + j) ≡ offset f k + offset (f + k) j
@@ -136,6 +137,28 @@ module _ (k : ℕ) (t : Table) where
       w = formed-is t e
       split : k + (heldDays t - k) ≡ heldDays t
       split = omega arith
+
+-- the table cut so that `k` days stand before the event
+abbrev pub cutTo : Table → Request → ℕ → Table
+cutTo t r k = without (heldBefore t r - k) t
+
+module _ (t : Table) (r : Request) (well : wellFormed t ≡ true) (holds : held (history t) (r .event) ≡ true) (k : ℕ) (before : k ≤ heldBefore t r) where
+  pub cut-before : heldBefore (cutTo t r k) r ≡ k
+  unfolding without
+  cut-before = omega (arith, held-first (history t) (r .event) holds)
+
+  pub cut-part : Part (cutTo t r k) t r
+  unfolding without
+  cut-part =
+      record {
+        formed = without-formed (heldBefore t r - k) t fits well;
+        longer = without-longer (heldBefore t r - k) t (omega (arith, fits));
+        holds = is-held (history (cutTo t r k)) (r .event) (omega (arith, held-first (history t) (r .event) holds))
+            (omega (arith, without-days (heldBefore t r - k) t, held-first (history t) (r .event) holds, held-last (history t) (r .event) holds));
+      }
+    where
+      fits : heldBefore t r - k < heldDays t
+      fits = omega (arith, held-first (history t) (r .event) holds, held-last (history t) (r .event) holds)
 
 -- the table with `k` days before it, all marked `m` and with zero for every reading
 unfoldable pub padded : ℕ → ℕ → Table → Table
