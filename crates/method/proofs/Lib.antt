@@ -8,3 +8,5 @@ pub mod HighXofY
 pub mod Tables
 pub mod Replies
 pub mod Demand3
+pub mod Extract
+pub mod NoPart

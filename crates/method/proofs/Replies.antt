@@ -45,17 +45,16 @@ none-early (t ∷ ts) x e = go (t .0) e (none-early ts x)
     go true e ih = absurd (clash refl e)
     go false e ih = ih e
 
-abbrev other : Bool × Refusal → Bool
-other p = not (eqb (number (p .1)) 8)
-
-early-margin : (rs : List (Bool × Refusal)) (x : Reply) → all other rs ≡ true → any test rs ≡ true → isMargin (firstOf rs x) ≡ false
+-- a reply that none of the refusals is
+early-other : (q : Reply → Bool) (rs : List (Bool × Refusal)) (x : Reply) → all (λ (p : Bool × Refusal). not (q (refused (p .1)))) rs ≡ true
+    → any test rs ≡ true → q (firstOf rs x) ≡ false
 unfolding any all firstOf
-early-margin [] x o e = absurd (clash e refl)
-early-margin (t ∷ ts) x o e = go (t .0) e (early-margin ts x (and-right (other t) (all other ts) o))
+early-other q [] x o e = absurd (clash e refl)
+early-other q (t ∷ ts) x o e = go (t .0) e (early-other q ts x (and-right (not (q (refused (t .1)))) (all (λ (p : Bool × Refusal). not (q (refused (p .1)))) ts) o))
   where
-    go : (b : Bool) → (b || any test ts) ≡ true → (any test ts ≡ true → isMargin (firstOf ts x) ≡ false)
-        → isMargin (cond b (refused (t .1)) (firstOf ts x)) ≡ false
-    go true e ih = not-true (eqb (number (t .1)) 8) (and-left (other t) (all other ts) o)
+    go : (b : Bool) → (b || any test ts) ≡ true → (any test ts ≡ true → q (firstOf ts x) ≡ false)
+        → q (cond b (refused (t .1)) (firstOf ts x)) ≡ false
+    go true e ih = not-true (q (refused (t .1))) (and-left (not (q (refused (t .1)))) (all (λ (p : Bool × Refusal). not (q (refused (p .1)))) ts) o)
     go false e ih = ih e
 
 -- what the choice of days ends in is the margin's refusal exactly where the margin is too short
@@ -93,9 +92,14 @@ module _ (group : ℕ → Group) (t : Table) (r : Request) (room : ℕ) where
   unfolding methodology
   plain n = none-early (requestRefusals t r room) (closing (outcome (highXofY group r) (history t))) n
 
+  pub hidden-other : (q : Reply → Bool) → all (λ (p : Bool × Refusal). not (q (refused (p .1)))) (requestRefusals t r room) ≡ true
+      → Earlier t r room → q (methodology group t r room) ≡ false
+  unfolding methodology
+  hidden-other q o e = early-other q (requestRefusals t r room) (closing (outcome (highXofY group r) (history t))) o e
+
   pub hidden : Earlier t r room → isMargin (methodology group t r room) ≡ false
-  unfolding methodology requestRefusals
-  hidden e = early-margin (requestRefusals t r room) (closing (outcome (highXofY group r) (history t))) (unfold all in refl) e
+  unfolding requestRefusals
+  hidden e = hidden-other isMargin (unfold all in refl) e
 
   pub margin-is : NoneEarlier t r room → isMargin (methodology group t r room) ≡ isShort (highXofY group r) (history t)
   margin-is n = rw (plain n) (closing-margin (highXofY group r) (history t))
