@@ -6,6 +6,7 @@ use mathlib.Core.List.{List, [], _∷_, _++_, map, map-append}
 use Prim.Native.Nat.{ℕ, zero, suc, _+_, _≤_, _<_, min}
 use native.Mathlib.Omega.{arith}
 use lib.ListN.{length, take, drop, replicate}
+use lib.Seq.{take-take}
 use lib.Dec.{eqb}
 use borrow.Author.Tests.{eq-eqb, eqb-true}
 use Rattle.lists.specs.Lists.{keep, all, any, member, leastOf}
@@ -242,3 +243,10 @@ module _ {A : Type 0} (p : A → Bool) where
   all-drop zero xs h = h
   all-drop (suc n) [] h = refl
   all-drop (suc n) (x ∷ xs) h = all-drop n xs (and-right (p x) (all p xs) h)
+
+-- what lies within the first `s` is seen in them
+pub take-drop-take : {A : Type 0} (n k s : ℕ) (xs : List A) → k + n ≤ s → take n (drop k (take s xs)) ≡ take n (drop k xs)
+take-drop-take n zero s xs h = take-take n s xs (omega arith)
+take-drop-take n (suc k) zero xs h = absurd (omega arith)
+take-drop-take n (suc k) (suc s) [] h = refl
+take-drop-take n (suc k) (suc s) (x ∷ xs) h = take-drop-take n k s xs (omega arith)

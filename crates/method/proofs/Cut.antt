@@ -13,28 +13,47 @@ use Rattle.lists.specs.Lists.{keep, any, member, leastOf}
 use Rattle.lists.proofs.Keep.{bool-cases, clash, and-left, and-right, and-cases, member-head, keep-append, keep-none, any-none, any-false}
 use Rattle.lists.proofs.Keep.{leastOf-top, leastOf-member, leastOf-from, member-map-reach, member-map-keep, member-map-append}
 use Rattle.method.specs.Table.{History, held}
-use Rattle.method.specs.Method.{Method, Outcome, few, chose, dated, seen, eligibles, spares, window, chosen, reach, wholeReach, isShort, outcome}
+use Rattle.method.specs.Method.{Method, Outcome, short, few, chose, dated, seen, eligibles, spares, window, chosen, reach, wholeReach, isShort, outcome}
 use Rattle.method.specs.Lawful.{Lawful}
 use Rattle.method.proofs.Falling.{until}
 use Rattle.method.proofs.Seen.{Extends, earlier, earlier-below, earlier-member, earlier-every, earlier-none, seen-held, seen-before, window-seen, seen-longer, held-first, held-last, is-held}
 use Rattle.method.proofs.Short.{Full, Whole, full-enough, whole-enough, enough-cases, short-few, short-day, whole-reach, reach-whole}
 use Rattle.method.proofs.Window.{window-full, full-size, size-below}
 
-window-of-seen : {A O : Type 0} (m : Method A O) (h l : History A) → seen m l ≡ seen m h → window m l ≡ window m h
+pub window-of-seen : {A O : Type 0} (m : Method A O) (h l : History A) → seen m l ≡ seen m h → window m l ≡ window m h
 unfolding window eligibles spares
 window-of-seen m h l e = rw (e, spares)
 
 module _ {A O : Type 0} (m : Method A O) (law : Lawful m) (h : History A) (holds : held h (m .event) ≡ true) where
-  -- where days are chosen, the day before the event is held
-  pub yesterday-held : eqb (m .taken (length (window m h))) 0 ≡ false → held h (m .event - 1) ≡ true
+  -- where days are chosen, there is a day before the event and it is held
+  pub yesterday-held : eqb (m .taken (length (window m h))) 0 ≡ false → (0 < m .event) × (held h (m .event - 1) ≡ true)
   yesterday-held e = go (window m h) refl
     where
-      go : (w : List (ℕ × A)) → window m h ≡ w → held h (m .event - 1) ≡ true
+      go : (w : List (ℕ × A)) → window m h ≡ w → (0 < m .event) × (held h (m .event - 1) ≡ true)
       go [] q = absurd (clash (eq-eqb (m .taken 0) 0 (law .needs)) (rw q at e))
       go (p ∷ ps) q =
           let s : member (p .0) (dated (seen m h)) ≡ true = window-seen m law h (p .0) (rw q (member-head (p .0) (dated ps))) in
-          is-held h (m .event - 1) (omega (arith, held-first h (p .0) (seen-held m law h (p .0) s), seen-before m law h (p .0) s))
-          (omega (arith, held-last h (m .event) holds))
+          let before : p .0 < m .event = seen-before m law h (p .0) s in
+          let first : h .first ≤ p .0 = held-first h (p .0) (seen-held m law h (p .0) s) in
+          (omega arith, is-held h (m .event - 1) (omega arith) (omega (arith, held-last h (m .event) holds)))
+
+  -- the outcome is what margin, window and finish make it
+  pub outcome-same : (l : History A) → isShort m l ≡ isShort m h → window m l ≡ window m h
+      → ((days : List (ℕ × A)) → 0 < m .event → held h (m .event - 1) ≡ true
+          → m .finish days (l .day (m .event - 1)) (l .day (m .event)) ≡ m .finish days (h .day (m .event - 1)) (h .day (m .event)))
+      → outcome m l ≡ outcome m h
+  unfolding outcome chosen reach
+  outcome-same l margin windows finish = rw (margin, windows) (ap ending (go (eqb (m .taken (length (window m h))) 0) refl))
+    where
+      ending : Outcome O → Outcome O
+      ending o = cond (isShort m h) (short (wholeReach m)) o
+      days : O → Outcome O
+      days o = chose (dated (chosen m h)) (reach m h) o
+      go : (b : Bool) → eqb (m .taken (length (window m h))) 0 ≡ b
+          → cond b (few (length (window m h)) (reach m h)) (days (m .finish (chosen m h) (l .day (m .event - 1)) (l .day (m .event))))
+              ≡ cond b (few (length (window m h)) (reach m h)) (days (m .finish (chosen m h) (h .day (m .event - 1)) (h .day (m .event))))
+      go true e = refl
+      go false e = ap days (finish (chosen m h) (yesterday-held e .0) (yesterday-held e .1))
 
   -- the reach lies within the days that are held
   pub reach-held : isShort m h ≡ false → reach m h ≤ m .event - h .first
@@ -94,17 +113,9 @@ module _ {A O : Type 0} (m : Method A O) (law : Lawful m) (h l : History A) (x :
     same-reach = rw same-window
 
     pub same-outcome : outcome m l ≡ outcome m h
-    unfolding outcome chosen
     same-outcome =
-        rw (still-enough, enough, same-reach, same-window, x .agrees (m .event) holds) (go (eqb (m .taken (length (window m h))) 0) refl)
-      where
-        ending : A → Outcome O
-        ending a = chose (dated (chosen m h)) (reach m h) (m .finish (chosen m h) a (h .day (m .event)))
-        go : (b : Bool) → eqb (m .taken (length (window m h))) 0 ≡ b
-            → cond b (few (length (window m h)) (reach m h)) (ending (l .day (m .event - 1)))
-                ≡ cond b (few (length (window m h)) (reach m h)) (ending (h .day (m .event - 1)))
-        go true e = refl
-        go false e = ap ending (x .agrees (m .event - 1) (yesterday-held m law h holds e))
+        outcome-same m law h holds l (still-enough ∙ sym enough) same-window
+        (λ days _ e. rw (x .agrees (m .event - 1) e, x .agrees (m .event) holds))
 
   -- with fewer than Y eligible days in `h`, the first eligible day below it comes into the window of `l`
   late-in : length (eligibles m h) < m .most → (y : ℕ × A) (ys : List (ℕ × A)) → late ≡ y ∷ ys
@@ -153,7 +164,7 @@ module _ {A O : Type 0} (m : Method A O) (law : Lawful m) (h l : History A) (x :
       → (k : ℕ) → member k (m .relevant) ≡ true → k < h .first → l .first ≤ k
       → (d : ℕ) × (d < h .first) × (member d (dated (window m l)) ≡ true)
   unfolding late
-  comes-in short every k r b f = go late refl
+  comes-in too-short every k r b f = go late refl
     where
       all : late ≡ earlier m h l
       all = earlier-every m h l (m .eligible) every
@@ -161,7 +172,7 @@ module _ {A O : Type 0} (m : Method A O) (law : Lawful m) (h l : History A) (x :
       is = rw all (earlier-member m h l k r (is-held l k f (omega (arith, x .ends, law .before k r, held-last h (m .event) holds))) b)
       go : (ys : List (ℕ × A)) → late ≡ ys → (d : ℕ) × (d < h .first) × (member d (dated (window m l)) ≡ true)
       go [] q = absurd (clash (rw q at is) (unfold member in refl))
-      go (y ∷ ys) q = let i = late-in (short-few m h short) y ys q in (y .0, i .0, i .1)
+      go (y ∷ ys) q = let i = late-in (short-few m h too-short) y ys q in (y .0, i .0, i .1)
 
   pub stays : ((d : ℕ) → l .first ≤ d → d < h .first → m .eligible (l .day d) ≡ false)
       → ((d : ℕ) → l .first ≤ d → d < h .first → m .spare (l .day d) ≡ false) → window m l ≡ window m h

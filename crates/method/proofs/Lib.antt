@@ -4,6 +4,7 @@ pub mod Seen
 pub mod Window
 pub mod Short
 pub mod Cut
+pub mod Before
 pub mod HighXofY
 pub mod Tables
 pub mod Replies

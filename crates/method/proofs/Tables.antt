@@ -1,12 +1,12 @@
 -- Laws of tables: where a day's readings stand, a table without its first days, and a table with days put before it.
--- Only `offset-is` looks into how many readings a day has.
+-- Only `size-is` and `offset-is` look into how many readings a day has.
 use mathlib.Core.Path.{_≡_, refl, sym, ap, _∙_}
 use mathlib.Core.Bool.{Bool, true, false, not, _&&_}
 use mathlib.Core.List.{List, _++_}
 use Prim.Native.Nat.{ℕ, zero, suc, _+_, _-_, _*_, _≤_, _<_}
 use native.Mathlib.Omega.{arith}
 use native.Mathlib.Nat.{zero-add, suc-add, add-zero}
-use lib.ListN.{length, getD, take, drop, replicate, length-append, length-replicate, length-drop, getD-replicate, List·getD-append}
+use lib.ListN.{length, getD, take, drop, replicate, length-append, length-replicate, length-take, length-drop, getD-replicate, List·getD-append}
 use lib.Seq.{drop-at, drop-drop, getD-drop, take-append-le, drop-append-le}
 use lib.Dec.{leb, eqb}
 use borrow.Author.Tests.{eqb-true, eqb-false, eq-eqb, ne-eqb, leb-true, le-leb, not-true}
@@ -41,7 +41,11 @@ offset-within f k d e g =
     back : f + (d - f) ≡ d
     back = omega arith
 
--- "96 readings a day"
+-- "A dispatch day .. has 96 quarters"
+pub size-is : (d : ℕ) → size d ≡ 96
+unfolding size
+size-is d = refl
+
 pub offset-is : (f k : ℕ) → offset f k ≡ 96 * k
 unfolding offset size
 offset-is f zero = refl
@@ -86,6 +90,13 @@ formed-is t e =
     shape = and-left (shaped t) marks (and-left (shaped t && marks) readings e)
     both : (some && sized) ≡ true
     both = and-left (some && sized) inside shape
+
+-- of a held day all readings are there
+pub day-size : (t : Table) → wellFormed t ≡ true → (d : ℕ) → held (history t) d ≡ true → length (dayOf t d .readings) ≡ size d
+unfolding dayOf
+day-size t e d h =
+    rw (length-take, length-drop, formed-is t e .fits)
+    (omega (arith, offset-within (t .first) (heldDays t) d (held-first (history t) d h) (held-last (history t) d h)))
 
 -- a longer table's history holds what the table's holds
 pub longer-extends : {l t : Table} → Longer l t → Extends (history l) (history t)
