@@ -32,7 +32,7 @@ module _ {A O : Type 0} (m : Method A O) (law : Lawful m) (h l : History A)
   margin-same = rw (seen-same, starts)
 
   pub before-same : ((days : List (ℕ × A)) → held h (m .event - 1) ≡ true
-          → m .finish days (h .day (m .event - 1)) (l .day (m .event)) ≡ m .finish days (h .day (m .event - 1)) (h .day (m .event)))
+      → m .finish days (h .day (m .event - 1)) (l .day (m .event)) ≡ m .finish days (h .day (m .event - 1)) (h .day (m .event)))
       → outcome m l ≡ outcome m h
   before-same finish =
       outcome-same m law h holds l margin-same (window-of-seen m h l seen-same)

@@ -40,18 +40,20 @@ module _ {A O : Type 0} (m : Method A O) (law : Lawful m) (h : History A) (holds
   -- the outcome is what margin, window and finish make it
   pub outcome-same : (l : History A) → isShort m l ≡ isShort m h → window m l ≡ window m h
       → ((days : List (ℕ × A)) → 0 < m .event → held h (m .event - 1) ≡ true
-          → m .finish days (l .day (m .event - 1)) (l .day (m .event)) ≡ m .finish days (h .day (m .event - 1)) (h .day (m .event)))
+      → m .finish days (l .day (m .event - 1)) (l .day (m .event)) ≡ m .finish days (h .day (m .event - 1)) (h .day (m .event)))
       → outcome m l ≡ outcome m h
   unfolding outcome chosen reach
   outcome-same l margin windows finish = rw (margin, windows) (ap ending (go (eqb (m .taken (length (window m h))) 0) refl))
     where
       ending : Outcome O → Outcome O
       ending o = cond (isShort m h) (short (wholeReach m)) o
+
       days : O → Outcome O
       days o = chose (dated (chosen m h)) (reach m h) o
+
       go : (b : Bool) → eqb (m .taken (length (window m h))) 0 ≡ b
           → cond b (few (length (window m h)) (reach m h)) (days (m .finish (chosen m h) (l .day (m .event - 1)) (l .day (m .event))))
-              ≡ cond b (few (length (window m h)) (reach m h)) (days (m .finish (chosen m h) (h .day (m .event - 1)) (h .day (m .event))))
+          ≡ cond b (few (length (window m h)) (reach m h)) (days (m .finish (chosen m h) (h .day (m .event - 1)) (h .day (m .event))))
       go true e = refl
       go false e = ap days (finish (chosen m h) (yesterday-held e .0) (yesterday-held e .1))
 
@@ -62,8 +64,10 @@ module _ {A O : Type 0} (m : Method A O) (law : Lawful m) (h : History A) (holds
     where
       first : h .first ≤ m .event
       first = held-first h (m .event) holds
+
       from-first : (d : ℕ) → member d (dated (window m h)) ≡ true → h .first ≤ d
       from-first d k = held-first h d (seen-held m law h d (window-seen m law h d k))
+
       go : (b : Bool) → eqb (length (window m h)) (m .most) ≡ b
           → cond b (m .event - leastOf (m .event) (dated (window m h))) (wholeReach m) ≤ m .event - h .first
       go true e = omega (arith, leastOf-from (m .event) (dated (window m h)) (h .first) first from-first)
@@ -97,6 +101,7 @@ module _ {A O : Type 0} (m : Method A O) (law : Lawful m) (h l : History A) (x :
         full f =
             let g : Full m l = rw eligibles-longer (simp length-append (omega arith)) in
             rw (window-full m law l g, window-full m law h f, eligibles-longer) (take-append-le (m .most) (eligibles m h) late f)
+
         whole : Whole m h → window m l ≡ window m h
         whole w = window-of-seen m h l (seen-all w)
 
@@ -105,6 +110,7 @@ module _ {A O : Type 0} (m : Method A O) (law : Lawful m) (h l : History A) (x :
       where
         full : Full m h → isShort m l ≡ false
         full f = full-enough m l (rw eligibles-longer (simp length-append (omega arith)))
+
         whole : Whole m h → isShort m l ≡ false
         whole w = whole-enough m l (λ d k. omega (arith, w d k, x .starts))
 
@@ -125,10 +131,12 @@ module _ {A O : Type 0} (m : Method A O) (law : Lawful m) (h l : History A) (x :
     where
       day : ℕ × A → ℕ
       day p = p .0
+
       below : y .0 < h .first
       below =
           earlier-below m h l (y .0)
           (member-map-keep (λ (p : ℕ × A). m .eligible (p .1)) day (earlier m h l) (y .0) (rw q (member-head (y .0) (dated ys))))
+
       inside : member (y .0) (dated (take (m .most) (eligibles m l))) ≡ true
       inside = rw (eligibles-longer, q) (member-map-reach day (y .0) (m .most) (eligibles m h) y ys e refl)
 
@@ -159,8 +167,8 @@ module _ {A O : Type 0} (m : Method A O) (law : Lawful m) (h l : History A) (x :
           (omega (arith, held-first h (m .event) holds, leastOf-top (m .event) (dated (window m l)))))
       go false q e = wide-enough m law h holds e
 
-  -- a margin that is too short: eligible days before it come into the window, days that are neither leave it as it is
-  pub comes-in : isShort m h ≡ true → ((d : ℕ) → l .first ≤ d → d < h .first → m .eligible (l .day d) ≡ true)
+  -- eligible days below a margin that is too short come into the window
+  comes-in : isShort m h ≡ true → ((d : ℕ) → l .first ≤ d → d < h .first → m .eligible (l .day d) ≡ true)
       → (k : ℕ) → member k (m .relevant) ≡ true → k < h .first → l .first ≤ k
       → (d : ℕ) × (d < h .first) × (member d (dated (window m l)) ≡ true)
   unfolding late
@@ -168,20 +176,42 @@ module _ {A O : Type 0} (m : Method A O) (law : Lawful m) (h l : History A) (x :
     where
       all : late ≡ earlier m h l
       all = earlier-every m h l (m .eligible) every
+
       is : member k (dated late) ≡ true
       is = rw all (earlier-member m h l k r (is-held l k f (omega (arith, x .ends, law .before k r, held-last h (m .event) holds))) b)
+
       go : (ys : List (ℕ × A)) → late ≡ ys → (d : ℕ) × (d < h .first) × (member d (dated (window m l)) ≡ true)
       go [] q = absurd (clash (rw q at is) (unfold member in refl))
       go (y ∷ ys) q = let i = late-in (short-few m h too-short) y ys q in (y .0, i .0, i .1)
 
-  pub stays : ((d : ℕ) → l .first ≤ d → d < h .first → m .eligible (l .day d) ≡ false)
+  -- days that are neither eligible nor spare leave it as it is
+  stays : ((d : ℕ) → l .first ≤ d → d < h .first → m .eligible (l .day d) ≡ false)
       → ((d : ℕ) → l .first ≤ d → d < h .first → m .spare (l .day d) ≡ false) → window m l ≡ window m h
   unfolding window spares late
   stays no-eligible no-spare = rw (same-eligibles, same-spares)
     where
       same-eligibles : eligibles m l ≡ eligibles m h
       same-eligibles = eligibles-longer ∙ rw (earlier-none m h l (m .eligible) no-eligible) (append-nil (eligibles m h))
+
       same-spares : spares m l ≡ spares m h
       same-spares =
           ap (m .order)
           (rw (seen-longer m law h l x holds, keep-append, earlier-none m h l (m .spare) no-spare) (append-nil (keep (λ (p : ℕ × A). m .spare (p .1)) (seen m h))))
+
+-- a margin that is too short: of two longer histories, one with eligible days below it and one with days of no use, the first has a day in
+-- its window that the second has not
+pub apart : {A O : Type 0} (m : Method A O) (law : Lawful m) (h one other : History A) → Extends one h → Extends other h
+    → held h (m .event) ≡ true → isShort m h ≡ true
+    → ((d : ℕ) → one .first ≤ d → d < h .first → m .eligible (one .day d) ≡ true)
+    → ((d : ℕ) → other .first ≤ d → d < h .first → m .eligible (other .day d) ≡ false)
+    → ((d : ℕ) → other .first ≤ d → d < h .first → m .spare (other .day d) ≡ false)
+    → (k : ℕ) → member k (m .relevant) ≡ true → k < h .first → one .first ≤ k
+    → (d : ℕ) × (member d (dated (window m one)) ≡ true) × (member d (dated (window m other)) ≡ false)
+apart m law h one other x y holds too-short every no-eligible no-spare k r b f =
+    let i = comes-in m law h one x holds too-short every k r b f in
+    (i .0, i .2, rw (stays m law h other y holds no-eligible no-spare) (not-member (i .0) (i .1)))
+  where
+    not-member : (d : ℕ) → d < h .first → member d (dated (window m h)) ≡ false
+    not-member d less =
+        ⊎-elim (λ e. absurd (omega (arith, held-first h d (seen-held m law h d (window-seen m law h d e))))) (λ e. e)
+        (bool-cases (member d (dated (window m h))))

@@ -19,9 +19,9 @@ use Rattle.method.specs.HighXofY.{highXofY, complete, eligible, spare}
 use Rattle.method.specs.Lawful.{Lawful}
 use Rattle.method.specs.Verdict.{refused, closing, methodology, wellFormed}
 use Rattle.method.specs.Demands.{Longer, LongerFormed, Part, heldBefore, windowDays, Undecided, isMargin, NoneEarlier, Demand3}
-use Rattle.method.proofs.Seen.{Extends, extends-held, held-first, held-last, is-held, seen-held, window-seen}
+use Rattle.method.proofs.Seen.{Extends, extends-held}
 use Rattle.method.proofs.Short.{short-day}
-use Rattle.method.proofs.Cut.{same-window, same-outcome, reach-held, wide-enough, reach-short, reach-enough, comes-in, stays}
+use Rattle.method.proofs.Cut.{same-window, same-outcome, reach-held, wide-enough, reach-short, reach-enough, apart}
 use Rattle.method.proofs.LookBack.{lookBack-is}
 use Rattle.method.proofs.HighXofY.{lawful, relevant-lookBack}
 use Rattle.method.proofs.Tables.{longer-extends, without, without-longer, without-formed, padded, padded-days, padded-longer, padded-formed, padded-mark, padded-readings, cutTo, cut-part, cut-before}
@@ -44,8 +44,11 @@ module _ (k : ℕ) (t : Table) (room : k ≤ t .first) (d : ℕ) (since : t .fir
 pub at-most-45 : (group : ℕ → Group) (r : Request) → wholeReach (highXofY group r) ≤ 45
 unfolding wholeReach highXofY
 at-most-45 group r =
-    omega (arith, leastOf-from (r .event) (relevantDays group r) (r .event - 45) (omega arith)
-        (λ d e. let i = lookBack-is (r .event) d .0 (relevant-lookBack group r d e) in omega arith))
+    omega (
+      arith,
+      leastOf-from (r .event) (relevantDays group r) (r .event - 45) (omega arith)
+          (λ d e. let i = lookBack-is (r .event) d .0 (relevant-lookBack group r d e) in omega arith),
+    )
 
 module _ (group : ℕ → Group) (t : Table) (r : Request) (room : ℕ) (well : wellFormed t ≡ true) (holds : held (history t) (r .event) ≡ true) where
   -- a second table that holds the event, where an enough margin gives the same outcome
@@ -75,6 +78,7 @@ module _ (group : ℕ → Group) (t : Table) (r : Request) (room : ℕ) (well : 
       windows : isShort (highXofY group r) (history t) ≡ false → (l : Table) → LongerFormed l t
           → window (highXofY group r) (history l) ≡ window (highXofY group r) (history t)
       windows e l x = unfold highXofY in same-window (highXofY group r) (lawful group r) (history t) (history l) (longer-extends (x .longer)) holds e
+
       inside : isShort (highXofY group r) (history t) ≡ false → member (u .day) (windowDays group (u .other) r) ≡ true
       inside e = rw (windows e (u .other) (u .other-longer), ← windows e (u .one) (u .one-longer)) (u .inside)
 
@@ -98,19 +102,12 @@ module _ (group : ℕ → Group) (t : Table) (r : Request) (room : ℕ) (well : 
     unfolding filled gap
     filled-days mark = omega (arith, padded-days gap mark t gap-room)
 
-    comes : (d : ℕ) × (d < t .first) × (member d (windowDays group (filled 0) r) ≡ true)
+    windows : (d : ℕ) × (member d (windowDays group (filled 0) r) ≡ true) × (member d (windowDays group (filled 2) r) ≡ false)
     unfolding highXofY filled padded gap
-    comes =
-        comes-in (highXofY group r) (lawful group r) (history t) (history (filled 0)) (longer-extends (padded-longer gap 0 t gap-room)) holds short
-        (put-eligible gap t gap-room) k relevant below (omega arith)
-
-    outside-other : (d : ℕ) → d < t .first → member d (windowDays group (filled 2) r) ≡ false
-    unfolding highXofY filled padded
-    outside-other d less =
-        rw (stays (highXofY group r) (lawful group r) (history t) (history (filled 2)) (longer-extends (padded-longer gap 2 t gap-room)) holds
-            (put-ineligible gap t gap-room) (put-unspare gap t gap-room))
-        (⊎-elim (λ e. absurd (omega (arith, held-first (history t) d (seen-held (highXofY group r) (lawful group r) (history t) d (window-seen (highXofY group r) (lawful group r) (history t) d e)))))
-            (λ e. e) (bool-cases (member d (windowDays group t r))))
+    windows =
+        apart (highXofY group r) (lawful group r) (history t) (history (filled 0)) (history (filled 2))
+        (longer-extends (padded-longer gap 0 t gap-room)) (longer-extends (padded-longer gap 2 t gap-room)) holds short
+        (put-eligible gap t gap-room) (put-ineligible gap t gap-room) (put-unspare gap t gap-room) k relevant below (omega arith)
 
     undecided : Undecided group t r
     undecided =
@@ -119,9 +116,9 @@ module _ (group : ℕ → Group) (t : Table) (r : Request) (room : ℕ) (well : 
           other = filled 2;
           one-longer = filled-longer 0 refl;
           other-longer = filled-longer 2 refl;
-          day = comes .0;
-          inside = comes .2;
-          outside = outside-other (comes .0) (comes .1);
+          day = windows .0;
+          inside = windows .1;
+          outside = windows .2;
         }
 
   only-when : NoneEarlier t r room → isMargin (methodology group t r room) ≡ true
@@ -131,10 +128,13 @@ module _ (group : ℕ → Group) (t : Table) (r : Request) (room : ℕ) (well : 
     where
       short : isShort (highXofY group r) (history t) ≡ true
       short = sym (margin-is group t r room n) ∙ e
+
       k : ℕ
       k = short-day (highXofY group r) (history t) short .0
+
       relevant : member k (relevantDays group r) ≡ true
       relevant = short-day (highXofY group r) (history t) short .1
+
       below : k < t .first
       below = short-day (highXofY group r) (history t) short .2
 
@@ -158,6 +158,7 @@ module _ (group : ℕ → Group) (t : Table) (r : Request) (room : ℕ) (well : 
     where
       extends : Extends (history t) (history p)
       extends = longer-extends (x .longer)
+
       outcomes : outcome (highXofY group r) (history t) ≡ outcome (highXofY group r) (history p)
       outcomes =
           same-outcome (highXofY group r) (lawful group r) (history p) (history t) extends (x .holds)

@@ -14,7 +14,7 @@ use Rattle.method.specs.Relevant.{relevant, relevantDays, lookBack}
 use Rattle.method.specs.HighXofY.{highXofY, insertBy, sortBy, higher, Y, N}
 use Rattle.method.specs.Lawful.{Lawful, Falling}
 use Rattle.method.proofs.Falling.{falling-keep}
-use Rattle.method.proofs.LookBack.{daysBefore-fall, lookBack-is}
+use Rattle.method.proofs.LookBack.{lookBack-is, lookBack-fall}
 
 swap : (a b c : Bool) → (a || (b || c)) ≡ (b || (a || c))
 swap true b c = sym (or-true b)
@@ -54,7 +54,7 @@ module _ (group : ℕ → Group) (r : Request) where
 
   relevant-fall : Falling (relevantDays group r)
   unfolding relevantDays
-  relevant-fall = falling-keep (relevant group r) (daysBefore-fall 45 (r .event))
+  relevant-fall = falling-keep (relevant group r) (lookBack-fall (r .event))
 
   pub lawful : Lawful (highXofY group r)
   unfolding highXofY

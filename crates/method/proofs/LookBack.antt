@@ -31,10 +31,13 @@ daysBefore-is k event d = (inside k event d, λ i. outside k event d (i .0) (i .
 
 -- "the 45 days D-45 to D-1"
 pub lookBack-is : (event d : ℕ) → (member d (lookBack event) ≡ true) ↔ ((d < event) × (event ≤ d + 45))
-lookBack-is event d = daysBefore-is 45 event d
+lookBack-is event d = daysBefore-is _ event d
 
 pub daysBefore-fall : (k event : ℕ) → Falling (daysBefore k event)
 unfolding daysBefore
 daysBefore-fall zero event = none
 daysBefore-fall (suc k) zero = none
 daysBefore-fall (suc k) (suc event) = next (λ x m. inside k event x m .0) (daysBefore-fall k event)
+
+pub lookBack-fall : (event : ℕ) → Falling (lookBack event)
+lookBack-fall event = daysBefore-fall _ event

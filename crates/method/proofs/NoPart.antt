@@ -70,8 +70,10 @@ module _ (r : Request) (ordered : r .n ≤ r .s) (enough : 12 ≤ r .s) where
       → take (r .s) (ruler yesterday a) ≡ take (r .s) (ruler yesterday b) → baseline r n chosen yesterday a ≡ baseline r n chosen yesterday b
   unfolding baseline A
   baseline-same n chosen yesterday a b alike =
-      rw (end-same (ruler yesterday a) (ruler yesterday b) alike,
-          twelve-same (r .s) enough (ruler yesterday a) (ruler yesterday b) alike (adjustmentEnd r (ruler yesterday b)) (end-below (ruler yesterday b)))
+      rw (
+        end-same (ruler yesterday a) (ruler yesterday b) alike,
+        twelve-same (r .s) enough (ruler yesterday a) (ruler yesterday b) alike (adjustmentEnd r (ruler yesterday b)) (end-below (ruler yesterday b)),
+      )
 
 ruler-same : (s : ℕ) (yesterday a b : Day) → length (yesterday .readings) ≡ 96 → 96 ≤ s
     → take (s - 96) (a .readings) ≡ take (s - 96) (b .readings) → take s (ruler yesterday a) ≡ take s (ruler yesterday b)
@@ -93,18 +95,23 @@ known t r room n = first-two (goodRequest r) (held (history t) (r .event)) (ltb 
 
 known-quarters : (r : Request) → goodRequest r ≡ true → (96 ≤ r .s) × (r .n ≤ r .s)
 unfolding goodRequest
-known-quarters r e =
-    (leb-true 96 (r .s) (and-left (leb 96 (r .s)) (leb (r .s) 191) (and-right start from-s (and-left (start && from-s) to-e (and-left most ordered e)))),
-        leb-true (r .n) (r .s) (and-right most ordered e))
+known-quarters r e = (
+  leb-true 96 (r .s) (and-left (leb 96 (r .s)) (leb (r .s) 191) (and-right start from-s (and-left (start && from-s) to-e (and-left most ordered e)))),
+  leb-true (r .n) (r .s) (and-right most ordered e),
+)
   where
     start : Bool
     start = leb (r .participation) lastDay
+
     from-s : Bool
     from-s = leb 96 (r .s) && leb (r .s) 191
+
     to-e : Bool
     to-e = leb (r .s + 1) (r .e) && leb (r .e) 192
+
     ordered : Bool
     ordered = leb (r .n) (r .s)
+
     most : Bool
     most = start && from-s && to-e
 
@@ -118,8 +125,8 @@ module _ (group : ℕ → Group) (t u : Table) (r : Request) (well : wellFormed 
   outcomes good holds =
       before-same (highXofY group r) (lawful group r) (history t) (history u) starts holds (both ∙ holds) agrees
       (λ days e. baseline-same r (q .1) (omega (arith, q .0)) (N (group (r .event))) days (dayOf t (r .event - 1)) (dayOf u (r .event)) (dayOf t (r .event))
-          (ruler-same (r .s) (dayOf t (r .event - 1)) (dayOf u (r .event)) (dayOf t (r .event))
-              (day-size t well (r .event - 1) e ∙ size-is (r .event - 1)) (q .0) alike))
+      (ruler-same (r .s) (dayOf t (r .event - 1)) (dayOf u (r .event)) (dayOf t (r .event))
+      (day-size t well (r .event - 1) e ∙ size-is (r .event - 1)) (q .0) alike))
     where
       q : (96 ≤ r .s) × (r .n ≤ r .s)
       q = known-quarters r good
