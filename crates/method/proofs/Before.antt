@@ -1,19 +1,17 @@
 -- What no lawful method sees: two histories that start on the same day, hold the event, and agree before it, have the same outcome where
 -- the finish is the same.
-use mathlib.Core.Path.{_≡_, refl, sym, ap, _∙_}
-use mathlib.Core.Bool.{true, _&&_}
-use mathlib.Core.List.{List, map}
+use mathlib.Core.Path.{_≡_}
+use mathlib.Core.Bool.{true}
+use mathlib.Core.List.{List}
 use Prim.Native.Nat.{ℕ, _-_, _<_}
 use native.Mathlib.Omega.{arith}
-use lib.ListN.{length}
-use lib.Dec.{leb}
 use Rattle.lists.specs.Lists.{keep, member}
 use Rattle.lists.proofs.Keep.{kept-holds, kept-member, keep-same, map-same}
 use Rattle.method.specs.Table.{History, held}
-use Rattle.method.specs.Method.{Method, seen, eligibles, window, isShort, outcome}
+use Rattle.method.specs.Method.{Method, seen, eligibles, isShort, outcome}
 use Rattle.method.specs.Lawful.{Lawful}
 use Rattle.method.proofs.Seen.{held-since}
-use Rattle.method.proofs.Cut.{window-of-seen, outcome-same}
+use Rattle.method.proofs.Stable.{window-of-seen, outcome-same}
 
 module _ {A O : Type 0} (m : Method A O) (law : Lawful m) (h l : History A)
     (starts : l .first ≡ h .first) (holds : held h (m .event) ≡ true) (also : held l (m .event) ≡ true)

@@ -1,31 +1,29 @@
 -- Demand 3 for High X of Y over tables: the abstract part (`Cut`) at a table's history, and the tables that it asks for (`Tables`).
 use mathlib.Core.Path.{_≡_, refl, sym, ap, _∙_}
-use mathlib.Core.Logic.{_⊎_, inl, inr, ⊎-elim}
-use mathlib.Core.Bool.{Bool, true, false, not, _&&_}
-use mathlib.Core.List.{List}
-use mathlib.Core.Option.{Option}
-use Prim.Native.Nat.{ℕ, _+_, _-_, _≤_, _<_}
+use mathlib.Core.Logic.{⊎-elim}
+use mathlib.Core.Bool.{true, false}
+use Prim.Native.Nat.{ℕ, _-_, _≤_, _<_}
 use native.Mathlib.Omega.{arith}
-use Rattle.lists.specs.Lists.{any, all, member}
+use Rattle.lists.specs.Lists.{member}
 use Rattle.lists.proofs.Keep.{clash, bool-cases, leastOf-from}
 use Rattle.calendar.specs.declared.Group.{Group}
 use Rattle.method.specs.declared.Request.{Request}
 use Rattle.method.specs.declared.Refusal.the-variants.{MarginTooShort}
-use Rattle.method.specs.Table.{Table, Day, heldDays, dayOf, held, history, present, goodMark}
+use Rattle.method.specs.Table.{Table, heldDays, dayOf, held, history, present, goodMark}
 use Rattle.method.specs.Relevant.{relevantDays}
-use Rattle.method.specs.Method.{Method, dated, window, reach, wholeReach, isShort, outcome}
-use Rattle.method.specs.Adjustment.{Baseline}
+use Rattle.method.specs.Method.{window, reach, wholeReach, isShort, outcome}
 use Rattle.method.specs.HighXofY.{highXofY, complete, eligible, spare}
-use Rattle.method.specs.Lawful.{Lawful}
 use Rattle.method.specs.Verdict.{refused, closing, methodology, wellFormed}
-use Rattle.method.specs.Demands.{Longer, LongerFormed, Part, heldBefore, windowDays, Undecided, isMargin, NoneEarlier, Demand3}
-use Rattle.method.proofs.Seen.{Extends, extends-held}
+use Rattle.method.specs.Demands.{LongerFormed, Part, heldBefore, windowDays, Undecided, isMargin, NoneEarlier, Demand3}
+use Rattle.method.proofs.Histories.{Extends, extends-held}
 use Rattle.method.proofs.Short.{short-day}
-use Rattle.method.proofs.Cut.{same-window, same-outcome, reach-held, wide-enough, reach-short, reach-enough, apart}
+use Rattle.method.proofs.Stable.{same-window, same-outcome}
+use Rattle.method.proofs.Reach.{reach-held, wide-enough, reach-short, reach-enough}
+use Rattle.method.proofs.Apart.{apart}
 use Rattle.method.proofs.LookBack.{lookBack-is}
 use Rattle.method.proofs.HighXofY.{lawful, relevant-lookBack}
-use Rattle.method.proofs.Tables.{longer-extends, without, without-longer, without-formed, padded, padded-days, padded-longer, padded-formed, padded-mark, padded-readings, cutTo, cut-part, cut-before}
-use Rattle.method.proofs.Replies.{Earlier, earlier-cases, plain, hidden, hidden-same, margin-is, margin-carries, same-refusals}
+use Rattle.method.proofs.Tables.{longer-extends, padded, padded-days, padded-longer, padded-formed, padded-mark, padded-readings, cutTo, cut-part, cut-before}
+use Rattle.method.proofs.Replies.{earlier-cases, plain, hidden, hidden-same, margin-is, margin-carries, same-refusals}
 
 -- a day put before a table is eligible under mark 0, and neither eligible nor spare under mark 2
 module _ (k : ℕ) (t : Table) (room : k ≤ t .first) (d : ℕ) (since : t .first - k ≤ d) (below : d < t .first) where
@@ -170,8 +168,7 @@ module _ (group : ℕ → Group) (t : Table) (r : Request) (room : ℕ) (well : 
   unfolding highXofY
   fewer n clear p x e =
       margin-is group p r room (rw (same-refusals p t r room (x .holds ∙ sym holds)) n) ∙
-      reach-short (highXofY group r) (lawful group r) (history p) (history t) (longer-extends (x .longer)) (x .holds)
-      (sym (margin-is group t r room n) ∙ clear) e
+      reach-short (highXofY group r) (lawful group r) (history p) (history t) (longer-extends (x .longer)) (x .holds) e
 
   attained : NoneEarlier t r room → isMargin (methodology group t r room) ≡ false
       → (k : ℕ) → k ≤ reach (highXofY group r) (history t) → (p : Table) × Part p t r × (heldBefore p r ≡ k)

@@ -1,10 +1,10 @@
 -- Demand 3 in the customer's words, over the verdict of a lent table: an extract that is well formed and holds the event.
 use mathlib.Core.Path.{_≡_, refl, sym, ap, _∙_}
 use mathlib.Core.Logic.{⊎-elim}
-use mathlib.Core.Bool.{Bool, true, false, not, cond, _&&_, _||_}
-use mathlib.Core.List.{List, [], _∷_, reverse}
+use mathlib.Core.Bool.{Bool, true, false, cond, _&&_, _||_}
+use mathlib.Core.List.{reverse}
 use mathlib.Core.Option.{Option, none, some}
-use Prim.Native.Nat.{ℕ, _+_, _-_, _≤_, _<_}
+use Prim.Native.Nat.{ℕ, _-_, _≤_, _<_}
 use native.Mathlib.Omega.{arith}
 use lib.ListN.{length, getD}
 use lib.Dec.{leb, eqb}
@@ -21,9 +21,9 @@ use Rattle.method.specs.HighXofY.{highXofY}
 use Rattle.method.specs.Verdict.{Reply, refused, answered, number, carries, tableRefusals, requestRefusals, closing, firstOf, methodology, verdict, wellFormed}
 use Rattle.method.specs.Demands.{LongerFormed, Part, heldBefore, isMargin, NoneEarlier}
 use Rattle.method.proofs.Tables.{formed-is, cutTo, cut-part, cut-before}
-use Rattle.method.proofs.Cut.{reach-held}
+use Rattle.method.proofs.Reach.{reach-held}
 use Rattle.method.proofs.HighXofY.{lawful}
-use Rattle.method.proofs.Replies.{Earlier, earlier-cases, plain, hidden-other, margin-is}
+use Rattle.method.proofs.Replies.{earlier-cases, plain, hidden-other, margin-is}
 use Rattle.method.proofs.Demand3.{demand3}
 
 -- of a well-formed extract the verdict is the methodology's reply

@@ -1,9 +1,13 @@
 pub mod Falling
 pub mod LookBack
+pub mod Histories
 pub mod Seen
+pub mod Longer
 pub mod Window
 pub mod Short
-pub mod Cut
+pub mod Stable
+pub mod Reach
+pub mod Apart
 pub mod Before
 pub mod HighXofY
 pub mod Tables

@@ -3,29 +3,28 @@
 use mathlib.Core.Path.{_≡_, refl, sym, ap, _∙_}
 use mathlib.Core.Logic.{⊎-elim}
 use mathlib.Core.Bool.{Bool, true, false, not, cond, _&&_, _||_}
-use mathlib.Core.List.{List, [], _∷_, _++_}
-use mathlib.Core.Option.{Option}
+use mathlib.Core.List.{List}
 use Prim.Native.Nat.{ℕ, zero, suc, _+_, _-_, _≤_, _<_}
 use native.Mathlib.Omega.{arith}
-use lib.ListN.{length, take, drop}
+use lib.ListN.{length, take}
 use lib.Seq.{take-append-add}
 use lib.Dec.{leb, ltb}
 use borrow.Author.Tests.{leb-true}
-use Rattle.lists.specs.Lists.{all, any}
+use Rattle.lists.specs.Lists.{any}
 use Rattle.lists.proofs.Keep.{and-left, and-right, clash, take-drop-take}
 use Rattle.calendar.specs.Days.{lastDay}
 use Rattle.calendar.specs.declared.Group.{Group}
 use Rattle.method.specs.declared.Request.{Request}
-use Rattle.method.specs.Table.{Table, Day, dayOf, held, history, isExtract, present}
+use Rattle.method.specs.Table.{Table, Day, dayOf, held, history, isExtract}
 use Rattle.method.specs.Method.{outcome}
-use Rattle.method.specs.Adjustment.{Baseline, baseline, baselineAt, ruler, twelve, windowEnds, latestEnd, adjustmentEnd, A, adjustment, B}
+use Rattle.method.specs.Adjustment.{baseline, ruler, twelve, windowEnds, latestEnd, adjustmentEnd, A}
 use Rattle.method.specs.HighXofY.{highXofY, N}
 use Rattle.method.specs.Verdict.{closing, goodRequest, requestRefusals, methodology, verdict, wellFormed}
 use Rattle.method.specs.Demands.{NoneEarlier}
 use Rattle.method.proofs.Before.{before-same}
 use Rattle.method.proofs.HighXofY.{lawful}
 use Rattle.method.proofs.Tables.{size-is, day-size}
-use Rattle.method.proofs.Replies.{Earlier, earlier-cases, plain, hidden-same, same-refusals}
+use Rattle.method.proofs.Replies.{earlier-cases, plain, hidden-same, same-refusals}
 use Rattle.method.proofs.Extract.{verdict-is}
 
 module _ (s : ℕ) (enough : 12 ≤ s) (xs ys : List ℕ) (alike : take s xs ≡ take s ys) where

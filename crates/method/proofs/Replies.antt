@@ -1,7 +1,7 @@
 -- The reply in two steps: an earlier refusal hides what the days give, and with none the reply is "margin too short" exactly where it is.
-use mathlib.Core.Path.{_≡_, refl, sym, ap, _∙_}
-use mathlib.Core.Logic.{_⊎_, inl, inr}
-use mathlib.Core.Bool.{Bool, true, false, not, cond, _&&_, _||_}
+use mathlib.Core.Path.{_≡_, refl, _∙_}
+use mathlib.Core.Logic.{_⊎_}
+use mathlib.Core.Bool.{Bool, true, false, not, cond, _||_}
 use mathlib.Core.List.{List, [], _∷_}
 use mathlib.Core.Option.{Option, none, some}
 use Prim.Native.Nat.{ℕ, _-_}
@@ -15,10 +15,10 @@ use Rattle.method.specs.declared.Request.{Request}
 use Rattle.method.specs.declared.Refusal.{Refusal}
 use Rattle.method.specs.declared.Refusal.the-variants.{MarginTooShort}
 use Rattle.method.specs.Table.{Table, Day, History, held, history}
-use Rattle.method.specs.Method.{Method, Outcome, short, few, chose, dated, window, chosen, reach, wholeReach, isShort, outcome}
+use Rattle.method.specs.Method.{Method, short, few, chose, dated, window, chosen, reach, wholeReach, isShort, outcome}
 use Rattle.method.specs.Adjustment.{Baseline}
 use Rattle.method.specs.HighXofY.{highXofY}
-use Rattle.method.specs.Verdict.{Reply, refused, answered, number, requestRefusals, closing, firstOf, methodology}
+use Rattle.method.specs.Verdict.{Reply, refused, requestRefusals, closing, firstOf, methodology}
 use Rattle.method.specs.Demands.{isMargin, NoneEarlier}
 
 abbrev test : Bool × Refusal → Bool

@@ -1,13 +1,13 @@
 -- What "margin too short" says: fewer than Y eligible days are held, and a relevant day lies before the first held day.
-use mathlib.Core.Path.{_≡_, sym, _∙_}
+use mathlib.Core.Path.{_≡_}
 use mathlib.Core.Logic.{_⊎_, inl, inr, ⊎-elim}
-use mathlib.Core.Bool.{true, false, _&&_, and-false}
+use mathlib.Core.Bool.{true, false, and-false}
 use Prim.Native.Nat.{ℕ, _-_, _≤_, _<_}
 use native.Mathlib.Omega.{arith}
 use lib.ListN.{length}
 use lib.Dec.{ltb}
 use borrow.Author.Tests.{ltb-true, ltb-false, le-ltb}
-use Rattle.lists.specs.Lists.{any, member, leastOf}
+use Rattle.lists.specs.Lists.{any, member}
 use Rattle.lists.proofs.Keep.{and-left, and-right, and-cases, any-member, any-none, any-false, leastOf-top, leastOf-member, leastOf-from}
 use Rattle.method.specs.Table.{History}
 use Rattle.method.specs.Method.{Method, eligibles, isShort, wholeReach}

@@ -1,7 +1,7 @@
 -- Laws of tables: where a day's readings stand, a table without its first days, and a table with days put before it.
 -- Only `size-is` and `offset-is` look into how many readings a day has.
-use mathlib.Core.Path.{_≡_, refl, sym, ap, _∙_}
-use mathlib.Core.Bool.{Bool, true, false, not, _&&_}
+use mathlib.Core.Path.{_≡_, refl, ap, _∙_}
+use mathlib.Core.Bool.{Bool, true, not, _&&_}
 use mathlib.Core.List.{List, _++_}
 use Prim.Native.Nat.{ℕ, zero, suc, _+_, _-_, _*_, _≤_, _<_}
 use native.Mathlib.Omega.{arith}
@@ -14,10 +14,10 @@ use Rattle.lists.specs.Lists.{all}
 use Rattle.lists.proofs.Keep.{and-left, and-right, all-append, all-replicate, all-take, all-drop}
 use Rattle.calendar.specs.Days.{lastDay}
 use Rattle.method.specs.declared.Request.{Request}
-use Rattle.method.specs.Table.{Table, Day, heldDays, size, offset, dayOf, goodMark, goodReading, held, history, shaped}
+use Rattle.method.specs.Table.{Table, heldDays, size, offset, dayOf, goodMark, goodReading, held, history, shaped}
 use Rattle.method.specs.Verdict.{wellFormed}
 use Rattle.method.specs.Demands.{Longer, Part, heldBefore}
-use Rattle.method.proofs.Seen.{Extends, held-first, held-last, is-held}
+use Rattle.method.proofs.Histories.{Extends, held-first, held-last, is-held}
 
 -- the readings before the (k + j)-th day: those of `k` days, and those of the `j` days after them
 pub offset-add : (f k j : ℕ) → offset f (k + j) ≡ offset f k + offset (f + k) j
