@@ -59,7 +59,8 @@ unfolding member
 member-cases x y xs h = ⊎-elim (λ e. inl (eqb-true x y e)) inr (or-cases (eqb x y) (member x xs) h)
 
 -- one element before both
-pub member-cons : (n x : ℕ) (xs ys : List ℕ) → (member n xs ≡ true → member n ys ≡ true) → member n (x ∷ xs) ≡ true → member n (x ∷ ys) ≡ true
+pub member-cons : (n x : ℕ) (xs ys : List ℕ) → (member n xs ≡ true → member n ys ≡ true)
+    → member n (x ∷ xs) ≡ true → member n (x ∷ ys) ≡ true
 unfolding member
 member-cons n x xs ys f m = go (eqb n x) m
   where

@@ -3,7 +3,6 @@ use mathlib.Core.Path.{_≡_}
 use mathlib.Core.Bool.{true}
 use Prim.Native.Nat.{ℕ, _+_, _≤_, _<_}
 use native.Mathlib.Omega.{arith}
-use lib.Dec.{leb, ltb}
 use borrow.Author.Tests.{leb-true, ltb-true, le-leb, lt-ltb}
 use Rattle.lists.proofs.Keep.{and-left, and-right}
 use Rattle.method.specs.Table.{History, held}
@@ -17,11 +16,11 @@ pub record Extends {A : Type 0} (l h : History A) : Type 0 where
 module _ {A : Type 0} (h : History A) (d : ℕ) where
   pub held-first : held h d ≡ true → h .first ≤ d
   unfolding held
-  held-first e = leb-true (h .first) d (and-left (leb (h .first) d) (ltb d (h .first + h .count)) e)
+  held-first e = leb-true (h .first) d (search and-left)
 
   pub held-last : held h d ≡ true → d < h .first + h .count
   unfolding held
-  held-last e = ltb-true d (h .first + h .count) (and-right (leb (h .first) d) (ltb d (h .first + h .count)) e)
+  held-last e = ltb-true d (h .first + h .count) (search and-right)
 
   pub is-held : h .first ≤ d → d < h .first + h .count → held h d ≡ true
   unfolding held

@@ -12,6 +12,7 @@ pub mod Before
 pub mod HighXofY
 pub mod Tables
 pub mod Replies
+pub mod Undecided
 pub mod Demand3
 pub mod Extract
 pub mod NoPart

@@ -2,7 +2,7 @@
 -- The idea: the days before D decide the choice (`Before`), and no adjustment window ends after s.
 use mathlib.Core.Path.{_≡_, refl, sym, ap, _∙_}
 use mathlib.Core.Logic.{⊎-elim}
-use mathlib.Core.Bool.{Bool, true, false, not, cond, _&&_, _||_}
+use mathlib.Core.Bool.{Bool, true, false, not, cond, _||_}
 use mathlib.Core.List.{List}
 use Prim.Native.Nat.{ℕ, zero, suc, _+_, _-_, _≤_, _<_}
 use native.Mathlib.Omega.{arith}
@@ -12,7 +12,6 @@ use lib.Dec.{leb, ltb}
 use borrow.Author.Tests.{leb-true}
 use Rattle.lists.specs.Lists.{any}
 use Rattle.lists.proofs.Keep.{and-left, and-right, clash, take-drop-take}
-use Rattle.calendar.specs.Days.{lastDay}
 use Rattle.calendar.specs.declared.Group.{Group}
 use Rattle.method.specs.declared.Request.{Request}
 use Rattle.method.specs.Table.{Table, Day, dayOf, held, history, isExtract}
@@ -69,10 +68,13 @@ module _ (r : Request) (ordered : r .n ≤ r .s) (enough : 12 ≤ r .s) where
       → take (r .s) (ruler yesterday a) ≡ take (r .s) (ruler yesterday b) → baseline r n chosen yesterday a ≡ baseline r n chosen yesterday b
   unfolding baseline A
   baseline-same n chosen yesterday a b alike =
-      rw (
-        end-same (ruler yesterday a) (ruler yesterday b) alike,
-        twelve-same (r .s) enough (ruler yesterday a) (ruler yesterday b) alike (adjustmentEnd r (ruler yesterday b)) (end-below (ruler yesterday b)),
-      )
+      rw (end-same xs ys alike, twelve-same (r .s) enough xs ys alike (adjustmentEnd r ys) (end-below ys))
+    where
+      xs : List ℕ
+      xs = ruler yesterday a
+
+      ys : List ℕ
+      ys = ruler yesterday b
 
 ruler-same : (s : ℕ) (yesterday a b : Day) → length (yesterday .readings) ≡ 96 → 96 ≤ s
     → take (s - 96) (a .readings) ≡ take (s - 96) (b .readings) → take s (ruler yesterday a) ≡ take s (ruler yesterday b)
@@ -90,29 +92,15 @@ first-two false b c e = absurd (clash refl e)
 
 known : (t : Table) (r : Request) (room : ℕ) → NoneEarlier t r room → (goodRequest r ≡ true) × (held (history t) (r .event) ≡ true)
 unfolding requestRefusals any
-known t r room n = first-two (goodRequest r) (held (history t) (r .event)) (ltb (r .event) (r .participation) || (ltb room (r .e - r .s) || false)) n
+known t r room n =
+    first-two (goodRequest r) (held (history t) (r .event)) (ltb (r .event) (r .participation) || (ltb room (r .e - r .s) || false)) n
 
 known-quarters : (r : Request) → goodRequest r ≡ true → (96 ≤ r .s) × (r .n ≤ r .s)
 unfolding goodRequest
-known-quarters r e = (
-  leb-true 96 (r .s) (and-left (leb 96 (r .s)) (leb (r .s) 191) (and-right start from-s (and-left (start && from-s) to-e (and-left most ordered e)))),
-  leb-true (r .n) (r .s) (and-right most ordered e),
-)
-  where
-    start : Bool
-    start = leb (r .participation) lastDay
-
-    from-s : Bool
-    from-s = leb 96 (r .s) && leb (r .s) 191
-
-    to-e : Bool
-    to-e = leb (r .s + 1) (r .e) && leb (r .e) 192
-
-    ordered : Bool
-    ordered = leb (r .n) (r .s)
-
-    most : Bool
-    most = start && from-s && to-e
+known-quarters r e =
+    let on-D : leb 96 (r .s) ≡ true = search (and-left, and-right) in
+    let ordered : leb (r .n) (r .s) ≡ true = search (and-left, and-right) in
+    (leb-true 96 (r .s) on-D, leb-true (r .n) (r .s) ordered)
 
 module _ (group : ℕ → Group) (t u : Table) (r : Request) (well : wellFormed t ≡ true)
     (starts : u .first ≡ t .first) (both : held (history u) (r .event) ≡ held (history t) (r .event))
@@ -123,12 +111,18 @@ module _ (group : ℕ → Group) (t u : Table) (r : Request) (well : wellFormed 
   unfolding highXofY
   outcomes good holds =
       before-same (highXofY group r) (lawful group r) (history t) (history u) starts holds (both ∙ holds) agrees
-      (λ days e. baseline-same r (q .1) (omega (arith, q .0)) (N (group (r .event))) days (dayOf t (r .event - 1)) (dayOf u (r .event)) (dayOf t (r .event))
-      (ruler-same (r .s) (dayOf t (r .event - 1)) (dayOf u (r .event)) (dayOf t (r .event))
-      (day-size t well (r .event - 1) e ∙ size-is (r .event - 1)) (q .0) alike))
+      (λ days e. baseline-same r (q .1) (omega (arith, q .0)) (N (group (r .event))) days yesterday (dayOf u (r .event)) (dayOf t (r .event))
+      (rulers (day-size t well (r .event - 1) e ∙ size-is (r .event - 1))))
     where
       q : (96 ≤ r .s) × (r .n ≤ r .s)
       q = known-quarters r good
+
+      yesterday : Day
+      yesterday = dayOf t (r .event - 1)
+
+      rulers : length (yesterday .readings) ≡ 96
+          → take (r .s) (ruler yesterday (dayOf u (r .event))) ≡ take (r .s) (ruler yesterday (dayOf t (r .event)))
+      rulers size = ruler-same (r .s) yesterday (dayOf u (r .event)) (dayOf t (r .event)) size (q .0) alike
 
   methodologies : (room : ℕ) → methodology group u r room ≡ methodology group t r room
   methodologies room = ⊎-elim (hidden-same group u t r room both) plainly (earlier-cases t r room)

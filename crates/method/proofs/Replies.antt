@@ -45,26 +45,33 @@ none-early (t ∷ ts) x e = go (t .0) e (none-early ts x)
     go true e ih = absurd (clash refl e)
     go false e ih = ih e
 
--- a reply that none of the refusals is
-early-other : (q : Reply → Bool) (rs : List (Bool × Refusal)) (x : Reply) → all (λ (p : Bool × Refusal). not (q (refused (p .1)))) rs ≡ true
-    → any test rs ≡ true → q (firstOf rs x) ≡ false
+-- a reply of another kind than all the refusals
+abbrev other : (Reply → Bool) → Bool × Refusal → Bool
+other q p = not (q (refused (p .1)))
+
+early-other : (q : Reply → Bool) (rs : List (Bool × Refusal)) (x : Reply) → all (other q) rs ≡ true → any test rs ≡ true
+    → q (firstOf rs x) ≡ false
 unfolding any all firstOf
 early-other q [] x o e = absurd (clash e refl)
-early-other q (t ∷ ts) x o e = go (t .0) e (early-other q ts x (and-right (not (q (refused (t .1)))) (all (λ (p : Bool × Refusal). not (q (refused (p .1)))) ts) o))
+early-other q (t ∷ ts) x o e = go (t .0) e (early-other q ts x (and-right (other q t) (all (other q) ts) o))
   where
     go : (b : Bool) → (b || any test ts) ≡ true → (any test ts ≡ true → q (firstOf ts x) ≡ false)
         → q (cond b (refused (t .1)) (firstOf ts x)) ≡ false
-    go true e ih = not-true (q (refused (t .1))) (and-left (not (q (refused (t .1)))) (all (λ (p : Bool × Refusal). not (q (refused (p .1)))) ts) o)
+    go true e ih = not-true (q (refused (t .1))) (and-left (other q t) (all (other q) ts) o)
     go false e ih = ih e
 
 -- what the choice of days ends in is the margin's refusal exactly where the margin is too short
 closing-margin : (m : Method Day (Option Baseline)) (h : History Day) → isMargin (closing (outcome m h)) ≡ isShort m h
 unfolding closing outcome
-closing-margin m h = go (isShort m h) (eqb (m .taken (length (window m h))) 0) (m .finish (chosen m h) (h .day (m .event - 1)) (h .day (m .event)))
+closing-margin m h =
+    go (isShort m h) (eqb (m .taken (length (window m h))) 0) (m .finish (chosen m h) (h .day (m .event - 1)) (h .day (m .event)))
   where
-    go : (s few′ : Bool) (o : Option Baseline)
-        → isMargin (closing (cond s (short (wholeReach m)) (cond few′ (few (length (window m h)) (reach m h)) (chose (dated (chosen m h)) (reach m h) o)))) ≡ s
-    go true few′ o = refl
+    ending : Bool → Bool → Option Baseline → Reply
+    ending s f o =
+        closing (cond s (short (wholeReach m)) (cond f (few (length (window m h)) (reach m h)) (chose (dated (chosen m h)) (reach m h) o)))
+
+    go : (s f : Bool) (o : Option Baseline) → isMargin (ending s f o) ≡ s
+    go true f o = refl
     go false true o = refl
     go false false none = refl
     go false false (some b) = refl
@@ -92,7 +99,7 @@ module _ (group : ℕ → Group) (t : Table) (r : Request) (room : ℕ) where
   unfolding methodology
   plain n = none-early (requestRefusals t r room) (closing (outcome (highXofY group r) (history t))) n
 
-  pub hidden-other : (q : Reply → Bool) → all (λ (p : Bool × Refusal). not (q (refused (p .1)))) (requestRefusals t r room) ≡ true
+  pub hidden-other : (q : Reply → Bool) → all (other q) (requestRefusals t r room) ≡ true
       → Earlier t r room → q (methodology group t r room) ≡ false
   unfolding methodology
   hidden-other q o e = early-other q (requestRefusals t r room) (closing (outcome (highXofY group r) (history t))) o e

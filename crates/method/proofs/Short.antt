@@ -41,18 +41,14 @@ module _ {A O : Type 0} (m : Method A O) (h : History A) where
   module _ (short : isShort m h ≡ true) where
     pub short-few : length (eligibles m h) < m .most
     unfolding isShort
-    short-few =
-        ltb-true (length (eligibles m h)) (m .most)
-        (and-left (ltb (length (eligibles m h)) (m .most)) (any (λ d. ltb d (h .first)) (m .relevant)) short)
+    short-few = ltb-true (length (eligibles m h)) (m .most) (search and-left)
 
     pub short-day : (d : ℕ) × (member d (m .relevant) ≡ true) × (d < h .first)
     unfolding isShort
-    short-day = go (any-member (λ d. ltb d (h .first)) (m .relevant)
-        (and-right (ltb (length (eligibles m h)) (m .most)) (any (λ d. ltb d (h .first)) (m .relevant)) short))
-      where
-        go : (d : ℕ) × (member d (m .relevant) ≡ true) × (ltb d (h .first) ≡ true)
-            → (d : ℕ) × (member d (m .relevant) ≡ true) × (d < h .first)
-        go w = (w .0, w .1, ltb-true (w .0) (h .first) (w .2))
+    short-day =
+        let some : any (λ d. ltb d (h .first)) (m .relevant) ≡ true = search and-right in
+        let w = any-member (λ d. ltb d (h .first)) (m .relevant) some in
+        (w .0, w .1, ltb-true (w .0) (h .first) (w .2))
 
   -- the days before the event that are held reach the oldest relevant day exactly where none lies before the first
   pub whole-reach : h .first ≤ m .event → Whole → wholeReach m ≤ m .event - h .first

@@ -1,12 +1,13 @@
 -- Laws of tables: where a day's readings stand, a table without its first days, and a table with days put before it.
 -- Only `size-is` and `offset-is` look into how many readings a day has.
 use mathlib.Core.Path.{_≡_, refl, ap, _∙_}
-use mathlib.Core.Bool.{Bool, true, not, _&&_}
+use mathlib.Core.Bool.{Bool, true, not}
 use mathlib.Core.List.{List, _++_}
 use Prim.Native.Nat.{ℕ, zero, suc, _+_, _-_, _*_, _≤_, _<_}
 use native.Mathlib.Omega.{arith}
 use native.Mathlib.Nat.{zero-add, suc-add, add-zero}
-use lib.ListN.{length, getD, take, drop, replicate, length-append, length-replicate, length-take, length-drop, getD-replicate, List·getD-append}
+use lib.ListN.{length, getD, take, drop, replicate}
+use lib.ListN.{length-append, length-replicate, length-take, length-drop, getD-replicate, List·getD-append}
 use lib.Seq.{drop-at, drop-drop, getD-drop, take-append-le, drop-append-le}
 use lib.Dec.{leb, eqb}
 use borrow.Author.Tests.{eqb-true, eqb-false, eq-eqb, ne-eqb, leb-true, le-leb, not-true}
@@ -22,7 +23,7 @@ use Rattle.method.proofs.Histories.{Extends, held-first, held-last, is-
 -- the readings before the (k + j)-th day: those of `k` days, and those of the `j` days after them
 pub offset-add : (f k j : ℕ) → offset f (k + j) ≡ offset f k + offset (f + k) j
 unfolding offset
-offset-add f zero j = rw (zero-add, zero-add, add-zero)
+offset-add f zero j = rw (zero-add j, add-zero f, zero-add (offset f j))
 offset-add f (suc k) j =
     let o : suc f + k ≡ f + suc k = omega arith in
     rw (suc-add, offset-add (suc f) k j, o) (omega arith)
@@ -74,34 +75,16 @@ formed {t} f =
 pub formed-is : (t : Table) → wellFormed t ≡ true → Formed t
 unfolding wellFormed shaped
 formed-is t e =
+    let some : not (eqb (heldDays t) 0) ≡ true = search (and-left, and-right) in
+    let sized : eqb (length (t .readings)) (offset (t .first) (heldDays t)) ≡ true = search (and-left, and-right) in
+    let inside : leb (t .first + heldDays t - 1) lastDay ≡ true = search (and-left, and-right) in
     record {
-      days = omega (arith, eqb-false (heldDays t) 0 (not-true (eqb (heldDays t) 0) (and-left some sized both)));
-      fits = eqb-true (length (t .readings)) (offset (t .first) (heldDays t)) (and-right some sized both);
-      last = leb-true (t .first + heldDays t - 1) lastDay (and-right (some && sized) inside shape);
-      good-marks = and-right (shaped t) marks (and-left (shaped t && marks) readings e);
-      good-readings = and-right (shaped t && marks) readings e;
+      days = omega (arith, eqb-false (heldDays t) 0 (not-true (eqb (heldDays t) 0) some));
+      fits = eqb-true (length (t .readings)) (offset (t .first) (heldDays t)) sized;
+      last = leb-true (t .first + heldDays t - 1) lastDay inside;
+      good-marks = search (and-left, and-right);
+      good-readings = search (and-left, and-right);
     }
-  where
-    some : Bool
-    some = not (eqb (heldDays t) 0)
-
-    sized : Bool
-    sized = eqb (length (t .readings)) (offset (t .first) (heldDays t))
-
-    inside : Bool
-    inside = leb (t .first + heldDays t - 1) lastDay
-
-    marks : Bool
-    marks = all goodMark (t .marks)
-
-    readings : Bool
-    readings = all goodReading (t .readings)
-
-    shape : ((some && sized) && inside) ≡ true
-    shape = and-left (shaped t) marks (and-left (shaped t && marks) readings e)
-
-    both : (some && sized) ≡ true
-    both = and-left (some && sized) inside shape
 
 -- of a held day all readings are there
 pub day-size : (t : Table) → wellFormed t ≡ true → (d : ℕ) → held (history t) d ≡ true → length (dayOf t d .readings) ≡ size d
@@ -152,7 +135,9 @@ module _ (k : ℕ) (t : Table) where
       formed
       (record {
         days = omega (arith, without-days);
-        fits = rw (length-drop, w .fits, length-drop) (omega (arith, rw split at (offset-add (t .first) k (heldDays t - k))));
+        fits =
+            rw (length-drop (offset (t .first) k) (t .readings), w .fits, length-drop k (t .marks))
+            (omega (arith, rw split at (offset-add (t .first) k (heldDays t - k))));
         last = omega (arith, without-days, w .last);
         good-marks = all-drop goodMark k (t .marks) (w .good-marks);
         good-readings = all-drop goodReading (offset (t .first) k) (t .readings) (w .good-readings);
@@ -168,7 +153,8 @@ module _ (k : ℕ) (t : Table) where
 abbrev pub cutTo : Table → Request → ℕ → Table
 cutTo t r k = without (heldBefore t r - k) t
 
-module _ (t : Table) (r : Request) (well : wellFormed t ≡ true) (holds : held (history t) (r .event) ≡ true) (k : ℕ) (before : k ≤ heldBefore t r) where
+module _ (t : Table) (r : Request) (well : wellFormed t ≡ true) (holds : held (history t) (r .event) ≡ true)
+    (k : ℕ) (before : k ≤ heldBefore t r) where
   pub cut-before : heldBefore (cutTo t r k) r ≡ k
   unfolding without
   cut-before = omega (arith, held-first (history t) (r .event) holds)
@@ -208,7 +194,9 @@ module _ (k m : ℕ) (t : Table) (room : k ≤ t .first) where
       marks = drop-at (replicate k m) (t .marks) k (length-replicate k m)
 
       readings : drop (offset (t .first - k) k) (replicate (offset (t .first - k) k) 0 ++ t .readings) ≡ t .readings
-      readings = drop-at (replicate (offset (t .first - k) k) 0) (t .readings) (offset (t .first - k) k) (length-replicate (offset (t .first - k) k) 0)
+      readings =
+          drop-at (replicate (offset (t .first - k) k) 0) (t .readings) (offset (t .first - k) k)
+          (length-replicate (offset (t .first - k) k) 0)
 
   pub padded-days : heldDays (padded k m t) ≡ k + heldDays t
   unfolding padded
@@ -223,7 +211,9 @@ module _ (k m : ℕ) (t : Table) (room : k ≤ t .first) where
       formed
       (record {
         days = omega (arith, padded-days, w .days);
-        fits = rw (length-append, length-replicate, length-append, length-replicate, offset-add (t .first - k) k (heldDays t), back) (ap (λ n. offset (t .first - k) k + n) (w .fits));
+        fits =
+            simp (length-append, length-replicate)
+            (rw (offset-add (t .first - k) k (heldDays t), back) (ap (λ n. offset (t .first - k) k + n) (w .fits)));
         last = omega (arith, padded-days, w .last);
         good-marks = rw (all-append goodMark (replicate k m) (t .marks), all-replicate goodMark k m good) (w .good-marks);
         good-readings =
