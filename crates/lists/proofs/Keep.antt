@@ -117,7 +117,8 @@ module _ {A : Type 0} (p : A → Bool) where
       go true m ih = member-cons n (f x) (map f (keep p xs)) (map f xs) ih m
       go false m ih = member-tail n (f x) (map f xs) (ih m)
 
-pub member-map-take : {A : Type 0} (f : A → ℕ) (k : ℕ) (xs : List A) (n : ℕ) → member n (map f (take k xs)) ≡ true → member n (map f xs) ≡ true
+pub member-map-take : {A : Type 0} (f : A → ℕ) (k : ℕ) (xs : List A) (n : ℕ)
+    → member n (map f (take k xs)) ≡ true → member n (map f xs) ≡ true
 member-map-take f zero xs n h = absurd (clash h (unfold member in refl))
 member-map-take f (suc k) [] n h = h
 member-map-take f (suc k) (x ∷ xs) n h =
@@ -127,8 +128,9 @@ module _ {A : Type 0} (f : A → ℕ) (n : ℕ) where
   pub member-map-append : (xs ys : List A) → member n (map f (xs ++ ys)) ≡ (member n (map f xs) || member n (map f ys))
   member-map-append xs ys = rw map-append (member-append n (map f xs) (map f ys))
 
-  -- a day that follows fewer than `k` others is among the first `k`
-  pub member-map-reach : (k : ℕ) (xs : List A) (y : A) (ys : List A) → length xs < k → f y ≡ n → member n (map f (take k (xs ++ y ∷ ys))) ≡ true
+  -- what follows fewer than `k` others is among the first `k`
+  pub member-map-reach : (k : ℕ) (xs : List A) (y : A) (ys : List A) → length xs < k → f y ≡ n
+      → member n (map f (take k (xs ++ y ∷ ys))) ≡ true
   member-map-reach zero xs y ys h e = absurd (omega arith)
   member-map-reach (suc k) [] y ys h e = rw e (member-head n (map f (take k ys)))
   member-map-reach (suc k) (x ∷ xs) y ys h e =

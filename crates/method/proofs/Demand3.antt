@@ -34,7 +34,8 @@ at-most-45 group r = omega (arith, leastOf-from (r .event) (relevantDays group r
     since : (d : ℕ) → member d (relevantDays group r) ≡ true → r .event - 45 ≤ d
     since d e = let i = lookBack-is (r .event) d .0 (relevant-lookBack group r d e) in omega arith
 
-module _ (group : ℕ → Group) (t : Table) (r : Request) (room : ℕ) (well : wellFormed t ≡ true) (holds : held (history t) (r .event) ≡ true) where
+module _ (group : ℕ → Group) (t : Table) (r : Request) (room : ℕ)
+    (well : wellFormed t ≡ true) (holds : held (history t) (r .event) ≡ true) where
   abbrev m : Method Day (Option Baseline)
   m = highXofY group r
 

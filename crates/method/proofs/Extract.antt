@@ -1,6 +1,6 @@
 -- Demand 3 in the customer's words, over the verdict of a lent table: an extract that is well formed and holds the event.
 use mathlib.Core.Path.{_≡_, refl, sym, ap, _∙_}
-use mathlib.Core.Logic.{⊎-elim}
+use mathlib.Core.Logic.{_↔_, ⊎-elim}
 use mathlib.Core.Bool.{Bool, true, false, cond, _||_}
 use mathlib.Core.List.{reverse}
 use mathlib.Core.Option.{Option, none, some}
@@ -20,7 +20,7 @@ use Rattle.method.specs.Adjustment.{Baseline}
 use Rattle.method.specs.HighXofY.{highXofY}
 use Rattle.method.specs.Verdict.{Reply, refused, answered, number, carries, tableRefusals, requestRefusals, closing, firstOf}
 use Rattle.method.specs.Verdict.{methodology, verdict, wellFormed}
-use Rattle.method.specs.Demands.{LongerFormed, Part, heldBefore, isMargin, NoneEarlier}
+use Rattle.method.specs.Demands.{LongerFormed, Part, heldBefore, Undecided, isMargin, NoneEarlier}
 use Rattle.method.proofs.Tables.{formed-is, cutTo, cut-part, cut-before}
 use Rattle.method.proofs.Reach.{reach-held}
 use Rattle.method.proofs.HighXofY.{lawful}
@@ -99,6 +99,14 @@ module _ (group : ℕ → Group) (t : Table) (r : Request) (room : ℕ)
   pub verdict-stable : isMargin (verdict group t r room) ≡ false → (l : Table) → LongerFormed l t
       → methodology group l r room ≡ verdict group t r room
   verdict-stable clear l x = demand3 group t r room well holds .stable (sym (ap isMargin is) ∙ clear) l x ∙ sym is
+
+  -- "'Margin too short' is given, once no earlier refusal applies, exactly when two longer well-formed histories .. have different baseline
+  -- windows"
+  pub verdict-margin : NoneEarlier t r room → (isMargin (verdict group t r room) ≡ true) ↔ Undecided group t r
+  verdict-margin n = (
+    λ e. demand3 group t r room well holds .only-when n (sym (ap isMargin is) ∙ e) .0,
+    λ u. ap isMargin is ∙ demand3 group t r room well holds .given-when n u,
+  )
 
   module _ (settled : isSettled (verdict group t r room) ≡ true) where
     settled-method : isSettled (methodology group t r room) ≡ true

@@ -1,41 +1,21 @@
 -- High X of Y is lawful: its days come from the look-back, N is below Y, and sorting only permutes.
 use mathlib.Core.Path.{_≡_, refl, sym, _∙_}
-use mathlib.Core.Bool.{Bool, true, false, cond, _||_, or-true}
-use mathlib.Core.List.{List, [], _∷_, map}
-use Prim.Native.Nat.{ℕ, _<_}
+use mathlib.Core.Bool.{true, cond}
+use Prim.Native.Nat.{ℕ, _≤_, _<_}
 use native.Mathlib.Omega.{arith}
-use lib.Dec.{eqb, ltb}
+use lib.Dec.{leb, ltb}
+use borrow.Author.Tests.{leb-true}
 use Rattle.lists.specs.Lists.{member}
-use Rattle.lists.proofs.Keep.{kept-member}
+use Rattle.lists.proofs.Keep.{and-left, and-right, kept-member, kept-holds}
 use Rattle.calendar.specs.declared.Group.{Group}
 use Rattle.calendar.specs.declared.Group.the-variants.{Weekday, Saturday, HolidayGroup}
 use Rattle.method.specs.declared.Request.{Request}
 use Rattle.method.specs.Relevant.{relevant, relevantDays, lookBack}
-use Rattle.method.specs.HighXofY.{highXofY, insertBy, sortBy, higher, Y, N}
+use Rattle.method.specs.HighXofY.{highXofY, higher, Y, N}
 use Rattle.method.specs.Lawful.{Lawful, Falling}
 use Rattle.method.proofs.Falling.{falling-keep}
+use Rattle.method.proofs.Sort.{member-sort}
 use Rattle.method.proofs.LookBack.{lookBack-is, lookBack-fall}
-
-swap : (a b c : Bool) → (a || (b || c)) ≡ (b || (a || c))
-swap true b c = sym (or-true b)
-swap false b c = refl
-
-module _ {A : Type 0} (before : A → A → Bool) (f : A → ℕ) (n : ℕ) where
-  member-insert : (x : A) (xs : List A) → member n (map f (insertBy before x xs)) ≡ (eqb n (f x) || member n (map f xs))
-  unfolding insertBy member
-  member-insert x [] = refl
-  member-insert x (y ∷ ys) = go (before x y) (member-insert x ys)
-    where
-      go : (b : Bool) → member n (map f (insertBy before x ys)) ≡ (eqb n (f x) || member n (map f ys))
-          → member n (map f (cond b (x ∷ y ∷ ys) (y ∷ insertBy before x ys))) ≡ (eqb n (f x) || (eqb n (f y) || member n (map f ys)))
-      go true ih = refl
-      go false ih = rw ih (swap (eqb n (f y)) (eqb n (f x)) (member n (map f ys)))
-
-  -- sorting neither adds nor loses
-  pub member-sort : (xs : List A) → member n (map f (sortBy before xs)) ≡ member n (map f xs)
-  unfolding sortBy member
-  member-sort [] = refl
-  member-sort (x ∷ xs) = member-insert x (sortBy before xs) ∙ rw (member-sort xs)
 
 fewer : (g : Group) → N g < Y g
 fewer Weekday = omega arith
@@ -51,6 +31,14 @@ module _ (group : ℕ → Group) (r : Request) where
   pub relevant-lookBack : (d : ℕ) → member d (relevantDays group r) ≡ true → member d (lookBack (r .event)) ≡ true
   unfolding relevantDays
   relevant-lookBack d e = kept-member (relevant group r) (lookBack (r .event)) d e
+
+  -- "is not below 0 or P"
+  pub relevant-participation : (d : ℕ) → member d (relevantDays group r) ≡ true → r .participation ≤ d
+  unfolding relevantDays relevant
+  relevant-participation d e =
+      let is = kept-holds (relevant group r) (lookBack (r .event)) d e in
+      let since : leb (r .participation) d ≡ true = search (and-left, and-right) in
+      leb-true (r .participation) d since
 
   relevant-fall : Falling (relevantDays group r)
   unfolding relevantDays

@@ -9,6 +9,7 @@ pub mod Stable
 pub mod Reach
 pub mod Apart
 pub mod Before
+pub mod Sort
 pub mod HighXofY
 pub mod Tables
 pub mod Replies

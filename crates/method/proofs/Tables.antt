@@ -217,7 +217,10 @@ module _ (k m : ℕ) (t : Table) (room : k ≤ t .first) where
         last = omega (arith, padded-days, w .last);
         good-marks = rw (all-append goodMark (replicate k m) (t .marks), all-replicate goodMark k m good) (w .good-marks);
         good-readings =
-            rw (all-append goodReading (replicate (offset (t .first - k) k) 0) (t .readings), all-replicate goodReading (offset (t .first - k) k) 0 refl)
+            rw (
+              all-append goodReading (replicate (offset (t .first - k) k) 0) (t .readings),
+              all-replicate goodReading (offset (t .first - k) k) 0 refl,
+            )
             (w .good-readings);
       })
     where
