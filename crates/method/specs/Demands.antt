@@ -1,8 +1,9 @@
 -- Demand 3 of the order (document 00), stated over the definitions. `proofs/Demand3` proves it for every group of days, table and request.
 use mathlib.Core.Path.{_≡_}
-use mathlib.Core.Bool.{Bool, true, false}
-use mathlib.Core.List.{List}
+use mathlib.Core.Bool.{Bool, true, false, _||_}
+use mathlib.Core.List.{List, reverse}
 use Prim.Native.Nat.{ℕ, _+_, _-_, _≤_, _<_}
+use lib.ListN.{getD}
 use lib.Dec.{eqb}
 use Rattle.lists.specs.Lists.{any, member}
 use Rattle.calendar.specs.declared.Group.{Group}
@@ -12,7 +13,7 @@ use Rattle.method.specs.declared.Refusal.the-variants.{MarginTooShort}
 use Rattle.method.specs.Table.{Table, heldDays, dayOf, held, history}
 use Rattle.method.specs.Method.{window, wholeReach, reach, dated}
 use Rattle.method.specs.HighXofY.{highXofY}
-use Rattle.method.specs.Verdict.{Reply, refused, answered, number, requestRefusals, methodology, wellFormed}
+use Rattle.method.specs.Verdict.{Reply, refused, answered, number, carries, requestRefusals, methodology, wellFormed}
 
 -- 01: "A longer history adds days before F, after the last, or both; it agrees with the extract when each of the extract's days has the
 -- same marks and readings in both." Here none need be added, which says more
@@ -55,6 +56,16 @@ abbrev pub isMargin : Reply → Bool
 isMargin (refused w) = eqb (number w) 8
 isMargin (answered a) = false
 
+-- the reply is "an answer, 'too few days' or 'no adjustment window'"
+abbrev pub isSettled : Reply → Bool
+isSettled (refused w) = eqb (number w) 9 || eqb (number w) 10
+isSettled (answered a) = true
+
+-- the reach that such a reply reports: the last of the numbers that 9 and 10 carry
+abbrev pub reported : Reply → ℕ
+reported (refused w) = getD (reverse (carries w)) 0 0
+reported (answered a) = a .reach
+
 -- no refusal before 8 applies
 abbrev pub NoneEarlier : Table → Request → ℕ → Type 0
 NoneEarlier t r room = any (λ (p : Bool × Refusal). p .0) (requestRefusals t r room) ≡ false
@@ -77,10 +88,12 @@ pub record Demand3 (group : ℕ → Group) (t : Table) (r : Request) (room : ℕ
   pub enough : wholeReach (highXofY group r) ≤ heldBefore t r → isMargin (methodology group t r room) ≡ false
   -- "The reported reach is the fewest days before the event that give this result.": a part of the table with so many days before the event
   -- gets the same reply, a part with fewer gets "margin too short", and there are parts with any number of days up to the reach
+  pub reports : isSettled (methodology group t r room) ≡ true
+      → reported (methodology group t r room) ≡ reach (highXofY group r) (history t)
   pub same : isMargin (methodology group t r room) ≡ false
       → (p : Table) → Part p t r → reach (highXofY group r) (history t) ≤ heldBefore p r
       → methodology group p r room ≡ methodology group t r room
-  pub fewer : NoneEarlier t r room → isMargin (methodology group t r room) ≡ false
+  pub fewer : NoneEarlier t r room
       → (p : Table) → Part p t r → heldBefore p r < reach (highXofY group r) (history t)
       → isMargin (methodology group p r room) ≡ true
   pub attained : NoneEarlier t r room → isMargin (methodology group t r room) ≡ false

@@ -1,0 +1,119 @@
+-- Demand 3 in the customer's words, over the verdict of a lent table: an extract that is well formed and holds the event.
+use mathlib.Core.Path.{_≡_, refl, sym, ap, _∙_}
+use mathlib.Core.Logic.{_↔_, ⊎-elim}
+use mathlib.Core.Bool.{Bool, true, false, cond, _||_}
+use mathlib.Core.List.{reverse}
+use mathlib.Core.Option.{Option, none, some}
+use Prim.Native.Nat.{ℕ, _-_, _≤_, _<_}
+use native.Mathlib.Omega.{arith}
+use lib.ListN.{length, getD}
+use lib.Dec.{leb, eqb}
+use borrow.Author.Tests.{leb-true, le-leb, eqb-true}
+use Rattle.lists.specs.Lists.{all}
+use Rattle.lists.proofs.Keep.{and-left, and-right, or-cases, clash}
+use Rattle.calendar.specs.declared.Group.{Group}
+use Rattle.method.specs.declared.Request.{Request}
+use Rattle.method.specs.declared.Refusal.the-variants.{MarginTooShort}
+use Rattle.method.specs.Table.{Table, Day, History, heldDays, held, history, shaped, isExtract}
+use Rattle.method.specs.Method.{Method, short, few, chose, dated, window, chosen, reach, wholeReach, isShort, outcome}
+use Rattle.method.specs.Adjustment.{Baseline}
+use Rattle.method.specs.HighXofY.{highXofY}
+use Rattle.method.specs.Verdict.{Reply, refused, answered, number, carries, tableRefusals, requestRefusals, closing, firstOf}
+use Rattle.method.specs.Verdict.{methodology, verdict, wellFormed}
+use Rattle.method.specs.Demands.{LongerFormed, Part, heldBefore, Undecided, isMargin, isSettled, reported, NoneEarlier}
+use Rattle.method.proofs.Tables.{formed-is, cutTo, cut-part, cut-before}
+use Rattle.method.proofs.Reach.{reach-held}
+use Rattle.method.proofs.HighXofY.{lawful}
+use Rattle.method.proofs.Replies.{earlier-cases, plain, hidden-other, margin-is}
+use Rattle.method.proofs.Settled.{settled-margin, settled-early, settled-reach}
+use Rattle.method.proofs.Demand3.{demand3}
+
+-- of a well-formed extract the verdict is the methodology's reply
+pub verdict-is : (group : ℕ → Group) (t : Table) (r : Request) (room : ℕ) → isExtract t ≡ true → wellFormed t ≡ true
+    → verdict group t r room ≡ methodology group t r room
+unfolding verdict tableRefusals firstOf
+verdict-is group t r room extract well =
+    let f = formed-is t well in
+    rw (extract, f .good-marks, f .good-readings)
+
+shaped-is : (t : Table) → wellFormed t ≡ true → shaped t ≡ true
+unfolding wellFormed
+shaped-is t e = search (and-left, and-right)
+
+-- a part of an extract is one
+part-extract : (t p : Table) (r : Request) → isExtract t ≡ true → Part p t r → isExtract p ≡ true
+unfolding isExtract
+part-extract t p r e x =
+    let most : leb (heldDays t) 128 ≡ true = search and-left in
+    let days = leb-true (heldDays t) 128 most in
+    rw (le-leb (heldDays p) 128 (omega (arith, x .longer .starts, x .longer .ends)), shaped-is p (x .formed))
+
+module _ (group : ℕ → Group) (t : Table) (r : Request) (room : ℕ)
+    (extract : isExtract t ≡ true) (well : wellFormed t ≡ true) (holds : held (history t) (r .event) ≡ true) where
+  is : verdict group t r room ≡ methodology group t r room
+  is = verdict-is group t r room extract well
+
+  -- "every longer well-formed history that agrees with the extract .. gets the same by the methodology, all numbers included"
+  pub verdict-stable : isMargin (verdict group t r room) ≡ false → (l : Table) → LongerFormed l t
+      → methodology group l r room ≡ verdict group t r room
+  verdict-stable clear l x = demand3 group t r room well holds .stable (sym (ap isMargin is) ∙ clear) l x ∙ sym is
+
+  -- "'Margin too short' is given, once no earlier refusal applies, exactly when two longer well-formed histories .. have different baseline
+  -- windows"
+  pub verdict-margin : NoneEarlier t r room → (isMargin (verdict group t r room) ≡ true) ↔ Undecided group t r
+  verdict-margin n = (
+    λ e. demand3 group t r room well holds .only-when n (sym (ap isMargin is) ∙ e) .0,
+    λ u. ap isMargin is ∙ demand3 group t r room well holds .given-when n u,
+  )
+
+  module _ (settled : isSettled (verdict group t r room) ≡ true) where
+    settled-method : isSettled (methodology group t r room) ≡ true
+    settled-method = rw is at settled
+
+    none-earlier : NoneEarlier t r room
+    none-earlier = settled-early group t r room settled-method
+
+    clear : isMargin (methodology group t r room) ≡ false
+    clear = settled-margin (methodology group t r room) settled-method
+
+    reported-is : reported (verdict group t r room) ≡ reach (highXofY group r) (history t)
+    reported-is = ap reported is ∙ settled-reach group t r room settled-method
+
+    within : reported (verdict group t r room) ≤ heldBefore t r
+    unfolding highXofY
+    within =
+        rw reported-is (reach-held (highXofY group r) (lawful group r) (history t) holds (sym (margin-is group t r room none-earlier) ∙ clear))
+
+    -- the table cut to `k` days before the event, at most the reach
+    module _ (k : ℕ) (e : k ≤ reported (verdict group t r room)) where
+      part : Part (cutTo t r k) t r
+      part = cut-part t r well holds k (omega (arith, e, within))
+
+      days : heldBefore (cutTo t r k) r ≡ k
+      days = cut-before t r well holds k (omega (arith, e, within))
+
+      part-is : verdict group (cutTo t r k) r room ≡ methodology group (cutTo t r k) r room
+      part-is = verdict-is group (cutTo t r k) r room (part-extract t (cutTo t r k) r extract part) (part .formed)
+
+    -- "The reported reach is the fewest days before the event that give this result."
+    pub reach-same : verdict group (cutTo t r (reported (verdict group t r room))) r room ≡ verdict group t r room
+    reach-same =
+        part-is k all ∙ demand3 group t r room well holds .same clear (cutTo t r k) (part k all) (omega (arith, reported-is, days k all)) ∙ sym is
+      where
+        k : ℕ
+        k = reported (verdict group t r room)
+
+        all : k ≤ k
+        all = omega arith
+
+    -- "one day less gives refusal 8 whenever reach is not 0", and so does any number of days less
+    pub reach-fewest : (k : ℕ) → k < reported (verdict group t r room)
+        → verdict group (cutTo t r k) r room ≡ refused (MarginTooShort (wholeReach (highXofY group r)))
+    reach-fewest k less = part-is k fits ∙ demand3 group (cutTo t r k) r room (part k fits .formed) (part k fits .holds) .carried margin
+      where
+        fits : k ≤ reported (verdict group t r room)
+        fits = omega arith
+
+        margin : isMargin (methodology group (cutTo t r k) r room) ≡ true
+        margin =
+            demand3 group t r room well holds .fewer none-earlier (cutTo t r k) (part k fits) (omega (arith, reported-is, days k fits))

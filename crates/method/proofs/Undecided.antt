@@ -1,0 +1,87 @@
+-- Two longer tables that show a margin too short: from a relevant day before the first on, every day is eligible in the one, and of no use
+-- in the other.
+use mathlib.Core.Path.{_≡_, refl}
+use mathlib.Core.Bool.{true, false}
+use Prim.Native.Nat.{ℕ, _-_, _≤_, _<_}
+use native.Mathlib.Omega.{arith}
+use Rattle.lists.specs.Lists.{member}
+use Rattle.calendar.specs.declared.Group.{Group}
+use Rattle.method.specs.declared.Request.{Request}
+use Rattle.method.specs.Table.{Table, heldDays, dayOf, held, history, present, goodMark}
+use Rattle.method.specs.Relevant.{relevantDays}
+use Rattle.method.specs.Method.{isShort}
+use Rattle.method.specs.HighXofY.{highXofY, complete, eligible, spare}
+use Rattle.method.specs.Verdict.{wellFormed}
+use Rattle.method.specs.Demands.{LongerFormed, windowDays, Undecided}
+use Rattle.method.proofs.Short.{short-day}
+use Rattle.method.proofs.Apart.{apart}
+use Rattle.method.proofs.HighXofY.{lawful}
+use Rattle.method.proofs.Tables.{longer-extends, padded, padded-days, padded-longer, padded-formed, padded-mark, padded-readings}
+
+-- a day put before a table is eligible under mark 0, and neither eligible nor spare under mark 2
+module _ (k : ℕ) (t : Table) (room : k ≤ t .first) (d : ℕ) (since : t .first - k ≤ d) (below : d < t .first) where
+  put-eligible : eligible (dayOf (padded k 0 t) d) ≡ true
+  unfolding eligible complete
+  put-eligible = rw (padded-readings k 0 t room d since below present refl, padded-mark k 0 t room d since below)
+
+  put-ineligible : eligible (dayOf (padded k 2 t) d) ≡ false
+  unfolding eligible complete
+  put-ineligible = rw (padded-readings k 2 t room d since below present refl, padded-mark k 2 t room d since below)
+
+  put-unspare : spare (dayOf (padded k 2 t) d) ≡ false
+  unfolding spare complete
+  put-unspare = rw (padded-readings k 2 t room d since below present refl, padded-mark k 2 t room d since below)
+
+module _ (group : ℕ → Group) (t : Table) (r : Request) (well : wellFormed t ≡ true) (holds : held (history t) (r .event) ≡ true)
+    (short : isShort (highXofY group r) (history t) ≡ true) where
+  -- a relevant day before the first
+  k : ℕ
+  k = short-day (highXofY group r) (history t) short .0
+
+  k-relevant : member k (relevantDays group r) ≡ true
+  unfolding k highXofY
+  k-relevant = short-day (highXofY group r) (history t) short .1
+
+  k-before : k < t .first
+  unfolding k
+  k-before = short-day (highXofY group r) (history t) short .2
+
+  gap : ℕ
+  gap = t .first - k
+
+  room : gap ≤ t .first
+  unfolding gap
+  room = omega arith
+
+  filled : ℕ → Table
+  filled mark = padded gap mark t
+
+  filled-longer : (mark : ℕ) → goodMark mark ≡ true → LongerFormed (filled mark) t
+  unfolding filled
+  filled-longer mark good = record { formed = padded-formed gap mark t room good well; longer = padded-longer gap mark t room }
+
+  filled-days : (mark : ℕ) → heldDays t < heldDays (filled mark)
+  unfolding filled gap
+  filled-days mark = omega (arith, padded-days gap mark t room, k-before)
+
+  windows : (d : ℕ) × (member d (windowDays group (filled 0) r) ≡ true) × (member d (windowDays group (filled 2) r) ≡ false)
+  unfolding highXofY filled padded gap
+  windows =
+      apart (highXofY group r) (lawful group r) (history t) (history (filled 0)) (history (filled 2))
+      (longer-extends (padded-longer gap 0 t room)) (longer-extends (padded-longer gap 2 t room)) holds short
+      (put-eligible gap t room) (put-ineligible gap t room) (put-unspare gap t room) k k-relevant k-before (omega (arith, k-before))
+
+  pub undecided : (u : Undecided group t r) × (heldDays t < heldDays (u .one)) × (heldDays t < heldDays (u .other))
+  undecided = (
+    record {
+      one = filled 0;
+      other = filled 2;
+      one-longer = filled-longer 0 refl;
+      other-longer = filled-longer 2 refl;
+      day = windows .0;
+      inside = windows .1;
+      outside = windows .2;
+    },
+    filled-days 0,
+    filled-days 2,
+  )
