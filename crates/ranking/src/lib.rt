@@ -19,7 +19,8 @@ pub fn nearness_of(word: u64) -> u32
     (word % 64) as u32
 }
 
-// A word put before the first of the row that is smaller; the last of eleven is lost.
+// A word put before the first of the row that is smaller; the last of eleven is lost. One pass with no branch: from that place on each
+// word makes room for the one in the hand.
 pub fn insert(row: [u64; 10], word: u64) -> [u64; 10]
     ensures { λ r. ⌜ r ≡ take 10 (insertDown word row) ⌝ }
 {
@@ -29,7 +30,7 @@ pub fn insert(row: [u64; 10], word: u64) -> [u64; 10]
     let mut i = 0;
     while i < 10 {
         let here = out[i];
-        if placed | (here < carry) {
+        if placed | (here < word) {
             out[i] = carry;
             carry = here;
             placed = true;
