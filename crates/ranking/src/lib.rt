@@ -19,7 +19,8 @@ pub fn nearness_of(word: u64) -> u32
     (word % 64) as u32
 }
 
-// A word put before the first of the row that is smaller; the last of eleven is lost.
+// A word put before the first of the row that is smaller; the last of eleven is lost. One pass with no branch: from that place on each
+// word makes room for the one in the hand.
 pub fn insert(row: [u64; 10], word: u64) -> [u64; 10]
     ensures { λ r. ⌜ r ≡ take 10 (insertDown word row) ⌝ }
 {
@@ -29,7 +30,7 @@ pub fn insert(row: [u64; 10], word: u64) -> [u64; 10]
     let mut i = 0;
     while i < 10 {
         let here = out[i];
-        if placed | (here < carry) {
+        if placed | (here < word) {
             out[i] = carry;
             carry = here;
             placed = true;
@@ -44,14 +45,14 @@ pub fn insert_all(words: [u64; 10], count: usize, row: [u64; 10]) -> [u64; 10]
     ensures { λ r. ⌜ r ≡ insertAll (take count words) row ⌝ }
 {
     let mut kept = row;
-    let mut i = 0;
-    while i < 10 {
-        if count <= i {
+    let mut done = 0;
+    while done < 10 {
+        if count <= done {
             return kept;
         }
-        let next = insert(kept, words[i]);
+        let next = insert(kept, words[done]);
         kept = next;
-        i += 1;
+        done += 1;
     }
     kept
 }

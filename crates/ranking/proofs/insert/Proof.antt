@@ -15,7 +15,7 @@ abbrev μ-loop : tie.MeasureT-loop
 μ-loop word out₀ carry₀ placed₀ i₀ out carry placed i = 10 - i
 
 loop-holds : tie.Need-loop-holds Inv-loop μ-loop
-loop-holds c = record { within = search needs; size = search needs; will = refl }
+loop-holds c = record { within = search needs; size = search needs; held = λ e. refl; will = refl }
 
 mul-here : tie.Need-mul-here Inv-loop μ-loop
 mul-here c = omega arith
