@@ -92,11 +92,18 @@ month-length y m h =
 
 -- what is left to test of a date whose year and month are right
 pub date-test :
-    (y m d : ℕ) → 2000 ≤ y → y ≤ 2099 → 1 ≤ m → m ≤ 12 → 1 ≤ d →
+    (y m d : ℕ) → (2000 ≤ y) × (y ≤ 2099) × (1 ≤ m) × (m ≤ 12) × (1 ≤ d) →
     isDate y m d ≡ leb d (sumOf (take m (months y)) - sumOf (take (m - 1) (months y)))
 unfolding isDate
-date-test y m d a b e f g =
-    rw (le-leb 2000 y a, le-leb y 2099 b, le-leb 1 m e, le-leb m 12 f, le-leb 1 d g, month-length y m e)
+date-test y m d h =
+    rw (
+      le-leb 2000 y (h .0),
+      le-leb y 2099 (h .1),
+      le-leb 1 m (h .2),
+      le-leb m 12 (h .3),
+      le-leb 1 d (h .4),
+      month-length y m (h .2),
+    )
 
 -- a date lies in its year
 pub date-in-year : (y m d : ℕ) → Real y m d → (newYear y ≤ dayNumber y m d) × (dayNumber y m d < newYear (y + 1))
@@ -175,14 +182,14 @@ day-date-day d h = go (locate (months (yearOf d)) (d - newYear (yearOf d)) (year
         let few = held-below (months (yearOf d)) k (omega arith) in
         let over : 1 + k - 1 ≡ k = omega arith in
         let real : Real (yearOf d) (1 + k) (j + 1) =
-          record {
-            first = in-year .0;
-            last = in-year .1;
-            least = omega arith;
-            most = omega arith;
-            begun = omega arith;
-            going = rw over (omega arith)
-          }
+        record {
+          first = in-year .0;
+          last = in-year .1;
+          least = omega arith;
+          most = omega arith;
+          begun = omega arith;
+          going = rw over (omega arith);
+        }
         in
         rw (date-at d k j e b)
         (is-date (yearOf d) (1 + k) (j + 1) real, rw over (omega (arith, in-its-year d)))
@@ -200,6 +207,7 @@ date-day-date y m d h =
     let b = date-in-year y m d r in
     let month : 1 + (m - 1) ≡ m = omega arith in
     let day : d - 1 + 1 ≡ d = omega arith in
-    let e = after-at y 1 (months y) (m - 1) (d - 1) (omega arith) in
-    (omega (arith, calendar-end y (r .last)),
-    rw (year-of-day y (dayNumber y m d) (r .first) (b .0) (b .1), passed-in-year y m d) (rw (month, day) at e))
+    let e = after-at y 1 (months y) (m - 1) (d - 1) (omega arith) in (
+      omega (arith, calendar-end y (r .last)),
+      rw (year-of-day y (dayNumber y m d) (r .first) (b .0) (b .1), passed-in-year y m d) (rw (month, day) at e),
+    )
