@@ -13,7 +13,7 @@ use lib.ListN.{getD, take}
 use Rattle.lists.specs.Lists.{sumOf}
 use Rattle.lists.proofs.Bools.{lt-or-le, both}
 use Rattle.lists.proofs.Sums.{sum-take-suc, sum-take-le, held-below}
-use Rattle.calendar.specs.Days.{lastDay, inCalendar, leap, months, newYear, yearOf, dayNumber, isDate, numbered, dateAfter, dateOf, dated}
+use Rattle.calendar.specs.Days.{lastDay, inCalendar, months, newYear, yearOf, dayNumber, isDate, numbered, dateAfter, dateOf, dated}
 use Rattle.calendar.specs.declared.Date.{Date}
 use Rattle.calendar.specs.declared.Numbered.the-variants.{Day}
 use Rattle.calendar.specs.declared.Dated.the-variants.{On}
