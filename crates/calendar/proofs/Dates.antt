@@ -13,7 +13,7 @@ use lib.ListN.{getD, take}
 use Rattle.lists.specs.Lists.{sumOf}
 use Rattle.lists.proofs.Bools.{lt-or-le, both}
 use Rattle.lists.proofs.Sums.{sum-take-suc, sum-take-le, held-below}
-use Rattle.calendar.specs.Days.{lastDay, inCalendar, leap, months, newYear, yearOf, dayNumber, isDate, numbered, dateAfter, dateOf, dated}
+use Rattle.calendar.specs.Days.{lastDay, inCalendar, months, newYear, yearOf, dayNumber, isDate, numbered, dateAfter, dateOf, dated}
 use Rattle.calendar.specs.declared.Date.{Date}
 use Rattle.calendar.specs.declared.Numbered.the-variants.{Day}
 use Rattle.calendar.specs.declared.Dated.the-variants.{On}
@@ -92,11 +92,18 @@ month-length y m h =
 
 -- what is left to test of a date whose year and month are right
 pub date-test :
-    (y m d : ℕ) → 2000 ≤ y → y ≤ 2099 → 1 ≤ m → m ≤ 12 → 1 ≤ d →
+    (y m d : ℕ) → (2000 ≤ y) × (y ≤ 2099) × (1 ≤ m) × (m ≤ 12) × (1 ≤ d) →
     isDate y m d ≡ leb d (sumOf (take m (months y)) - sumOf (take (m - 1) (months y)))
 unfolding isDate
-date-test y m d a b e f g =
-    rw (le-leb 2000 y a, le-leb y 2099 b, le-leb 1 m e, le-leb m 12 f, le-leb 1 d g, month-length y m e)
+date-test y m d h =
+    rw (
+      le-leb 2000 y (h .0),
+      le-leb y 2099 (h .1),
+      le-leb 1 m (h .2),
+      le-leb m 12 (h .3),
+      le-leb 1 d (h .4),
+      month-length y m (h .2),
+    )
 
 -- a date lies in its year
 pub date-in-year : (y m d : ℕ) → Real y m d → (newYear y ≤ dayNumber y m d) × (dayNumber y m d < newYear (y + 1))

@@ -1,7 +1,7 @@
 -- Membership: of two lists joined, and a rule that holds of each element of a list holds of its members.
 use Prim.Native.Nat.{ℕ}
 use mathlib.Core.Path.{_≡_, refl, subst, sym}
-use mathlib.Core.Bool.{Bool, true, _||_, or-assoc, false≢true}
+use mathlib.Core.Bool.{true, _||_, or-assoc, false≢true}
 use mathlib.Core.List.{List, [], _∷_, _++_}
 use mathlib.Core.Logic.{⊎-elim}
 use lib.Dec.{eqb}

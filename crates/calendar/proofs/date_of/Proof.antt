@@ -1,55 +1,39 @@
+-- `calendar::date_of` meets its contract: the months over and the days before them are the definition's, by the laws of Dates.
+use borrow.Author.Needs.{needs}
 use borrow.Author.Tests.{lt-leb}
-use native.Mathlib.Omega.{arith}
 use Rattle.calendar.specs.Days.{dated}
 use Rattle.calendar.proofs.Dates.{first-le, year-over, dated-on}
-use borrow.Author.Needs.{needs}
 use Rattle.calendar.proofs.date_of.Statement.{statement}
 use Rattle.calendar.proofs.date_of.Tie as tie
-use Rattle.calendar.proofs.date_of.Reads as reads
-use Rattle.calendar.proofs.date_of.Lts as lts
-use Rattle.calendar.proofs.days_of_months.Reads as days-of-months-reads
-use Rattle.calendar.proofs.months_over.Reads as months-over-reads
-use Rattle.calendar.proofs.new_year.Reads as new-year-reads
-use Rattle.calendar.proofs.year_of.Reads as year-of-reads
 
--- src/lib.rt:124:9
 returns : tie.Need-returns
 unfolding dated
 returns c = simp (lt-leb _ _ (c .if1 .taken))
 
--- src/lib.rt:126:9
 year-of-requires : tie.Need-year-of-requires
 year-of-requires c κs = search needs
 
--- src/lib.rt:127:24
 new-year-requires : tie.Need-new-year-requires
 new-year-requires c κs = search needs
 
--- src/lib.rt:127:18
 sub-passed : tie.Need-sub-passed
 sub-passed c = first-le (c .before .before .before .args .day) (c .before .year-of .ensures .0) (c .new-year .ensures .0)
 
--- src/lib.rt:128:9
 months-over-requires : tie.Need-months-over-requires
 months-over-requires c κs = year-over (c .before .before .before .args .day) (c .before .year-of .ensures .0) (c .new-year .ensures .0)
 
--- src/lib.rt:131:16
 add-t6 : tie.Need-add-t6
 add-t6 c = search needs
 
--- src/lib.rt:132:23
 days-of-months-requires : tie.Need-days-of-months-requires
 days-of-months-requires c κs = search needs
 
--- src/lib.rt:132:14
 sub-t8 : tie.Need-sub-t8
 sub-t8 c = search needs
 
--- src/lib.rt:132:14
 add-t9 : tie.Need-add-t9
 add-t9 c = search needs
 
--- src/lib.rt:120:1
 returns-2 : tie.Need-returns-2
 returns-2 c = dated-on _ _ _ _ _ (c .before .before .before .before .if1 .left) (c .before .before .before .year-of .ensures .0) (c .before .before .new-year .ensures .0) (c .days-of-months .ensures .0) (search needs) (c .before .months-over .ensures .2)
 

@@ -1,34 +1,26 @@
+-- `calendar::days_of_months` meets its contract: the table of a common year, which the laws of Months tie to the months' sum.
 use Prim.Native.Nat.{_<_}
 use native.Mathlib.Omega.{arith}
-use Rattle.calendar.proofs.Months.{common-le, days-few, days-more}
 use borrow.Author.Needs.{needs}
+use Rattle.calendar.proofs.Months.{common-le, days-few, days-more}
 use Rattle.calendar.proofs.days_of_months.Statement.{statement}
 use Rattle.calendar.proofs.days_of_months.Tie as tie
-use Rattle.calendar.proofs.days_of_months.Reads as reads
-use Rattle.calendar.proofs.days_of_months.Lts as lts
-use Rattle.calendar.proofs.leap.Reads as leap-reads
 
--- src/lib.rt:62:18
 mul-common : tie.Need-mul-common
 mul-common c = search needs
 
--- src/lib.rt:62:18
 array-read-common : tie.Need-array-read-common
 array-read-common c = search needs
 
--- src/lib.rt:63:45
 leap-requires : tie.Need-leap-requires
 leap-requires c κs = search needs
 
--- src/lib.rt:63:36
 add-result : tie.Need-add-result
 add-result c = omega (arith, common-le (c .before .before .args .count) (search needs))
 
--- src/lib.rt:58:1
 returns : tie.Need-returns
 returns c = let a = c .before .args in let k : a .count < 13 = omega arith in (days-few (a .year) (a .count) (c .if1 .taken), omega (arith, common-le (a .count) k))
 
--- src/lib.rt:58:1
 returns-2 : tie.Need-returns-2
 returns-2 c = let a = c .before .before .args in let k : a .count < 13 = omega arith in (rw (c .leap .ensures .0) (days-more (a .year) (a .count) (search needs) k), omega (arith, common-le (a .count) k))
 

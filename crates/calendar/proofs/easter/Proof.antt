@@ -1,79 +1,60 @@
-use borrow.Author.Tests.{lt-leb}
+-- `calendar::easter` meets its contract: outside the calendar the definition is 0; inside it is the sum of the law `easter-sum`.
 use mathlib.Core.Bool.{and-false}
 use native.Mathlib.Omega.{arith}
+use borrow.Author.Needs.{needs}
+use borrow.Author.Tests.{lt-leb}
 use Rattle.calendar.specs.Holidays.{easter}
 use Rattle.calendar.proofs.EasterSum.{easter-sum}
-use borrow.Author.Needs.{needs}
 use Rattle.calendar.proofs.easter.Statement.{statement}
 use Rattle.calendar.proofs.easter.Tie as tie
-use Rattle.calendar.proofs.easter.Reads as reads
-use Rattle.calendar.proofs.easter.Lts as lts
-use Rattle.calendar.proofs.leap.Reads as leap-reads
-use Rattle.calendar.proofs.new_year.Reads as new-year-reads
 
--- src/lib.rt:142:9
 returns : tie.Need-returns
 unfolding easter
 returns c = simp (lt-leb _ _ (c .if1 .taken))
 
--- src/lib.rt:145:9
 returns-2 : tie.Need-returns-2
 unfolding easter
 returns-2 c = simp (lt-leb _ _ (c .if2 .taken), and-false)
 
--- src/lib.rt:147:14
 mul-d : tie.Need-mul-d
 mul-d c = search needs
 
--- src/lib.rt:147:14
 add-d : tie.Need-add-d
 add-d c = search needs
 
--- src/lib.rt:148:14
 mul-e : tie.Need-mul-e
 mul-e c = search needs
 
--- src/lib.rt:148:31
 mul-e-2 : tie.Need-mul-e-2
 mul-e-2 c = search needs
 
--- src/lib.rt:148:14
 add-e : tie.Need-add-e
 add-e c = search needs
 
--- src/lib.rt:148:14
 add-e-2 : tie.Need-add-e-2
 add-e-2 c = search needs
 
--- src/lib.rt:148:14
 sub-e : tie.Need-sub-e
 sub-e c = search needs
 
--- src/lib.rt:149:5
 new-year-requires : tie.Need-new-year-requires
 new-year-requires c κs = search needs
 
--- src/lib.rt:149:22
 leap-requires : tie.Need-leap-requires
 leap-requires c κs = search needs
 
--- src/lib.rt:149:5
 add-result : tie.Need-add-result
 add-result c = search needs
 
--- src/lib.rt:149:5
 add-result-2 : tie.Need-add-result-2
 add-result-2 c = search needs
 
--- src/lib.rt:149:5
 add-result-3 : tie.Need-add-result-3
 add-result-3 c = search needs
 
--- src/lib.rt:149:5
 add-result-4 : tie.Need-add-result-4
 add-result-4 c = search needs
 
--- src/lib.rt:138:1
 returns-3 : tie.Need-returns-3
 returns-3 c = omega (arith, easter-sum (c .before .before .before .before .args .year) (search needs) (search needs))
 

@@ -1,57 +1,46 @@
-use mathlib.Core.Path.{sym}
-use Rattle.calendar.proofs.Dates.{date-test}
-use Rattle.lists.proofs.Sums.{sum-before}
-use borrow.Author.Tests.{lt-leb}
+-- `calendar::is_date` meets its contract: each test that fails makes the definition false; a month's length is the difference of two sums.
 use mathlib.Core.Bool.{and-false}
+use mathlib.Core.Path.{sym}
 use native.Mathlib.Omega.{arith}
-use Rattle.calendar.specs.Days.{months, isDate}
 use borrow.Author.Needs.{needs}
+use borrow.Author.Tests.{lt-leb}
+use Rattle.lists.proofs.Sums.{sum-before}
+use Rattle.calendar.specs.Days.{months, isDate}
+use Rattle.calendar.proofs.Dates.{date-test}
 use Rattle.calendar.proofs.is_date.Statement.{statement}
 use Rattle.calendar.proofs.is_date.Tie as tie
-use Rattle.calendar.proofs.is_date.Reads as reads
-use Rattle.calendar.proofs.is_date.Lts as lts
-use Rattle.calendar.proofs.days_of_months.Reads as days-of-months-reads
 
--- src/lib.rt:71:9
 returns : tie.Need-returns
 unfolding isDate
 returns c = simp (lt-leb _ _ (c .if1 .taken))
 
--- src/lib.rt:74:9
 returns-2 : tie.Need-returns-2
 unfolding isDate
 returns-2 c = simp (lt-leb _ _ (c .if2 .taken), and-false)
 
--- src/lib.rt:77:9
 returns-3 : tie.Need-returns-3
 unfolding isDate
 returns-3 c = simp (lt-leb _ _ (c .if3 .taken), and-false)
 
--- src/lib.rt:80:9
 returns-4 : tie.Need-returns-4
 unfolding isDate
 returns-4 c = simp (lt-leb _ _ (c .if4 .taken), and-false)
 
--- src/lib.rt:83:9
 returns-5 : tie.Need-returns-5
 unfolding isDate
 returns-5 c = simp (lt-leb _ _ (c .if5 .taken), and-false)
 
--- src/lib.rt:85:12
 days-of-months-requires : tie.Need-days-of-months-requires
 days-of-months-requires c κs = search needs
 
--- src/lib.rt:85:42
 days-of-months-requires-2 : tie.Need-days-of-months-requires-2
 days-of-months-requires-2 c κs = search needs
 
--- src/lib.rt:85:12
 sub-result : tie.Need-sub-result
 sub-result c = let a = c .before .before .before .before .before .before .before .args in rw (c .days-of-months2 .ensures .0, c .before .days-of-months .ensures .0) (sum-before (months (a .year)) (a .month))
 
--- src/lib.rt:67:1
 returns-6 : tie.Need-returns-6
-returns-6 c = let a = c .before .before .before .before .before .before .before .args in rw (c .days-of-months2 .ensures .0, c .before .days-of-months .ensures .0) (sym (date-test (a .year) (a .month) (a .day) (search needs) (search needs) (search needs) (search needs) (search needs)))
+returns-6 c = let a = c .before .before .before .before .before .before .before .args in rw (c .days-of-months2 .ensures .0, c .before .days-of-months .ensures .0) (sym (date-test (a .year) (a .month) (a .day) (omega arith)))
 
 pub is-date-spec : {M : Type 1} → statement M
 is-date-spec =

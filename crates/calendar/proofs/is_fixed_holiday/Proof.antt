@@ -1,54 +1,40 @@
+-- `calendar::is_fixed_holiday` meets its contract: the eight dates are the sums of the law `fixed-sums`, in the definition's order.
+use borrow.Author.Needs.{needs}
 use Rattle.lists.specs.Lists.{member}
 use Rattle.calendar.proofs.Holidays.{fixed-sums}
-use borrow.Author.Needs.{needs}
 use Rattle.calendar.proofs.is_fixed_holiday.Statement.{statement}
 use Rattle.calendar.proofs.is_fixed_holiday.Tie as tie
-use Rattle.calendar.proofs.is_fixed_holiday.Reads as reads
-use Rattle.calendar.proofs.is_fixed_holiday.Lts as lts
-use Rattle.calendar.proofs.leap.Reads as leap-reads
-use Rattle.calendar.proofs.new_year.Reads as new-year-reads
 
--- src/lib.rt:157:9
 new-year-requires : tie.Need-new-year-requires
 new-year-requires c κs = search needs
 
--- src/lib.rt:158:25
 leap-requires : tie.Need-leap-requires
 leap-requires c κs = search needs
 
--- src/lib.rt:158:17
 add-later : tie.Need-add-later
 add-later c = search needs
 
--- src/lib.rt:160:20
 add-result : tie.Need-add-result
 add-result c = search needs
 
--- src/lib.rt:161:24
 add-result-2 : tie.Need-add-result-2
 add-result-2 c = search needs
 
--- src/lib.rt:162:28
 add-result-3 : tie.Need-add-result-3
 add-result-3 c = search needs
 
--- src/lib.rt:163:32
 add-result-4 : tie.Need-add-result-4
 add-result-4 c = search needs
 
--- src/lib.rt:164:36
 add-result-5 : tie.Need-add-result-5
 add-result-5 c = search needs
 
--- src/lib.rt:164:60
 add-result-6 : tie.Need-add-result-6
 add-result-6 c = search needs
 
--- src/lib.rt:164:84
 add-result-7 : tie.Need-add-result-7
 add-result-7 c = search needs
 
--- src/lib.rt:153:1
 returns : tie.Need-returns
 unfolding member
 returns c = rw (fixed-sums (c .before .before .args .year), c .before .new-year .ensures .0, c .leap .ensures .0)

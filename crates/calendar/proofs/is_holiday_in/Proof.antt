@@ -1,22 +1,16 @@
+-- `calendar::is_holiday_in` meets its contract: membership in two lists joined.
+use borrow.Author.Needs.{needs}
 use Rattle.lists.proofs.Members.{member-append}
 use Rattle.calendar.specs.Holidays.{fixedHolidays, easterHolidays, holidays}
-use borrow.Author.Needs.{needs}
 use Rattle.calendar.proofs.is_holiday_in.Statement.{statement}
 use Rattle.calendar.proofs.is_holiday_in.Tie as tie
-use Rattle.calendar.proofs.is_holiday_in.Reads as reads
-use Rattle.calendar.proofs.is_holiday_in.Lts as lts
-use Rattle.calendar.proofs.is_easter_holiday.Reads as is-easter-holiday-reads
-use Rattle.calendar.proofs.is_fixed_holiday.Reads as is-fixed-holiday-reads
 
--- src/lib.rt:182:5
 is-fixed-holiday-requires : tie.Need-is-fixed-holiday-requires
 is-fixed-holiday-requires c κs = search needs
 
--- src/lib.rt:182:35
 is-easter-holiday-requires : tie.Need-is-easter-holiday-requires
 is-easter-holiday-requires c κs = search needs
 
--- src/lib.rt:178:1
 returns : tie.Need-returns
 unfolding holidays
 returns c = let y = c .before .before .args .year in cc (member-append (c .before .before .args .day) (fixedHolidays y) (easterHolidays y))
