@@ -1,0 +1,24 @@
+//! search [FIRST [COUNT]]: compares COUNT generated calls (a million) from seed FIRST (0) on, and stops at the first that differs.
+
+fn main() {
+    let mut words = std::env::args().skip(1);
+    let mut number = |default: u64| match words.next() {
+        None => default,
+        Some(word) => word.parse().unwrap_or_else(|_| {
+            eprintln!("search [FIRST [COUNT]]: compares generated calls with the reference; FIRST and COUNT are numbers");
+            std::process::exit(2)
+        }),
+    };
+    let (first, count) = (number(0), number(1_000_000));
+    let mut outcomes = [0u64; 11];
+    for seed in first..first + count {
+        match compare::compare(seed) {
+            Ok(number) => outcomes[number as usize] += 1,
+            Err(difference) => {
+                println!("{difference}");
+                std::process::exit(1);
+            }
+        }
+    }
+    println!("{count} calls from seed {first} agree: answers {}, refusals 1 to 10 {:?}", outcomes[0], &outcomes[1..]);
+}
