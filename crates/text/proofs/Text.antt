@@ -74,19 +74,27 @@ module _ (d : List ℕ) (at : ℕ) (a b : List ℕ) (fits : at + length a + leng
   -- two texts in a row are one, in whichever order they are put
   pub put-put : put (put d at a) (at + length a) b ≡ put d at (a ++ b)
   put-put =
-      rw (both-whole, put-whole (put d at a) (at + length a) b (rw put-length fits), take-next d at a (omega arith), ← drop-drop (length b) (at + length a) (put d at a), drop-put, drop-drop)
+      rw (both-whole, put-whole (put d at a) (at + length a) b (rw put-length fits), take-next d at a (omega arith), after)
+    where
+      after : drop (at + length a + length b) (put d at a) ≡ drop (at + length a + length b) d
+      after = rw (← drop-drop (length b) (at + length a) (put d at a), drop-put, drop-drop)
 
   pub put-back : put (put d (at + length a) b) at a ≡ put d at (a ++ b)
   put-back =
-      let before : take at (put d (at + length a) b) ≡ take at d =
-      rw (← take-take at (at + length a) (put d (at + length a) b) (omega arith), take-put, take-take at (at + length a) d (omega arith))
-      in rw (both-whole, put-whole (put d (at + length a) b) at a (rw put-length (omega arith)), drop-here d (at + length a) b fits, before, ← append-assoc)
+      let e = put d (at + length a) b in
+      rw (both-whole, put-whole e at a (rw put-length (omega arith)), drop-here d (at + length a) b fits, before, ← append-assoc)
+    where
+      before : take at (put d (at + length a) b) ≡ take at d
+      before =
+          let within : at ≤ at + length a = omega arith in
+          rw (← take-take at (at + length a) (put d (at + length a) b) within, take-put, take-take)
 
 -- the place after two texts in a row, where the first fits
 pub next-next :
     (d : List ℕ) (at : ℕ) (a b : List ℕ) → at + length a ≤ length d → next d (next d at a) b ≡ next d at (a ++ b)
 next-next d at a b h =
-    rw (next-within d at a (omega arith), next-within d (at + length a) b h, next-within d at (a ++ b) (omega arith), length-append, add-assoc)
+    let o : at ≤ length d = omega arith in
+    rw (next-within d at a, next-within d (at + length a) b, next-within d at (a ++ b), length-append, add-assoc)
 
 module _ {d : List ℕ} {at r : ℕ} {a e : List ℕ} where
   -- a place within the buffer shows that the text fit
@@ -95,7 +103,9 @@ module _ {d : List ℕ} {at r : ℕ} {a e : List ℕ} where
       ⊎-elim (λ (o : length d < at). omega (arith, p .next ∙ next-past d at a o))
       (λ (o : at ≤ length d). omega (arith, p .next ∙ next-within d at a o)) (lt-or-le (length d) at)
 
-  pub in-a-row : {b f : List ℕ} {s : ℕ} → Puts d at a r e → Puts e r b s f → at + length a + length b ≤ length d → Puts d at (a ++ b) s f
+  -- two texts put in a row are one that is put
+  pub in-a-row :
+      {b f : List ℕ} {s : ℕ} → Puts d at a r e → Puts e r b s f → at + length a + length b ≤ length d → Puts d at (a ++ b) s f
   in-a-row {b} {f} {s} p q fits =
       let place : r ≡ at + length a = p .next ∙ next-within d at a (omega arith) in
       let size : length e ≡ length d = ap length (p .holds) ∙ put-length d at a in

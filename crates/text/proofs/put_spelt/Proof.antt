@@ -22,8 +22,8 @@ same-length c = search needs
 
 returns : tie.Need-returns
 returns c =
-    let a = c .before .before .before .before .before .before .before .before .args .spelt in
-    rw (ending (a .bytes) (a .start) (c .before .before .before .before .before .before .before .before .pre .0)) at (c .before .before .put-bytes .ensures)
+    let s = c .before .before .before .before .before .before .before .before in
+    rw (ending (s .args .spelt .bytes) (s .args .spelt .start) (s .pre .0)) at (c .before .before .put-bytes .ensures)
 
 pub put-spelt-spec : {M : Type 1} → statement M
 put-spelt-spec =

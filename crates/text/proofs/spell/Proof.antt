@@ -1,12 +1,11 @@
+-- `text::spell` meets its contract. The loop's invariant: what is left of the number, spelt, and the bytes so far are the whole (`Spelling`).
 use mathlib.Core.Path.{refl}
 use mathlib.Core.List.{append-nil}
-use Rattle.text.specs.Text.{dec}
 use native.Mathlib.Omega.{arith}
+use Rattle.text.specs.Text.{dec}
 use Rattle.text.proofs.Spelling.{Spelling, room, one-more, last-one}
 use Rattle.text.proofs.spell.Statement.{statement}
 use Rattle.text.proofs.spell.Tie as tie
-use Rattle.text.proofs.spell.Reads as reads
-use Rattle.text.proofs.spell.Lts as lts
 
 abbrev Inv-loop : tie.InvT-loop
 Inv-loop n bytes₀ start₀ rest₀ bytes start rest = Spelling n bytes start rest
@@ -14,47 +13,36 @@ Inv-loop n bytes₀ start₀ rest₀ bytes start rest = Spelling n bytes start r
 abbrev μ-loop : tie.MeasureT-loop
 μ-loop n bytes₀ start₀ rest₀ bytes start rest = rest
 
--- src/lib.rt:40:5
 loop-holds : tie.Need-loop-holds Inv-loop μ-loop
 loop-holds c = record { small = omega arith; size = refl; within = omega arith; left = append-nil (dec (c .args .n)) }
 
--- src/lib.rt:41:29
 cast-bytes : tie.Need-cast-bytes Inv-loop μ-loop
 cast-bytes c = omega arith
 
--- src/lib.rt:41:24
 add-bytes : tie.Need-add-bytes Inv-loop μ-loop
 add-bytes c = omega arith
 
--- src/lib.rt:41:9
 array-write-bytes : tie.Need-array-write-bytes Inv-loop μ-loop
 array-write-bytes c = omega arith
 
--- src/lib.rt:43:9
 sub-start : tie.Need-sub-start Inv-loop μ-loop
 sub-start c = room (c .before .loop .inv) (c .loop-test .taken)
 
--- src/lib.rt:40:5
 loop-less : tie.Need-loop-less Inv-loop μ-loop
 loop-less c = omega arith
 
--- src/lib.rt:40:5
 loop-again : tie.Need-loop-again Inv-loop μ-loop
 loop-again c = one-more (c .before .loop .inv) (c .loop-test .taken)
 
--- src/lib.rt:45:25
 cast-bytes-2 : tie.Need-cast-bytes-2 Inv-loop μ-loop
 cast-bytes-2 c = omega arith
 
--- src/lib.rt:45:20
 add-bytes-2 : tie.Need-add-bytes-2 Inv-loop μ-loop
 add-bytes-2 c = omega arith
 
--- src/lib.rt:45:5
 array-write-bytes-2 : tie.Need-array-write-bytes-2 Inv-loop μ-loop
 array-write-bytes-2 c = omega arith
 
--- src/lib.rt:34:1
 returns : tie.Need-returns Inv-loop μ-loop
 returns c = last-one (c .before .loop .inv) (c .loop-test .left)
 

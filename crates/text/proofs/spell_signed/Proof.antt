@@ -30,7 +30,8 @@ spell-requires c κs = search needs
 returns : tie.Need-returns
 returns c =
     let a = c .before .before .before in
-    negative (toZ-ofZ w64 (a .args .z) (a .fits .z)) (c .before .before .if1 .taken) (c .before .magnitude .ensures) (c .spell-negative .ensures)
+    negative (toZ-ofZ w64 (a .args .z) (a .fits .z)) (c .before .before .if1 .taken) (c .before .magnitude .ensures)
+    (c .spell-negative .ensures)
 
 returns-2 : tie.Need-returns-2
 returns-2 c =
