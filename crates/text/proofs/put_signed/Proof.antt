@@ -1,0 +1,25 @@
+-- `text::put_signed` meets its contract: what is spelt is what is put.
+use mir.Syntax.{w64}
+use mir.ValLaws.{toZ-ofZ}
+use borrow.Author.Needs.{needs}
+use Rattle.text.proofs.Spelling.{put-spelt}
+use Rattle.text.proofs.put_signed.Statement.{statement}
+use Rattle.text.proofs.put_signed.Tie as tie
+
+spell-signed-requires : tie.Need-spell-signed-requires
+spell-signed-requires c κs = search needs
+
+put-spelt-requires : tie.Need-put-spelt-requires
+put-spelt-requires c κs = search needs
+
+same-length : tie.Need-same-length
+same-length c = search needs
+
+returns : tie.Need-returns
+returns c =
+    let a = c .before .before .before .before .before .before in
+    put-spelt (rw (toZ-ofZ w64 (a .args .z) (a .fits .z)) at (c .before .before .before .spell-signed .ensures))
+    (c .before .before .put-spelt .ensures)
+
+pub put-signed-spec : {M : Type 1} → statement M
+put-signed-spec = tie.close (tie.spec spell-signed-requires put-spelt-requires same-length returns)
