@@ -44,14 +44,14 @@ pub fn insert_all(words: [u64; 10], count: usize, row: [u64; 10]) -> [u64; 10]
     ensures { λ r. ⌜ r ≡ insertAll (take count words) row ⌝ }
 {
     let mut kept = row;
-    let mut i = 0;
-    while i < 10 {
-        if count <= i {
+    let mut done = 0;
+    while done < 10 {
+        if count <= done {
             return kept;
         }
-        let next = insert(kept, words[i]);
+        let next = insert(kept, words[done]);
         kept = next;
-        i += 1;
+        done += 1;
     }
     kept
 }
