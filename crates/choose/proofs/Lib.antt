@@ -5,3 +5,4 @@ pub mod Judging
 pub mod Looking
 pub mod Five
 pub mod WholeChoice
+pub mod Rooms
