@@ -67,6 +67,7 @@ module _ {A O : Type 0} (m : Method A O) (h l : History A) (sees : seen m h ≡ 
     where
       after : A → Outcome O
       after y = chose (dated (chosen m l)) (reach m l) (m .finish (chosen m l) y (l .day (m .event)))
+
       go : (t : Bool) → (t ≡ false → h .day (m .event - 1) ≡ l .day (m .event - 1))
           → cond t (few (length (window m l)) (reach m l)) (after (h .day (m .event - 1)))
           ≡ cond t (few (length (window m l)) (reach m l)) (after (l .day (m .event - 1)))
@@ -138,6 +139,7 @@ module _ (group : ℕ → Group) {r : Request} {rooms : Directory} {readings : L
     where
       today : roomHistory r rooms readings .day (r .event) ≡ h .day (r .event)
       today = let e : r .event - 0 ≡ r .event = omega arith in rw e at (same-day 0 (omega arith) (omega arith))
+
       -- where days are chosen, the day before the event is held; it is the event day itself where that is day 0
       yesterday : eqb (highXofY group r .taken (length (window (highXofY group r) h))) 0 ≡ false
           → roomHistory r rooms readings .day (r .event - 1) ≡ h .day (r .event - 1)

@@ -2,15 +2,10 @@
 use borrow.Author.Needs.{needs}
 use Rattle.choose.proofs.first_of.Statement.{statement}
 use Rattle.choose.proofs.first_of.Tie as tie
-use Rattle.choose.proofs.first_of.Reads as reads
-use Rattle.choose.proofs.first_of.Lts as lts
-use Rattle.choose.proofs.days_of.Reads as days-of-reads
 
--- src/lib.rt:308:19
 days-of-requires : tie.Need-days-of-requires
 days-of-requires c κs = search needs
 
--- src/lib.rt:301:1
 returns : tie.Need-returns
 returns c = rw (c .days-of .ensures)
 
