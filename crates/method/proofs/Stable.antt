@@ -27,7 +27,7 @@ window-of-seen m h l e = rw (e, spares)
 
 module _ {A O : Type 0} (m : Method A O) (law : Lawful m) (h : History A) (holds : held h (m .event) ≡ true) where
   -- where days are chosen, there is a day before the event and it is held
-  yesterday-held : eqb (m .taken (length (window m h))) 0 ≡ false → (0 < m .event) × (held h (m .event - 1) ≡ true)
+  pub yesterday-held : eqb (m .taken (length (window m h))) 0 ≡ false → (0 < m .event) × (held h (m .event - 1) ≡ true)
   yesterday-held e = go (window m h) refl
     where
       go : (w : List (ℕ × A)) → window m h ≡ w → (0 < m .event) × (held h (m .event - 1) ≡ true)

@@ -32,7 +32,7 @@ module _ (event d : ℕ) (from-45 : event ≤ d + 45) where
   pub later-is-nearer : (c : ℕ) → event ≤ c + 45 → ltb d c ≡ ltb (d + 46 - event) (c + 46 - event)
   later-is-nearer c h = same-test d c (d + 46 - event) (c + 46 - event) (omega arith) (omega arith)
 
-  pub day-back : (s : ℕ) → d < event → (64 * s + (d + 46 - event)) % 64 + event - 46 ≡ d
+  pub day-back : (s : ℕ) → d < event → event - (46 - (64 * s + (d + 46 - event)) % 64) ≡ d
   day-back s h = omega arith
 
 reading-small : (x : ℕ) → goodReading x ≡ true → present x ≡ true → x ≤ 10000000

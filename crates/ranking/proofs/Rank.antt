@@ -138,7 +138,7 @@ lookedBack r p = leb (r .event) (p .0 + 45) && ltb (p .0) (r .event)
 
 -- the day of a word
 abbrev pub dayOfWord : Request → ℕ → ℕ
-dayOfWord r w = w % 64 + r .event - 46
+dayOfWord r w = r .event - (46 - w % 64)
 
 module _ (r : Request) where
   from-45 : (p : ℕ × Day) → lookedBack r p ≡ true → r .event ≤ p .0 + 45

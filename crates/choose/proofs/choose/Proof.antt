@@ -1,0 +1,64 @@
+-- `choose::choose` meets its contract: the eligible days fill the window, or they do not.
+use mathlib.Core.Path.{_∙_}
+use native.Mathlib.Omega.{arith}
+use borrow.Author.Needs.{needs}
+use Rattle.calendar.specs.Holidays.{group as groupOf}
+use Rattle.choose.proofs.WholeChoice.{chosen-few, window-few, held-is, choose-few, choose-full}
+use Rattle.choose.proofs.choose.Statement.{statement}
+use Rattle.choose.proofs.choose.Tie as tie
+
+group-of-requires : tie.Need-group-of-requires
+group-of-requires c κs = search needs
+
+lesser-requires : tie.Need-lesser-requires
+lesser-requires c κs = search needs
+
+lesser-requires-2 : tie.Need-lesser-requires-2
+lesser-requires-2 c κs = search needs
+
+look-requires : tie.Need-look-requires
+look-requires c κs = search needs
+
+most-requires : tie.Need-most-requires
+most-requires c κs = search needs
+
+choose-among-few-requires : tie.Need-choose-among-few-requires
+choose-among-few-requires c κs =
+    (c .before .before .before .before .before .before .group-of .ensures, omega (arith, c .before .before .most .ensures, window-few (c .before .before .before .before .before .before .group-of .result)), c .before .before .before .look .ensures .few)
+
+fill-requires : tie.Need-fill-requires
+fill-requires c κs = search needs
+
+first-of-requires : tie.Need-first-of-requires
+first-of-requires c κs = rw (c .fill .ensures) (chosen-few (c .before .before .before .before .before .before .before .before .group-of .result))
+
+returns : tie.Need-returns
+returns c =
+    let a = c .before .before .before .before .before .before .before .before .before .args in
+    let g = c .before .before .before .before .before .before .before .group-of .ensures in
+    let held = held-is (a .request) (a .rooms) (c .before .before .before .before .before .before .lesser .ensures) (c .before .before .before .before .before .lesser2 .ensures) in
+    c .choose-among-few .ensures
+    ∙ rw (held, g) (choose-few groupOf (a .request) (a .rooms) (a .readings .now) (c .before .before .before .before .look .result) (rw (held, g) at (c .before .before .before .before .look .ensures)) (rw (c .before .before .before .most .ensures, g) at (c .before .if1 .taken)))
+
+returns-2 : tie.Need-returns-2
+returns-2 c =
+    let a = c .before .before .before .before .before .before .before .before .before .before .before .args in
+    let g = c .before .before .before .before .before .before .before .before .before .group-of .ensures in
+    let held = held-is (a .request) (a .rooms) (c .before .before .before .before .before .before .before .before .lesser .ensures) (c .before .before .before .before .before .before .before .lesser2 .ensures) in
+    c .first-of .ensures
+    ∙ rw (c .before .fill .ensures, g) (choose-full groupOf (a .request) (a .rooms) (a .readings .now) (c .before .before .before .before .before .before .look .result) (rw (held, g) at (c .before .before .before .before .before .before .look .ensures)) (rw (c .before .before .before .before .before .most .ensures, g) at (c .before .before .before .if1 .left)))
+
+pub choose-spec : {M : Type 1} → statement M
+choose-spec =
+    tie.close
+    (tie.spec
+    group-of-requires
+    lesser-requires
+    lesser-requires-2
+    look-requires
+    most-requires
+    choose-among-few-requires
+    fill-requires
+    first-of-requires
+    returns
+    returns-2)

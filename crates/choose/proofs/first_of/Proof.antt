@@ -1,0 +1,13 @@
+-- `choose::first_of` meets its contract.
+use borrow.Author.Needs.{needs}
+use Rattle.choose.proofs.first_of.Statement.{statement}
+use Rattle.choose.proofs.first_of.Tie as tie
+
+days-of-requires : tie.Need-days-of-requires
+days-of-requires c κs = search needs
+
+returns : tie.Need-returns
+returns c = rw (c .days-of .ensures)
+
+pub first-of-spec : {M : Type 1} → statement M
+first-of-spec = tie.close (tie.spec days-of-requires returns)

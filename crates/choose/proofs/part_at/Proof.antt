@@ -1,0 +1,53 @@
+-- `choose::part_at` meets its contract.
+use Prim.Native.Nat.{_+_, _-_}
+use mathlib.Core.Path.{_≡_}
+use native.Mathlib.Omega.{arith}
+use borrow.Author.Needs.{needs}
+use borrow.Author.Tests.{le-leb, lt-leb}
+use lib.ListN.{length}
+use Rattle.choose.specs.Rooms.{partAt}
+use Rattle.choose.proofs.part_at.Statement.{statement}
+use Rattle.choose.proofs.part_at.Tie as tie
+
+add-end : tie.Need-add-end
+add-end c = search needs
+
+mul-result : tie.Need-mul-result
+mul-result c = search needs
+
+sub-result : tie.Need-sub-result
+sub-result c = search needs
+
+part-result-start : tie.Need-part-result-start
+part-result-start c = search needs
+
+part-result-end : tie.Need-part-result-end
+part-result-end c = search needs
+
+slice-aggregate-result : tie.Need-slice-aggregate-result
+slice-aggregate-result c = search needs
+
+returns : tie.Need-returns
+unfolding partAt
+returns c =
+    let a = c .before .before .args in
+    let e : a .at + 96 - a .at ≡ 96 = omega arith in
+    rw (e, le-leb (a .at + 96) (length (a .readings .now)) (c .before .if1 .taken))
+
+returns-2 : tie.Need-returns-2
+unfolding partAt
+returns-2 c =
+    let a = c .before .before .args in rw (lt-leb (a .at + 96) (length (a .readings .now)) (c .before .if1 .left))
+
+pub part-at-spec : {M : Type 1} → statement M
+part-at-spec =
+    tie.close
+    (tie.spec
+    add-end
+    mul-result
+    sub-result
+    part-result-start
+    part-result-end
+    slice-aggregate-result
+    returns
+    returns-2)

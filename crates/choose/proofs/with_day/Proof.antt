@@ -1,0 +1,90 @@
+-- `choose::with_day` meets its contract: one law a way out.
+use Prim.Native.Nat.{ℕ, _-_}
+use mathlib.Core.Path.{refl, sym, _∙_}
+use borrow.Author.Needs.{needs}
+use Rattle.calendar.specs.Holidays.{group as groupOf}
+use Rattle.method.specs.Table.{Day}
+use Rattle.choose.specs.Look.{room}
+use Rattle.choose.proofs.Looking.{adds-none, adds-eligible, adds-spare, adds-neither}
+use Rattle.choose.proofs.with_day.Statement.{statement}
+use Rattle.choose.proofs.with_day.Tie as tie
+
+sub-relevant : tie.Need-sub-relevant
+sub-relevant c = search needs
+
+relevant-requires : tie.Need-relevant-requires
+relevant-requires c κs = search needs
+
+judge-requires : tie.Need-judge-requires
+judge-requires c κs = search needs
+
+enum-known-word : tie.Need-enum-known-word
+enum-known-word c = search needs
+
+insert-requires : tie.Need-insert-requires
+insert-requires c κs = search needs
+
+add-t17 : tie.Need-add-t17
+add-t17 c = search needs
+
+enum-known-word-2 : tie.Need-enum-known-word-2
+enum-known-word-2 c = search needs
+
+insert-requires-2 : tie.Need-insert-requires-2
+insert-requires-2 c κs = search needs
+
+add-t19 : tie.Need-add-t19
+add-t19 c = search needs
+
+enum-told : tie.Need-enum-told
+enum-told c = search needs
+
+returns : tie.Need-returns
+returns c =
+    let s = c .before .before .before .before .before .before .before .before .before .before .before .before in
+    let a = s .args in
+    let p : ℕ × Day = (a .request .event - a .back, room (a .mark) (a .part .now)) in
+    let sure = sym (c .before .before .before .before .before .before .before .before .before .relevant .ensures) ∙ c .before .before .before .before .before .before .before .before .if1 .taken in
+    adds-eligible groupOf p (s .pre .1) refl sure (sym (c .before .before .before .before .before .judge .ensures) ∙ c .before .before .before .word .given .1) (c .before .insert .ensures)
+
+returns-2 : tie.Need-returns-2
+returns-2 c =
+    let s = c .before .before .before .before .before .before .before .before .before .before .before .before in
+    let a = s .args in
+    let p : ℕ × Day = (a .request .event - a .back, room (a .mark) (a .part .now)) in
+    let sure = sym (c .before .before .before .before .before .before .before .before .before .relevant .ensures) ∙ c .before .before .before .before .before .before .before .before .if1 .taken in
+    adds-spare groupOf p (s .pre .1) refl sure (sym (c .before .before .before .before .before .judge .ensures) ∙ c .before .before .before .word2 .given .1) (c .before .insert2 .ensures)
+
+returns-3 : tie.Need-returns-3
+returns-3 c =
+    let s = c .before .before .before .before .before .before .before .before .before in
+    let a = s .args in
+    let p : ℕ × Day = (a .request .event - a .back, room (a .mark) (a .part .now)) in
+    let sure = sym (c .before .before .before .before .before .before .relevant .ensures) ∙ c .before .before .before .before .before .if1 .taken in
+    adds-neither groupOf p (s .pre .1) refl sure (sym (c .before .before .judge .ensures) ∙ c .enum-told .given .1)
+
+returns-4 : tie.Need-returns-4
+returns-4 c =
+    let s = c .before .before .before .before in
+    let a = s .args in
+    let p : ℕ × Day = (a .request .event - a .back, room (a .mark) (a .part .now)) in
+    adds-none groupOf p (s .pre .1) refl (sym (c .before .relevant .ensures) ∙ c .if1 .left)
+
+pub with-day-spec : {M : Type 1} → statement M
+with-day-spec =
+    tie.close
+    (tie.spec
+    sub-relevant
+    relevant-requires
+    judge-requires
+    enum-known-word
+    insert-requires
+    add-t17
+    enum-known-word-2
+    insert-requires-2
+    add-t19
+    enum-told
+    returns
+    returns-2
+    returns-3
+    returns-4)
