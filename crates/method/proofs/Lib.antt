@@ -1,1 +1,13 @@
 pub mod Checks
+pub mod Falling
+pub mod LookBack
+pub mod Seen
+pub mod Window
+pub mod Short
+pub mod Cut
+pub mod HighXofY
+pub mod Tables
+pub mod Replies
+pub mod Demand3
+pub mod Extract
+pub mod NoPart

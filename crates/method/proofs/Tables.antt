@@ -1,0 +1,231 @@
+-- Laws of tables: where a day's readings stand, a table without its first days, and a table with days put before it.
+-- Only `offset-is` looks into how many readings a day has.
+use mathlib.Core.Path.{_≡_, refl, sym, ap, _∙_}
+use mathlib.Core.Bool.{Bool, true, false, not, _&&_}
+use mathlib.Core.List.{List, _++_}
+use Prim.Native.Nat.{ℕ, zero, suc, _+_, _-_, _*_, _≤_, _<_}
+use native.Mathlib.Omega.{arith}
+use native.Mathlib.Nat.{zero-add, suc-add, add-zero}
+use lib.ListN.{length, getD, take, drop, replicate, length-append, length-replicate, length-drop, getD-replicate, List·getD-append}
+use lib.Seq.{drop-at, drop-drop, getD-drop, take-append-le, drop-append-le}
+use lib.Dec.{leb, eqb}
+use borrow.Author.Tests.{eqb-true, eqb-false, eq-eqb, ne-eqb, leb-true, le-leb, not-true}
+use Rattle.lists.specs.Lists.{all}
+use Rattle.lists.proofs.Keep.{and-left, and-right, all-append, all-replicate, all-take, all-drop}
+use Rattle.calendar.specs.Days.{lastDay}
+use Rattle.method.specs.declared.Request.{Request}
+use Rattle.method.specs.Table.{Table, Day, heldDays, size, offset, dayOf, goodMark, goodReading, held, history, shaped}
+use Rattle.method.specs.Verdict.{wellFormed}
+use Rattle.method.specs.Demands.{Longer, Part, heldBefore}
+use Rattle.method.proofs.Seen.{Extends, held-first, held-last, is-held}
+
+-- the readings before the (k + j)-th day: those of `k` days, and those of the `j` days after them
+pub offset-add : (f k j : ℕ) → offset f (k + j) ≡ offset f k + offset (f + k) j
+unfolding offset
+offset-add f zero j = rw (zero-add, zero-add, add-zero)
+offset-add f (suc k) j =
+    let o : suc f + k ≡ f + suc k = omega arith in
+    rw (suc-add, offset-add (suc f) k j, o) (omega arith)
+
+pub offset-suc : (f k : ℕ) → offset f (k + 1) ≡ offset f k + size (f + k)
+unfolding offset
+offset-suc f k = offset-add f k 1 ∙ rw (add-zero)
+
+-- a day's readings lie within those of the days that hold it
+pub offset-within : (f k d : ℕ) → f ≤ d → d < f + k → offset f (d - f) + size d ≤ offset f k
+offset-within f k d e g =
+    omega (arith, rw whole at (offset-add f (d - f + 1) (k - (d - f + 1))), rw back at (offset-suc f (d - f)))
+  where
+    whole : d - f + 1 + (k - (d - f + 1)) ≡ k
+    whole = omega arith
+    back : f + (d - f) ≡ d
+    back = omega arith
+
+-- "96 readings a day"
+pub offset-is : (f k : ℕ) → offset f k ≡ 96 * k
+unfolding offset size
+offset-is f zero = refl
+offset-is f (suc k) = omega (arith, offset-is (suc f) k)
+
+-- what "well formed" says
+pub record Formed (t : Table) : Type 0 where
+  pub days : 0 < heldDays t
+  pub fits : length (t .readings) ≡ offset (t .first) (heldDays t)
+  pub last : t .first + heldDays t - 1 ≤ lastDay
+  pub good-marks : all goodMark (t .marks) ≡ true
+  pub good-readings : all goodReading (t .readings) ≡ true
+
+pub formed : {t : Table} → Formed t → wellFormed t ≡ true
+unfolding wellFormed shaped
+formed {t} f =
+    rw (ne-eqb (heldDays t) 0 (λ e. omega arith), eq-eqb (length (t .readings)) (offset (t .first) (heldDays t)) (f .fits),
+        le-leb (t .first + heldDays t - 1) lastDay (f .last), f .good-marks, f .good-readings)
+
+pub formed-is : (t : Table) → wellFormed t ≡ true → Formed t
+unfolding wellFormed shaped
+formed-is t e =
+    record {
+      days = omega (arith, eqb-false (heldDays t) 0 (not-true (eqb (heldDays t) 0) (and-left some sized both)));
+      fits = eqb-true (length (t .readings)) (offset (t .first) (heldDays t)) (and-right some sized both);
+      last = leb-true (t .first + heldDays t - 1) lastDay (and-right (some && sized) inside shape);
+      good-marks = and-right (shaped t) marks (and-left (shaped t && marks) readings e);
+      good-readings = and-right (shaped t && marks) readings e;
+    }
+  where
+    some : Bool
+    some = not (eqb (heldDays t) 0)
+    sized : Bool
+    sized = eqb (length (t .readings)) (offset (t .first) (heldDays t))
+    inside : Bool
+    inside = leb (t .first + heldDays t - 1) lastDay
+    marks : Bool
+    marks = all goodMark (t .marks)
+    readings : Bool
+    readings = all goodReading (t .readings)
+    shape : ((some && sized) && inside) ≡ true
+    shape = and-left (shaped t) marks (and-left (shaped t && marks) readings e)
+    both : (some && sized) ≡ true
+    both = and-left (some && sized) inside shape
+
+-- a longer table's history holds what the table's holds
+pub longer-extends : {l t : Table} → Longer l t → Extends (history l) (history t)
+longer-extends x = record { starts = x .starts; ends = x .ends; agrees = x .agrees }
+
+-- the table without its first `k` days
+unfoldable pub without : ℕ → Table → Table
+without k t = record { first = t .first + k; marks = drop k (t .marks); readings = drop (offset (t .first) k) (t .readings) }
+
+module _ (k : ℕ) (t : Table) where
+  without-day : (d : ℕ) → t .first + k ≤ d → dayOf t d ≡ dayOf (without k t) d
+  unfolding dayOf without
+  without-day d e = λ i. record { mark = marks i; readings = take (size d) (readings i) }
+    where
+      split : d - t .first ≡ k + (d - (t .first + k))
+      split = omega arith
+      marks : getD (t .marks) (d - t .first) 0 ≡ getD (drop k (t .marks)) (d - (t .first + k)) 0
+      marks = rw (split, getD-drop)
+      readings : drop (offset (t .first) (d - t .first)) (t .readings)
+          ≡ drop (offset (t .first + k) (d - (t .first + k))) (drop (offset (t .first) k) (t .readings))
+      readings = rw (split, offset-add (t .first) k (d - (t .first + k)), drop-drop)
+
+  without-days : heldDays (without k t) ≡ heldDays t - k
+  unfolding without
+  without-days = length-drop k (t .marks)
+
+  pub without-longer : k ≤ heldDays t → Longer t (without k t)
+  unfolding without
+  without-longer less =
+      record {
+        starts = omega arith;
+        ends = omega (arith, without-days);
+        agrees = λ d e. without-day d (held-first (history (without k t)) d e);
+      }
+
+  pub without-formed : k < heldDays t → wellFormed t ≡ true → wellFormed (without k t) ≡ true
+  unfolding without
+  without-formed less e =
+      formed
+      (record {
+        days = omega (arith, without-days);
+        fits = rw (length-drop, w .fits, length-drop) (omega (arith, rw split at (offset-add (t .first) k (heldDays t - k))));
+        last = omega (arith, without-days, w .last);
+        good-marks = all-drop goodMark k (t .marks) (w .good-marks);
+        good-readings = all-drop goodReading (offset (t .first) k) (t .readings) (w .good-readings);
+      })
+    where
+      w : Formed t
+      w = formed-is t e
+      split : k + (heldDays t - k) ≡ heldDays t
+      split = omega arith
+
+-- the table cut so that `k` days stand before the event
+abbrev pub cutTo : Table → Request → ℕ → Table
+cutTo t r k = without (heldBefore t r - k) t
+
+module _ (t : Table) (r : Request) (well : wellFormed t ≡ true) (holds : held (history t) (r .event) ≡ true) (k : ℕ) (before : k ≤ heldBefore t r) where
+  pub cut-before : heldBefore (cutTo t r k) r ≡ k
+  unfolding without
+  cut-before = omega (arith, held-first (history t) (r .event) holds)
+
+  pub cut-part : Part (cutTo t r k) t r
+  unfolding without
+  cut-part =
+      record {
+        formed = without-formed (heldBefore t r - k) t fits well;
+        longer = without-longer (heldBefore t r - k) t (omega (arith, fits));
+        holds = is-held (history (cutTo t r k)) (r .event) (omega (arith, held-first (history t) (r .event) holds))
+            (omega (arith, without-days (heldBefore t r - k) t, held-first (history t) (r .event) holds, held-last (history t) (r .event) holds));
+      }
+    where
+      fits : heldBefore t r - k < heldDays t
+      fits = omega (arith, held-first (history t) (r .event) holds, held-last (history t) (r .event) holds)
+
+-- the table with `k` days before it, all marked `m` and with zero for every reading
+unfoldable pub padded : ℕ → ℕ → Table → Table
+padded k m t =
+    record {
+      first = t .first - k;
+      marks = replicate k m ++ t .marks;
+      readings = replicate (offset (t .first - k) k) 0 ++ t .readings;
+    }
+
+module _ (k m : ℕ) (t : Table) (room : k ≤ t .first) where
+  -- without these days it is the table again
+  without-padded : without k (padded k m t) ≡ t
+  unfolding without padded
+  without-padded = λ i. record { first = first i; marks = marks i; readings = readings i }
+    where
+      first : t .first - k + k ≡ t .first
+      first = omega arith
+      marks : drop k (replicate k m ++ t .marks) ≡ t .marks
+      marks = drop-at (replicate k m) (t .marks) k (length-replicate k m)
+      readings : drop (offset (t .first - k) k) (replicate (offset (t .first - k) k) 0 ++ t .readings) ≡ t .readings
+      readings = drop-at (replicate (offset (t .first - k) k) 0) (t .readings) (offset (t .first - k) k) (length-replicate (offset (t .first - k) k) 0)
+
+  pub padded-days : heldDays (padded k m t) ≡ k + heldDays t
+  unfolding padded
+  padded-days = rw (length-append, length-replicate)
+
+  pub padded-longer : Longer (padded k m t) t
+  padded-longer = rw without-padded at (without-longer k (padded k m t) (omega (arith, padded-days)))
+
+  pub padded-formed : goodMark m ≡ true → wellFormed t ≡ true → wellFormed (padded k m t) ≡ true
+  unfolding padded
+  padded-formed good e =
+      formed
+      (record {
+        days = omega (arith, padded-days, w .days);
+        fits = rw (length-append, length-replicate, length-append, length-replicate, offset-add (t .first - k) k (heldDays t), back) (ap (λ n. offset (t .first - k) k + n) (w .fits));
+        last = omega (arith, padded-days, w .last);
+        good-marks = rw (all-append goodMark (replicate k m) (t .marks), all-replicate goodMark k m good) (w .good-marks);
+        good-readings =
+            rw (all-append goodReading (replicate (offset (t .first - k) k) 0) (t .readings), all-replicate goodReading (offset (t .first - k) k) 0 refl)
+            (w .good-readings);
+      })
+    where
+      w : Formed t
+      w = formed-is t e
+      back : t .first - k + k ≡ t .first
+      back = omega arith
+
+  module _ (d : ℕ) (since : t .first - k ≤ d) (below : d < t .first) where
+    -- of a day put before the table the mark is `m`, and every reading is zero
+    pub padded-mark : dayOf (padded k m t) d .mark ≡ m
+    unfolding dayOf padded
+    padded-mark =
+        List·getD-append (replicate k m) (t .marks) 0 (d - (t .first - k)) (rw length-replicate (omega arith)) ∙
+        getD-replicate k (d - (t .first - k)) m 0 (omega arith)
+
+    pub padded-readings : (p : ℕ → Bool) → p 0 ≡ true → all p (dayOf (padded k m t) d .readings) ≡ true
+    unfolding dayOf padded
+    padded-readings p e =
+        rw (drop-append-le at zeros (t .readings) (rw length-replicate (omega (arith, inside))),
+            take-append-le (size d) (drop at zeros) (t .readings) (rw (length-drop, length-replicate) (omega (arith, inside))))
+        (all-take p (size d) (drop at zeros) (all-drop p at zeros (all-replicate p (offset (t .first - k) k) 0 e)))
+      where
+        at : ℕ
+        at = offset (t .first - k) (d - (t .first - k))
+        zeros : List ℕ
+        zeros = replicate (offset (t .first - k) k) 0
+        inside : at + size d ≤ offset (t .first - k) k
+        inside = offset-within (t .first - k) k d since (omega arith)
