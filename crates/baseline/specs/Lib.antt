@@ -1,2 +1,3 @@
 pub mod Answer
 pub mod Directory
+pub mod Part

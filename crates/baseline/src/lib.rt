@@ -1,4 +1,9 @@
 // The baseline over a lent table: the public call, and the part of a day.
+mod table;
+
+ghost use denote.Ref.{ptr};
+ghost use Rattle.baseline.specs.Answer.{tableOf};
+ghost use Rattle.baseline.specs.Part.{DayPart};
 use choose::Chosen;
 use method::Refusal;
 
@@ -15,4 +20,19 @@ pub struct Answer {
     pub denominator: u32,
     // the adjustment's numerator
     pub adjustment: i64,
+}
+
+// The ninety-six readings of a day, as that part of the lent readings itself; an empty part for a day that is not held, or a table that
+// refusal 1 turns away.
+pub fn day_part<'a>(first: u32, marks: &[u8], readings: &'a [u32], day: u32) -> &'a [u32]
+    ensures { λ r. ⌜ DayPart (tableOf first (now (marks .entry)) (now (readings .entry))) day (ptr (readings .entry)) (now r) (ptr r) ⌝ }
+{
+    if table::has(first, marks, readings, day) {
+        let at = 96 * ((day - first) as usize);
+        let end = at + 96;
+        &readings[at..end]
+    } else {
+        let none = 0;
+        &readings[none..none]
+    }
 }

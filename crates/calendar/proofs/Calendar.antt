@@ -7,7 +7,16 @@ use mathlib.Core.Logic.{_↔_}
 use native.Mathlib.Omega.{arith}
 use Rattle.lists.specs.Lists.{sumOf, member}
 use Rattle.calendar.specs.Days.{
-  lastDay, inCalendar, leap, months, newYear, dayNumber, isDate, yearOf, dateAfter, dateOf
+  lastDay,
+  inCalendar,
+  leap,
+  months,
+  newYear,
+  dayNumber,
+  isDate,
+  yearOf,
+  dateAfter,
+  dateOf,
 }
 use Rattle.calendar.specs.Holidays.{easterQ, easter, holidays, isHoliday, isSaturday, isSunday, group}
 use Rattle.calendar.specs.declared.Date.{Date}

@@ -175,14 +175,14 @@ day-date-day d h = go (locate (months (yearOf d)) (d - newYear (yearOf d)) (year
         let few = held-below (months (yearOf d)) k (omega arith) in
         let over : 1 + k - 1 ≡ k = omega arith in
         let real : Real (yearOf d) (1 + k) (j + 1) =
-          record {
-            first = in-year .0;
-            last = in-year .1;
-            least = omega arith;
-            most = omega arith;
-            begun = omega arith;
-            going = rw over (omega arith)
-          }
+        record {
+          first = in-year .0;
+          last = in-year .1;
+          least = omega arith;
+          most = omega arith;
+          begun = omega arith;
+          going = rw over (omega arith);
+        }
         in
         rw (date-at d k j e b)
         (is-date (yearOf d) (1 + k) (j + 1) real, rw over (omega (arith, in-its-year d)))
@@ -200,6 +200,7 @@ date-day-date y m d h =
     let b = date-in-year y m d r in
     let month : 1 + (m - 1) ≡ m = omega arith in
     let day : d - 1 + 1 ≡ d = omega arith in
-    let e = after-at y 1 (months y) (m - 1) (d - 1) (omega arith) in
-    (omega (arith, calendar-end y (r .last)),
-    rw (year-of-day y (dayNumber y m d) (r .first) (b .0) (b .1), passed-in-year y m d) (rw (month, day) at e))
+    let e = after-at y 1 (months y) (m - 1) (d - 1) (omega arith) in (
+      omega (arith, calendar-end y (r .last)),
+      rw (year-of-day y (dayNumber y m d) (r .first) (b .0) (b .1), passed-in-year y m d) (rw (month, day) at e),
+    )

@@ -99,6 +99,7 @@ module _ {A : Type 0} (p : A → Bool) where
     where
       rest : List B
       rest = keep (λ x. p (f x)) xs
+
       go : (b : Bool) → cond b (f x ∷ map f rest) (map f rest) ≡ map f (cond b (x ∷ rest) rest)
       go true = refl
       go false = refl
@@ -143,10 +144,12 @@ module _ (p : ℕ → Bool) where
           → (c || member n (keep p xs)) ≡ ((c || member n xs) && p n)
       yes-here true t ih = sym (t refl)
       yes-here false t ih = ih
+
       no-here : (c : Bool) → (c ≡ true → p n ≡ false) → member n (keep p xs) ≡ (member n xs && p n)
           → member n (keep p xs) ≡ ((c || member n xs) && p n)
       no-here true t ih = ih ∙ rw (t refl) (and-false (member n xs))
       no-here false t ih = ih
+
       go : (b : Bool) → (eqb n x ≡ true → p n ≡ b) → member n (keep p xs) ≡ (member n xs && p n)
           → member n (cond b (x ∷ keep p xs) (keep p xs)) ≡ ((eqb n x || member n xs) && p n)
       go true t ih = yes-here (eqb n x) t ih

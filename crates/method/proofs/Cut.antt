@@ -43,8 +43,10 @@ module _ {A O : Type 0} (m : Method A O) (law : Lawful m) (h : History A) (holds
     where
       first : h .first ≤ m .event
       first = held-first h (m .event) holds
+
       from-first : (d : ℕ) → member d (dated (window m h)) ≡ true → h .first ≤ d
       from-first d k = held-first h d (seen-held m law h d (window-seen m law h d k))
+
       go : (b : Bool) → eqb (length (window m h)) (m .most) ≡ b
           → cond b (m .event - leastOf (m .event) (dated (window m h))) (wholeReach m) ≤ m .event - h .first
       go true e = omega (arith, leastOf-from (m .event) (dated (window m h)) (h .first) first from-first)
@@ -78,6 +80,7 @@ module _ {A O : Type 0} (m : Method A O) (law : Lawful m) (h l : History A) (x :
         full f =
             let g : Full m l = rw eligibles-longer (simp length-append (omega arith)) in
             rw (window-full m law l g, window-full m law h f, eligibles-longer) (take-append-le (m .most) (eligibles m h) late f)
+
         whole : Whole m h → window m l ≡ window m h
         whole w = window-of-seen m h l (seen-all w)
 
@@ -86,6 +89,7 @@ module _ {A O : Type 0} (m : Method A O) (law : Lawful m) (h l : History A) (x :
       where
         full : Full m h → isShort m l ≡ false
         full f = full-enough m l (rw eligibles-longer (simp length-append (omega arith)))
+
         whole : Whole m h → isShort m l ≡ false
         whole w = whole-enough m l (λ d k. omega (arith, w d k, x .starts))
 
@@ -100,9 +104,10 @@ module _ {A O : Type 0} (m : Method A O) (law : Lawful m) (h l : History A) (x :
       where
         ending : A → Outcome O
         ending a = chose (dated (chosen m h)) (reach m h) (m .finish (chosen m h) a (h .day (m .event)))
+
         go : (b : Bool) → eqb (m .taken (length (window m h))) 0 ≡ b
             → cond b (few (length (window m h)) (reach m h)) (ending (l .day (m .event - 1)))
-                ≡ cond b (few (length (window m h)) (reach m h)) (ending (h .day (m .event - 1)))
+            ≡ cond b (few (length (window m h)) (reach m h)) (ending (h .day (m .event - 1)))
         go true e = refl
         go false e = ap ending (x .agrees (m .event - 1) (yesterday-held m law h holds e))
 
@@ -114,10 +119,12 @@ module _ {A O : Type 0} (m : Method A O) (law : Lawful m) (h l : History A) (x :
     where
       day : ℕ × A → ℕ
       day p = p .0
+
       below : y .0 < h .first
       below =
           earlier-below m h l (y .0)
           (member-map-keep (λ (p : ℕ × A). m .eligible (p .1)) day (earlier m h l) (y .0) (rw q (member-head (y .0) (dated ys))))
+
       inside : member (y .0) (dated (take (m .most) (eligibles m l))) ≡ true
       inside = rw (eligibles-longer, q) (member-map-reach day (y .0) (m .most) (eligibles m h) y ys e refl)
 
@@ -157,8 +164,10 @@ module _ {A O : Type 0} (m : Method A O) (law : Lawful m) (h l : History A) (x :
     where
       all : late ≡ earlier m h l
       all = earlier-every m h l (m .eligible) every
+
       is : member k (dated late) ≡ true
       is = rw all (earlier-member m h l k r (is-held l k f (omega (arith, x .ends, law .before k r, held-last h (m .event) holds))) b)
+
       go : (ys : List (ℕ × A)) → late ≡ ys → (d : ℕ) × (d < h .first) × (member d (dated (window m l)) ≡ true)
       go [] q = absurd (clash (rw q at is) (unfold member in refl))
       go (y ∷ ys) q = let i = late-in (short-few m h short) y ys q in (y .0, i .0, i .1)
@@ -170,6 +179,7 @@ module _ {A O : Type 0} (m : Method A O) (law : Lawful m) (h l : History A) (x :
     where
       same-eligibles : eligibles m l ≡ eligibles m h
       same-eligibles = eligibles-longer ∙ rw (earlier-none m h l (m .eligible) no-eligible) (append-nil (eligibles m h))
+
       same-spares : spares m l ≡ spares m h
       same-spares =
           ap (m .order)

@@ -44,8 +44,11 @@ module _ (k : ℕ) (t : Table) (room : k ≤ t .first) (d : ℕ) (since : t .fir
 pub at-most-45 : (group : ℕ → Group) (r : Request) → wholeReach (highXofY group r) ≤ 45
 unfolding wholeReach highXofY
 at-most-45 group r =
-    omega (arith, leastOf-from (r .event) (relevantDays group r) (r .event - 45) (omega arith)
-        (λ d e. let i = lookBack-is (r .event) d .0 (relevant-lookBack group r d e) in omega arith))
+    omega (
+      arith,
+      leastOf-from (r .event) (relevantDays group r) (r .event - 45) (omega arith)
+          (λ d e. let i = lookBack-is (r .event) d .0 (relevant-lookBack group r d e) in omega arith),
+    )
 
 module _ (group : ℕ → Group) (t : Table) (r : Request) (room : ℕ) (well : wellFormed t ≡ true) (holds : held (history t) (r .event) ≡ true) where
   -- a second table that holds the event, where an enough margin gives the same outcome
@@ -75,6 +78,7 @@ module _ (group : ℕ → Group) (t : Table) (r : Request) (room : ℕ) (well : 
       windows : isShort (highXofY group r) (history t) ≡ false → (l : Table) → LongerFormed l t
           → window (highXofY group r) (history l) ≡ window (highXofY group r) (history t)
       windows e l x = unfold highXofY in same-window (highXofY group r) (lawful group r) (history t) (history l) (longer-extends (x .longer)) holds e
+
       inside : isShort (highXofY group r) (history t) ≡ false → member (u .day) (windowDays group (u .other) r) ≡ true
       inside e = rw (windows e (u .other) (u .other-longer), ← windows e (u .one) (u .one-longer)) (u .inside)
 
@@ -108,9 +112,9 @@ module _ (group : ℕ → Group) (t : Table) (r : Request) (room : ℕ) (well : 
     unfolding highXofY filled padded
     outside-other d less =
         rw (stays (highXofY group r) (lawful group r) (history t) (history (filled 2)) (longer-extends (padded-longer gap 2 t gap-room)) holds
-            (put-ineligible gap t gap-room) (put-unspare gap t gap-room))
+        (put-ineligible gap t gap-room) (put-unspare gap t gap-room))
         (⊎-elim (λ e. absurd (omega (arith, held-first (history t) d (seen-held (highXofY group r) (lawful group r) (history t) d (window-seen (highXofY group r) (lawful group r) (history t) d e)))))
-            (λ e. e) (bool-cases (member d (windowDays group t r))))
+        (λ e. e) (bool-cases (member d (windowDays group t r))))
 
     undecided : Undecided group t r
     undecided =
@@ -131,10 +135,13 @@ module _ (group : ℕ → Group) (t : Table) (r : Request) (room : ℕ) (well : 
     where
       short : isShort (highXofY group r) (history t) ≡ true
       short = sym (margin-is group t r room n) ∙ e
+
       k : ℕ
       k = short-day (highXofY group r) (history t) short .0
+
       relevant : member k (relevantDays group r) ≡ true
       relevant = short-day (highXofY group r) (history t) short .1
+
       below : k < t .first
       below = short-day (highXofY group r) (history t) short .2
 
@@ -158,6 +165,7 @@ module _ (group : ℕ → Group) (t : Table) (r : Request) (room : ℕ) (well : 
     where
       extends : Extends (history t) (history p)
       extends = longer-extends (x .longer)
+
       outcomes : outcome (highXofY group r) (history t) ≡ outcome (highXofY group r) (history p)
       outcomes =
           same-outcome (highXofY group r) (lawful group r) (history p) (history t) extends (x .holds)

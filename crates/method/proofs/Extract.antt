@@ -68,6 +68,7 @@ closing-reach m h = go (isShort m h) (eqb (m .taken (length (window m h))) 0) (m
     ending : Bool → Bool → Option Baseline → Reply
     ending s f o =
         closing (cond s (short (wholeReach m)) (cond f (few (length (window m h)) (reach m h)) (chose (dated (chosen m h)) (reach m h) o)))
+
     go : (s f : Bool) (o : Option Baseline) → isSettled (ending s f o) ≡ true → reported (ending s f o) ≡ reach m h
     go true f o e = absurd (clash e refl)
     go false true o e = refl
@@ -109,8 +110,12 @@ module _ (group : ℕ → Group) (t : Table) (r : Request) (room : ℕ)
     within : (k : ℕ) → k ≤ reported (verdict group t r room) → k ≤ heldBefore t r
     unfolding highXofY
     within k e =
-        omega (arith, at, reach-held (highXofY group r) (lawful group r) (history t) holds
-            (sym (margin-is group t r room (settled-early group t r room of-method)) ∙ clear))
+        omega (
+          arith,
+          at,
+          reach-held (highXofY group r) (lawful group r) (history t) holds
+              (sym (margin-is group t r room (settled-early group t r room of-method)) ∙ clear),
+        )
 
     module _ (k : ℕ) (e : k ≤ reported (verdict group t r room)) where
       part : Part (cutTo t r k) t r
@@ -129,6 +134,7 @@ module _ (group : ℕ → Group) (t : Table) (r : Request) (room : ℕ)
       where
         k : ℕ
         k = reported (verdict group t r room)
+
         all : k ≤ k
         all = omega arith
 
@@ -139,7 +145,7 @@ module _ (group : ℕ → Group) (t : Table) (r : Request) (room : ℕ)
         part-is k fits ∙
         demand3 group (cutTo t r k) r room (part k fits .formed) (part k fits .holds) .carried
         (demand3 group t r room well holds .fewer (settled-early group t r room of-method) clear (cutTo t r k) (part k fits)
-            (omega (arith, at, days k fits)))
+        (omega (arith, at, days k fits)))
       where
         fits : k ≤ reported (verdict group t r room)
         fits = omega arith

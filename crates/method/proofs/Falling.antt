@@ -18,6 +18,7 @@ falling-keep p (next {d} {ds} below rest) = go (p d) (falling-keep p rest)
   where
     under : (x : ℕ) → member x (keep p ds) ≡ true → x < d
     under x e = below x (kept-member p ds x e)
+
     go : (b : Bool) → Falling (keep p ds) → Falling (cond b (d ∷ keep p ds) (keep p ds))
     go true f = next under f
     go false f = f
@@ -36,18 +37,23 @@ falling-split p f (next {d} {ds} below rest) = ⊎-elim (above (falling-split p 
   where
     later : List ℕ
     later = keep (since f p) ds
+
     earlier : List ℕ
     earlier = keep (until f p) ds
+
     go : (b : Bool) → keep p ds ≡ later ++ earlier → cond b (d ∷ keep p ds) (keep p ds) ≡ cond b (d ∷ later) later ++ earlier
     go true ih = ap (λ l. d ∷ l) ih
     go false ih = ih
+
     above : keep p ds ≡ later ++ earlier → leb f d ≡ true
         → cond (p d) (d ∷ keep p ds) (keep p ds)
-            ≡ cond (since f p d) (d ∷ later) later ++ cond (until f p d) (d ∷ earlier) earlier
+        ≡ cond (since f p d) (d ∷ later) later ++ cond (until f p d) (d ∷ earlier) earlier
     above ih e = rw (e, le-ltb d f (leb-true f d e)) (go (p d) ih)
+
     none-later : leb f d ≡ false → later ≡ []
     none-later e = keep-none (since f p) ds (λ x m. rw (lt-leb f x (omega (arith, leb-false f d e, below x m))))
+
     under : keep p ds ≡ later ++ earlier → leb f d ≡ false
         → cond (p d) (d ∷ keep p ds) (keep p ds)
-            ≡ cond (since f p d) (d ∷ later) later ++ cond (until f p d) (d ∷ earlier) earlier
+        ≡ cond (since f p d) (d ∷ later) later ++ cond (until f p d) (d ∷ earlier) earlier
     under ih e = rw (e, lt-ltb d f (leb-false f d e), ih, none-later e)

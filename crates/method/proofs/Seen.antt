@@ -100,9 +100,9 @@ module _ {A O : Type 0} (m : Method A O) (law : Lawful m) where
         ⊎-elim
         (λ f. member-map-keep (λ (p : ℕ × A). m .eligible (p .1)) day (seen m h) d (member-map-take day (m .most) (eligibles m h) d f))
         (λ f. member-map-keep (λ (p : ℕ × A). m .spare (p .1)) day (seen m h) d
-            (law .only (keep (λ (p : ℕ × A). m .spare (p .1)) (seen m h)) d (member-map-take day (m .fill - length (eligibles m h)) (spares m h) d f)))
+        (law .only (keep (λ (p : ℕ × A). m .spare (p .1)) (seen m h)) d (member-map-take day (m .fill - length (eligibles m h)) (spares m h) d f)))
         (or-cases (member d (dated (take (m .most) (eligibles m h)))) (member d (dated (take (m .fill - length (eligibles m h)) (spares m h))))
-            (sym (member-map-append day d (take (m .most) (eligibles m h)) (take (m .fill - length (eligibles m h)) (spares m h))) ∙ e))
+        (sym (member-map-append day d (take (m .most) (eligibles m h)) (take (m .fill - length (eligibles m h)) (spares m h))) ∙ e))
       where
         day : ℕ × A → ℕ
         day p = p .0
@@ -124,10 +124,12 @@ module _ {A O : Type 0} (m : Method A O) (law : Lawful m) where
     pub seen-longer : seen m l ≡ seen m h ++ earlier m h l
     unfolding seen earlier
     seen-longer =
-        rw (falling-split (held l) (h .first) (law .falling),
-            map-append {B = ℕ × A} (λ d. (d, l .day d)) (keep (since (h .first) (held l)) (m .relevant)) (added m h l),
-            keep-same (since (h .first) (held l)) (held h) (m .relevant) since-first,
-            map-same {B = ℕ × A} (λ d. (d, l .day d)) (λ d. (d, h .day d)) (keep (held h) (m .relevant)) same)
+        rw (
+          falling-split (held l) (h .first) (law .falling),
+          map-append {B = ℕ × A} (λ d. (d, l .day d)) (keep (since (h .first) (held l)) (m .relevant)) (added m h l),
+          keep-same (since (h .first) (held l)) (held h) (m .relevant) since-first,
+          map-same {B = ℕ × A} (λ d. (d, l .day d)) (λ d. (d, h .day d)) (keep (held h) (m .relevant)) same,
+        )
       where
         same : (d : ℕ) → member d (keep (held h) (m .relevant)) ≡ true → _≡_ {A = ℕ × A} (d, l .day d) (d, h .day d)
         same d e = rw (x .agrees d (kept-holds (held h) (m .relevant) d e))

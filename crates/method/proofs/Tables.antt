@@ -38,6 +38,7 @@ offset-within f k d e g =
   where
     whole : d - f + 1 + (k - (d - f + 1)) ≡ k
     whole = omega arith
+
     back : f + (d - f) ≡ d
     back = omega arith
 
@@ -58,8 +59,13 @@ pub record Formed (t : Table) : Type 0 where
 pub formed : {t : Table} → Formed t → wellFormed t ≡ true
 unfolding wellFormed shaped
 formed {t} f =
-    rw (ne-eqb (heldDays t) 0 (λ e. omega arith), eq-eqb (length (t .readings)) (offset (t .first) (heldDays t)) (f .fits),
-        le-leb (t .first + heldDays t - 1) lastDay (f .last), f .good-marks, f .good-readings)
+    rw (
+      ne-eqb (heldDays t) 0 (λ e. omega arith),
+      eq-eqb (length (t .readings)) (offset (t .first) (heldDays t)) (f .fits),
+      le-leb (t .first + heldDays t - 1) lastDay (f .last),
+      f .good-marks,
+      f .good-readings,
+    )
 
 pub formed-is : (t : Table) → wellFormed t ≡ true → Formed t
 unfolding wellFormed shaped
@@ -74,16 +80,22 @@ formed-is t e =
   where
     some : Bool
     some = not (eqb (heldDays t) 0)
+
     sized : Bool
     sized = eqb (length (t .readings)) (offset (t .first) (heldDays t))
+
     inside : Bool
     inside = leb (t .first + heldDays t - 1) lastDay
+
     marks : Bool
     marks = all goodMark (t .marks)
+
     readings : Bool
     readings = all goodReading (t .readings)
+
     shape : ((some && sized) && inside) ≡ true
     shape = and-left (shaped t) marks (and-left (shaped t && marks) readings e)
+
     both : (some && sized) ≡ true
     both = and-left (some && sized) inside shape
 
@@ -102,8 +114,10 @@ module _ (k : ℕ) (t : Table) where
     where
       split : d - t .first ≡ k + (d - (t .first + k))
       split = omega arith
+
       marks : getD (t .marks) (d - t .first) 0 ≡ getD (drop k (t .marks)) (d - (t .first + k)) 0
       marks = rw (split, getD-drop)
+
       readings : drop (offset (t .first) (d - t .first)) (t .readings)
           ≡ drop (offset (t .first + k) (d - (t .first + k))) (drop (offset (t .first) k) (t .readings))
       readings = rw (split, offset-add (t .first) k (d - (t .first + k)), drop-drop)
@@ -135,6 +149,7 @@ module _ (k : ℕ) (t : Table) where
     where
       w : Formed t
       w = formed-is t e
+
       split : k + (heldDays t - k) ≡ heldDays t
       split = omega arith
 
@@ -177,8 +192,10 @@ module _ (k m : ℕ) (t : Table) (room : k ≤ t .first) where
     where
       first : t .first - k + k ≡ t .first
       first = omega arith
+
       marks : drop k (replicate k m ++ t .marks) ≡ t .marks
       marks = drop-at (replicate k m) (t .marks) k (length-replicate k m)
+
       readings : drop (offset (t .first - k) k) (replicate (offset (t .first - k) k) 0 ++ t .readings) ≡ t .readings
       readings = drop-at (replicate (offset (t .first - k) k) 0) (t .readings) (offset (t .first - k) k) (length-replicate (offset (t .first - k) k) 0)
 
@@ -205,6 +222,7 @@ module _ (k m : ℕ) (t : Table) (room : k ≤ t .first) where
     where
       w : Formed t
       w = formed-is t e
+
       back : t .first - k + k ≡ t .first
       back = omega arith
 
@@ -219,13 +237,17 @@ module _ (k m : ℕ) (t : Table) (room : k ≤ t .first) where
     pub padded-readings : (p : ℕ → Bool) → p 0 ≡ true → all p (dayOf (padded k m t) d .readings) ≡ true
     unfolding dayOf padded
     padded-readings p e =
-        rw (drop-append-le at zeros (t .readings) (rw length-replicate (omega (arith, inside))),
-            take-append-le (size d) (drop at zeros) (t .readings) (rw (length-drop, length-replicate) (omega (arith, inside))))
+        rw (
+          drop-append-le at zeros (t .readings) (rw length-replicate (omega (arith, inside))),
+          take-append-le (size d) (drop at zeros) (t .readings) (rw (length-drop, length-replicate) (omega (arith, inside))),
+        )
         (all-take p (size d) (drop at zeros) (all-drop p at zeros (all-replicate p (offset (t .first - k) k) 0 e)))
       where
         at : ℕ
         at = offset (t .first - k) (d - (t .first - k))
+
         zeros : List ℕ
         zeros = replicate (offset (t .first - k) k) 0
+
         inside : at + size d ≤ offset (t .first - k) k
         inside = offset-within (t .first - k) k d since (omega arith)

@@ -31,9 +31,9 @@ smaller-first x y (a ∷ l) h =
     ⊎-elim
     (λ (p : a < y). let o : y ≤ x = omega arith in let q : a < x = omega arith in simp (goes-here, goes-later))
     (λ (p : y ≤ a). ⊎-elim
-      (λ (q : a < x). let o : y ≤ x = omega arith in simp (goes-here, goes-later))
-      (λ (q : x ≤ a). simp (goes-later, smaller-first x y l h))
-      (lt-or-le a x))
+    (λ (q : a < x). let o : y ≤ x = omega arith in simp (goes-here, goes-later))
+    (λ (q : x ≤ a). simp (goes-later, smaller-first x y l h))
+    (lt-or-le a x))
     (lt-or-le a y)
 
 pub commute : (x y : ℕ) (l : List ℕ) → insertDown x (insertDown y l) ≡ insertDown y (insertDown x l)
