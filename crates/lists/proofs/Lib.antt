@@ -1,5 +1,7 @@
 pub mod Bools
 pub mod Below
 pub mod Members
+pub mod All
+pub mod Parts
 pub mod Sums
 pub mod Keep

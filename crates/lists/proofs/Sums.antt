@@ -1,11 +1,17 @@
--- The sum of the first numbers of a list.
-use Prim.Native.Nat.{ℕ, zero, suc, _+_, _-_, _≤_, _<_}
-use mathlib.Core.Path.{_≡_, refl}
-use mathlib.Core.List.{List, [], _∷_}
+-- Sums of lists: of the first numbers, put together, bounded, and in two orders.
+use Prim.Native.Nat.{ℕ, zero, suc, _+_, _-_, _*_, _≤_, _<_}
+use mathlib.Core.Path.{_≡_, refl, sym}
+use mathlib.Core.Bool.{true}
+use mathlib.Core.List.{List, [], _∷_, _++_, map}
+use native.Mathlib.Nat.{le-refl, not-suc-le-zero, mul-suc}
+use native.Mathlib.Numerals.{add-one}
 use native.Mathlib.Omega.{arith}
-use native.Mathlib.Nat.{le-refl, not-suc-le-zero}
-use lib.ListN.{length, take, getD}
-use Rattle.lists.specs.Lists.{sumOf}
+use borrow.Author.Tests.{leb-true}
+use lib.Dec.{leb}
+use lib.ListN.{length, take, drop, getD}
+use lib.Seq.{drop-cons}
+use Rattle.lists.specs.Lists.{all, sumOf}
+use Rattle.lists.proofs.All.{both}
 
 pub sum-take-suc : (ls : List ℕ) (k : ℕ) → sumOf (take (suc k) ls) ≡ sumOf (take k ls) + getD ls k 0
 unfolding sumOf
@@ -34,3 +40,37 @@ sum-before ls (suc k) = rw same (omega (arith, sum-take-suc ls k))
   where
     same : suc k - 1 ≡ k
     same = omega arith
+
+pub sum-append : (xs ys : List ℕ) → sumOf (xs ++ ys) ≡ sumOf xs + sumOf ys
+unfolding sumOf
+sum-append [] ys = omega arith
+sum-append (x ∷ xs) ys = rw (sum-append xs ys) (omega arith)
+
+pub sum-bounded : (b : ℕ) (xs : List ℕ) → all (λ x. leb x b) xs ≡ true → sumOf xs ≤ b * length xs
+unfolding sumOf all
+sum-bounded b [] t = omega arith
+sum-bounded b (x ∷ xs) t =
+    let w = both (leb x b) (all (λ x. leb x b) xs) t in
+    omega (arith, leb-true x b (w .0), sum-bounded b xs (w .1), mul-suc b (length xs))
+
+-- a sum of sums
+pub sum-map-add : {A : Type 0} (f g : A → ℕ) (xs : List A) → sumOf (map (λ x. f x + g x) xs) ≡ sumOf (map f xs) + sumOf (map g xs)
+unfolding sumOf
+sum-map-add f g [] = refl
+sum-map-add f g (x ∷ xs) = omega (arith, sum-map-add f g xs)
+
+sum-map-zero : {A : Type 0} (xs : List A) → sumOf (map (λ x. 0) xs) ≡ 0
+unfolding sumOf
+sum-map-zero [] = refl
+sum-map-zero (x ∷ xs) = omega (arith, sum-map-zero xs)
+
+pub sum-swap : {A B : Type 0} (f : A → B → ℕ) (xs : List A) (ys : List B)
+    → sumOf (map (λ x. sumOf (map (f x) ys)) xs) ≡ sumOf (map (λ y. sumOf (map (λ x. f x y) xs)) ys)
+unfolding sumOf
+sum-swap f [] ys = sym (sum-map-zero ys)
+sum-swap f (x ∷ xs) ys = omega (arith, sum-swap f xs ys, sum-map-add (f x) (λ y. sumOf (map (λ x. f x y) xs)) ys)
+
+-- one step of a loop that has the sum from `i` on to add
+pub sum-step : (xs : List ℕ) (i : ℕ) → i < length xs → sumOf (drop i xs) ≡ getD xs i 0 + sumOf (drop (i + 1) xs)
+unfolding sumOf
+sum-step xs i h = rw (add-one, drop-cons xs i 0)

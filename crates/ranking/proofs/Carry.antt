@@ -11,7 +11,7 @@ use lib.Dec.{ltb}
 use lib.Seq.{take-suc, drop-cons, take-suc-set, drop-set-lt, take-append-le, take-all, append-snoc}
 use borrow.Author.Tests.{ltb-true, ltb-false}
 use Rattle.ranking.specs.Words.{insertDown}
-use Rattle.ranking.proofs.Falling.{goes-here, goes-later}
+use Rattle.ranking.proofs.Insertion.{goes-here, goes-later}
 
 abbrev pub rest : Bool → ℕ → List ℕ → List ℕ
 rest placed carry l = cond placed (carry ∷ l) (insertDown carry l)

@@ -1,8 +1,7 @@
-pub mod Bools
+pub mod Rank
 pub mod Sorting
-pub mod Falling
+pub mod Insertion
+pub mod Numbers
+pub mod Basics
 pub mod Carry
 pub mod OneByOne
-pub mod Padding
-pub mod Words
-pub mod Rank

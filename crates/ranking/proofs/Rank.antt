@@ -1,30 +1,34 @@
 -- The laws of ranking. A row of ten falling words, into which words are put one by one as they come, holds at every moment the ten highest of
 -- all that came, and the words of the days before an event rank as 01 ranks the days.
 use Prim.Native.Nat.{ℕ, zero, suc, _+_, _-_, _*_, _%_, _^_, _<_, _≤_}
-use mathlib.Core.Path.{_≡_, refl, ap, sym, _∙_}
+use mathlib.Core.Path.{_≡_, refl, ap, ap₂, sym, _∙_}
 use mathlib.Core.Bool.{Bool, true, _&&_}
 use mathlib.Core.List.{List, [], _∷_, _++_, map, append-nil}
 use mathlib.Core.Logic.{⊎-elim}
 use native.Mathlib.Omega.{arith}
-use lib.ListN.{take, length, replicate}
-use lib.Seq.{append-snoc, take-take}
+use lib.ListN.{take, length, replicate, length-take, length-append, length-replicate, length-map}
+use lib.Seq.{append-snoc, take-take, take-append-le}
 use lib.Dec.{leb, ltb}
-use Rattle.lists.specs.Lists.{all, any, member}
+use borrow.Author.Tests.{leb-true, ltb-true, le-leb}
+use Rattle.lists.specs.Lists.{all}
 use Rattle.method.specs.declared.Request.{Request}
-use Rattle.method.specs.Table.{Day}
+use Rattle.method.specs.Table.{Day, goodReading}
 use Rattle.method.specs.Method.{dated}
-use Rattle.method.specs.HighXofY.{eventSum, higher, sortBy}
+use Rattle.method.specs.HighXofY.{complete, eventSum, higher, sortBy}
 use Rattle.ranking.specs.Words.{word, above, insertDown, sortDown, padded, insertAll}
-use Rattle.ranking.proofs.Sorting
-use Rattle.ranking.proofs.Falling
-use Rattle.ranking.proofs.Padding
+use Rattle.ranking.proofs.Basics.{both, lt-or-le, all-take, map-take, map-append}
+use Rattle.ranking.proofs.Sorting.{same-sorted, length-sorted, all-inserted, all-sorted, map-sorted}
+use Rattle.ranking.proofs.Insertion.{into-none, goes-here, goes-later, smaller-first, none-above, before-noughts, behind-all}
 use Rattle.ranking.proofs.OneByOne.{insert-none, insert-next}
-use Rattle.ranking.proofs.Words
+use Rattle.ranking.proofs.Numbers.{sums-then-nearness, later-is-nearer, day-back, part-small}
 
 -- The order in which words come does not matter
 
 pub insertions-commute : (x y : ℕ) (row : List ℕ) → insertDown x (insertDown y row) ≡ insertDown y (insertDown x row)
-insertions-commute = Falling.commute
+insertions-commute x y row =
+    ⊎-elim (smaller-first x y row)
+    (λ h. ⊎-elim (λ o. sym (smaller-first y x row o)) (λ o. let e : x ≡ y = omega arith in rw e) (lt-or-le x y))
+    (lt-or-le y x)
 
 pub sort-one-more : (l : List ℕ) (x : ℕ) → sortDown (l ++ (x ∷ [])) ≡ insertDown x (sortDown l)
 unfolding sortBy
@@ -44,18 +48,57 @@ sort-as-they-come a (x ∷ b) =
 
 pub sort-sorted : (before : ℕ → ℕ → Bool) (l : List ℕ) → sortDown (sortBy before l) ≡ sortDown l
 unfolding sortBy
-sort-sorted before = Sorting.same-sorted before sortDown insertDown (λ x xs. refl) insertions-commute
+sort-sorted before = same-sorted before sortDown insertDown (λ x xs. refl) insertions-commute
+
+-- each word is at least as high as all that follow it
+unfoldable pub falling : List ℕ → Bool
+falling [] = true
+falling (x ∷ xs) = all (λ y. leb y x) xs && falling xs
+
+insert-falls : (x : ℕ) (row : List ℕ) → falling row ≡ true → falling (insertDown x row) ≡ true
+unfolding falling all
+insert-falls x [] t = rw (into-none x)
+insert-falls x (a ∷ l) t =
+    let ta = both (all (λ y. leb y a) l) (falling l) t in
+    ⊎-elim
+    (λ (p : a < x). let o : a ≤ x = omega arith in rw (goes-here x a l p, le-leb a x o, none-above a x l o (ta .0), t))
+    (λ (p : x ≤ a).
+    rw (goes-later x a l p, all-inserted above (λ y. leb y a) x l, le-leb x a p, ta .0, insert-falls x l (ta .1)))
+    (lt-or-le a x)
+
+pub sorted-falls : (l : List ℕ) → falling (sortDown l) ≡ true
+unfolding falling sortBy
+sorted-falls [] = refl
+sorted-falls (x ∷ l) = insert-falls x (sortDown l) (sorted-falls l)
 
 -- The first `n` of a row are enough to know the first `n` of the row with one more
 
 pub keep-top : (n x : ℕ) (row : List ℕ) → take n (insertDown x (take n row)) ≡ take n (insertDown x row)
-keep-top = Falling.keep-top
+keep-top zero x row = refl
+keep-top (suc n) x [] = refl
+keep-top (suc n) x (a ∷ l) =
+    ⊎-elim
+    (λ (p : a < x). simp goes-here (ap (λ (k : List ℕ). x ∷ k) (cut n a l)))
+    (λ (p : x ≤ a). simp goes-later (ap (λ (k : List ℕ). a ∷ k) (keep-top n x l)))
+    (lt-or-le a x)
+  where
+    cut : (m b : ℕ) (k : List ℕ) → take m (b ∷ take m k) ≡ take m (b ∷ k)
+    cut zero b k = refl
+    cut (suc m) b k = let o : m ≤ suc m = omega arith in rw (take-take m (suc m) k o)
+
+pub length-padded : (n : ℕ) (l : List ℕ) → length (padded n l) ≡ n
+length-padded n l = simp (length-take, length-append, length-replicate) (omega arith)
+
+pub take-padded : (k n : ℕ) (l : List ℕ) → k ≤ length l → k ≤ n → take k (padded n l) ≡ take k l
+take-padded k n l h o = rw (take-take k n (l ++ replicate n 0) o, take-append-le k l (replicate n 0) h)
 
 pub insert-padded : (n x : ℕ) (l : List ℕ) → take n (insertDown x (padded n l)) ≡ padded n (insertDown x l)
-insert-padded = Padding.insert-padded
+insert-padded n x l = keep-top n x (l ++ replicate n 0) ∙ ap (take n) (before-noughts n x l)
 
 pub insert-nought : (n : ℕ) (l : List ℕ) → take n (insertDown 0 (padded n l)) ≡ padded n l
-insert-nought = Padding.insert-nought
+insert-nought n l =
+    let o : n ≤ length (padded n l) = omega (arith, length-padded n l) in
+    rw (behind-all (padded n l), take-append-le n (padded n l) (0 ∷ []) o) (take-take n n (l ++ replicate n 0) (omega arith))
 
 pub insert-sorts : (n x : ℕ) (l : List ℕ) → take n (insertDown x (padded n (sortDown l))) ≡ padded n (sortDown (l ++ (x ∷ [])))
 insert-sorts n x l = insert-padded n x (sortDown l) ∙ ap (padded n) (sym (sort-one-more l x))
@@ -86,3 +129,80 @@ insert-all-before-noughts (suc k) m (x ∷ b) l =
 pub insert-all-padded : (k : ℕ) (b l : List ℕ) → k ≤ 10
     → insertAll (take k (padded 10 b)) (padded 10 (sortDown l)) ≡ padded 10 (sortDown (l ++ take k b))
 insert-all-padded k b l h = rw (take-take k 10 (b ++ replicate 10 0) h) (insert-all-before-noughts k 10 b l)
+
+-- Words rank days
+
+-- the day lies from D-45 to D-1
+abbrev pub lookedBack : Request → ℕ × Day → Bool
+lookedBack r p = leb (r .event) (p .0 + 45) && ltb (p .0) (r .event)
+
+-- the day of a word
+abbrev pub dayOfWord : Request → ℕ → ℕ
+dayOfWord r w = r .event - (46 - w % 64)
+
+module _ (r : Request) where
+  from-45 : (p : ℕ × Day) → lookedBack r p ≡ true → r .event ≤ p .0 + 45
+  from-45 p h = leb-true (r .event) (p .0 + 45) (both (leb (r .event) (p .0 + 45)) (ltb (p .0) (r .event)) h .0)
+
+  before-event : (p : ℕ × Day) → lookedBack r p ≡ true → p .0 < r .event
+  before-event p h = ltb-true (p .0) (r .event) (both (leb (r .event) (p .0 + 45)) (ltb (p .0) (r .event)) h .1)
+
+  pub higher-above : (a b : ℕ × Day) → lookedBack r a ≡ true → lookedBack r b ≡ true → higher r a b ≡ above (word r a) (word r b)
+  unfolding higher word
+  higher-above a b ha hb =
+      let pa = before-event a ha in
+      let pb = before-event b hb in
+      rw (later-is-nearer (r .event) (b .0) (from-45 b hb) (a .0) (from-45 a ha))
+      (sums-then-nearness (eventSum r (a .1)) (eventSum r (b .1)) (a .0 + 46 - r .event) (b .0 + 46 - r .event) (omega arith) (omega arith))
+
+  pub words-sorted : (l : List (ℕ × Day)) → all (lookedBack r) l ≡ true → map (word r) (sortBy (higher r) l) ≡ sortDown (map (word r) l)
+  words-sorted = map-sorted (higher r) above (lookedBack r) (word r) higher-above
+
+  pub days-back : (l : List (ℕ × Day)) → all (lookedBack r) l ≡ true → map (dayOfWord r) (map (word r) l) ≡ dated l
+  unfolding all word
+  days-back [] h = refl
+  days-back (p ∷ l) h =
+      ap₂ {B = List ℕ} {C = List ℕ} _∷_
+      (day-back (r .event) (p .0) (from-45 p (both (lookedBack r p) (all (lookedBack r) l) h .0)) (eventSum r (p .1))
+      (before-event p (both (lookedBack r p) (all (lookedBack r) l) h .0)))
+      (days-back l (both (lookedBack r p) (all (lookedBack r) l) h .1))
+
+  pub first-words : (k : ℕ) (l : List (ℕ × Day)) → all (lookedBack r) l ≡ true
+      → take k (sortDown (map (word r) l)) ≡ map (word r) (take k (sortBy (higher r) l))
+  first-words k l h = ap (take k) (sym (words-sorted l h)) ∙ sym (map-take (word r) k (sortBy (higher r) l))
+
+  pub first-days : (k : ℕ) (l : List (ℕ × Day)) → all (lookedBack r) l ≡ true
+      → map (dayOfWord r) (take k (sortDown (map (word r) l))) ≡ dated (take k (sortBy (higher r) l))
+  first-days k l h =
+      ap (map (dayOfWord r)) (first-words k l h)
+      ∙ days-back (take k (sortBy (higher r) l)) (all-take (lookedBack r) k (sortBy (higher r) l) (all-sorted (higher r) (lookedBack r) l ∙ h))
+
+  -- the first of the row of `n` words are the days that 01 ranks first
+  pub first-of-row : (k n : ℕ) (l : List (ℕ × Day)) → all (lookedBack r) l ≡ true → k ≤ length l → k ≤ n
+      → map (dayOfWord r) (take k (padded n (sortDown (map (word r) l)))) ≡ dated (take k (sortBy (higher r) l))
+  first-of-row k n l h o t =
+      let s : k ≤ length (sortDown (map (word r) l)) = omega (arith, length-sorted above (map (word r) l), length-map l (word r)) in
+      ap (map (dayOfWord r)) (take-padded k n (sortDown (map (word r) l)) s t) ∙ first-days k l h
+
+  -- the row of the eligible days, with the words of the `k` highest spares put in, is the row of the window
+  pub window-ranked : (k : ℕ) (eligible spare : List (ℕ × Day)) → all (lookedBack r) spare ≡ true → k ≤ 10
+      → insertAll (take k (padded 10 (sortDown (map (word r) spare)))) (padded 10 (sortDown (map (word r) eligible)))
+      ≡ padded 10 (sortDown (map (word r) (eligible ++ take k (sortBy (higher r) spare))))
+  window-ranked k eligible spare hs o =
+      insert-all-padded k (sortDown (map (word r) spare)) (map (word r) eligible) o
+      ∙ ap (λ (l : List ℕ). padded 10 (sortDown l))
+      (ap (λ (l : List ℕ). map (word r) eligible ++ l) (first-words k spare hs) ∙ sym (map-append (word r) eligible (take k (sortBy (higher r) spare))))
+
+  -- A word is above 0, and small
+
+  pub word-above-nought : (p : ℕ × Day) → lookedBack r p ≡ true → 0 < word r p
+  unfolding word
+  word-above-nought p h = omega (arith, from-45 p h)
+
+  pub word-small : (p : ℕ × Day) → lookedBack r p ≡ true → eventSum r (p .1) ≤ 960000000 → word r p < 2 ^ 36
+  unfolding word
+  word-small p h s = omega (arith, before-event p h)
+
+  pub sum-small : (d : Day) → length (d .readings) ≤ 96 → all goodReading (d .readings) ≡ true → complete d ≡ true → eventSum r d ≤ 960000000
+  unfolding eventSum complete
+  sum-small d n good there = omega (arith, part-small (r .s - 96) (r .e - r .s) (d .readings) good there)

@@ -1,14 +1,15 @@
 -- Sorting by insertion, for any test: what does not depend on the order of a list is the same of the sorted list, and a map that keeps the
 -- test carries one sorted list to the other.
-use Prim.Native.Nat.{ℕ, suc, _+_}
+use Prim.Native.Nat.{ℕ, suc}
 use mathlib.Core.Path.{_≡_, refl, sym, ap, _∙_}
 use mathlib.Core.Bool.{Bool, true, false, _&&_, _||_, cond}
 use mathlib.Core.List.{List, [], _∷_, map}
 use lib.ListN.{length}
 use lib.Dec.{eqb}
-use Rattle.lists.specs.Lists.{all, any, member}
+use Rattle.lists.specs.Lists.{all, member}
+use Rattle.method.specs.Method.{dated}
 use Rattle.method.specs.HighXofY.{insertBy, sortBy}
-use Rattle.ranking.proofs.Bools.{both}
+use Rattle.ranking.proofs.Basics.{both}
 
 -- `g` folds a list by a step `f`, and the order of two steps does not matter
 module _ {A C : Type 0} (before : A → A → Bool) (g : List A → C) (f : A → C → C)
@@ -41,19 +42,25 @@ module _ {A : Type 0} (before : A → A → Bool) where
   pub length-sorted : (l : List A) → length (sortBy before l) ≡ length l
   length-sorted = same-sorted before length (λ x. suc) (λ x xs. refl) (λ x y c. refl)
 
+  pub all-inserted : (p : A → Bool) (x : A) (l : List A) → all p (insertBy before x l) ≡ (p x && all p l)
+  unfolding all
+  all-inserted p = insert-same before (all p) (λ x c. p x && c) (λ x xs. refl) (λ x y c. and-swap (p x) (p y) c)
+
   pub all-sorted : (p : A → Bool) (l : List A) → all p (sortBy before l) ≡ all p l
   unfolding all
   all-sorted p = same-sorted before (all p) (λ x c. p x && c) (λ x xs. refl) (λ x y c. and-swap (p x) (p y) c)
 
-  pub any-sorted : (p : A → Bool) (l : List A) → any p (sortBy before l) ≡ any p l
-  unfolding any
-  any-sorted p = same-sorted before (any p) (λ x c. p x || c) (λ x xs. refl) (λ x y c. or-swap (p x) (p y) c)
+pub members-sorted : (before : ℕ → ℕ → Bool) (n : ℕ) (l : List ℕ) → member n (sortBy before l) ≡ member n l
+unfolding member
+members-sorted before n =
+    same-sorted before (member n) (λ x c. eqb n x || c) (λ x xs. refl) (λ x y c. or-swap (eqb n x) (eqb n y) c)
 
-  pub dated-sorted : (f : A → ℕ) (d : ℕ) (l : List A) → member d (map f (sortBy before l)) ≡ member d (map f l)
-  unfolding member
-  dated-sorted f d =
-      same-sorted before (λ (l : List A). member d (map f l)) (λ x c. eqb d (f x) || c) (λ x xs. refl)
-      (λ x y c. or-swap (eqb d (f x)) (eqb d (f y)) c)
+pub days-sorted : {A : Type 0} (before : ℕ × A → ℕ × A → Bool) (d : ℕ) (l : List (ℕ × A))
+    → member d (dated (sortBy before l)) ≡ member d (dated l)
+unfolding member
+days-sorted {A} before d =
+    same-sorted before (λ (l : List (ℕ × A)). member d (dated l)) (λ x c. eqb d (x .0) || c) (λ x xs. refl)
+    (λ x y c. or-swap (eqb d (x .0)) (eqb d (y .0)) c)
 
 -- where `f` keeps the tests of the days of which `p` holds
 module _ {A B : Type 0} (before : A → A → Bool) (before′ : B → B → Bool) (p : A → Bool) (f : A → B)

@@ -7,10 +7,10 @@ use Rattle.ranking.proofs.insert_all.Statement.{statement}
 use Rattle.ranking.proofs.insert_all.Tie as tie
 
 abbrev Inv-loop : tie.InvT-loop
-Inv-loop count words kept₀ i₀ kept i = Inserting count words kept₀ kept i
+Inv-loop count words kept₀ done₀ kept done = Inserting count words kept₀ kept done
 
 abbrev μ-loop : tie.MeasureT-loop
-μ-loop count words kept₀ i₀ kept i = 10 - i
+μ-loop count words kept₀ done₀ kept done = 10 - done
 
 loop-holds : tie.Need-loop-holds Inv-loop μ-loop
 loop-holds c = record { within = omega arith; left = rw sub-zero }
@@ -27,8 +27,8 @@ array-read-insert c = omega arith
 insert-requires : tie.Need-insert-requires Inv-loop μ-loop
 insert-requires c κs = tt
 
-add-i : tie.Need-add-i Inv-loop μ-loop
-add-i c = omega arith
+add-done : tie.Need-add-done Inv-loop μ-loop
+add-done c = omega arith
 
 loop-less : tie.Need-loop-less Inv-loop μ-loop
 loop-less c = omega arith
@@ -50,7 +50,7 @@ insert-all-spec =
     mul-insert
     array-read-insert
     insert-requires
-    add-i
+    add-done
     loop-less
     loop-again
     returns-2)

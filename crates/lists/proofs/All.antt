@@ -1,0 +1,116 @@
+-- `all` and `leading` of lists put together and taken apart.
+use Prim.Native.Nat.{ℕ, zero, suc, _+_, _-_, _≤_, _<_}
+use mathlib.Core.Path.{_≡_, refl, sym, ap, _∙_}
+use mathlib.Core.Bool.{Bool, true, false, _&&_, false≢true}
+use mathlib.Core.List.{List, [], _∷_, _++_}
+use mathlib.Core.Logic.{_⊎_, inl, inr, ⊎-elim}
+use native.Mathlib.Numerals.{add-one}
+use native.Mathlib.Omega.{arith}
+use lib.ListN.{length, take, drop, getD, length-drop, drop-of-length-le}
+use lib.Seq.{drop-cons, drop-nil, drop-drop, getD-take, getD-drop}
+use Rattle.lists.specs.Lists.{all, leading}
+
+pub bool-cases : (b : Bool) → (b ≡ true) ⊎ (b ≡ false)
+bool-cases true = inl refl
+bool-cases false = inr refl
+
+pub and-assoc : (a b c : Bool) → ((a && b) && c) ≡ (a && (b && c))
+and-assoc true b c = refl
+and-assoc false b c = refl
+
+pub and-true : (a : Bool) → (a && true) ≡ a
+and-true true = refl
+and-true false = refl
+
+pub and-false : (a : Bool) → (a && false) ≡ false
+and-false true = refl
+and-false false = refl
+
+pub both : (a b : Bool) → (a && b) ≡ true → (a ≡ true) × (b ≡ true)
+both true b t = (refl, t)
+both false b t = absurd (false≢true t)
+
+module _ {A : Type 0} (p : A → Bool) where
+  pub all-cons : (x : A) (xs : List A) → all p (x ∷ xs) ≡ (p x && all p xs)
+  unfolding all
+  all-cons x xs = refl
+
+  pub all-append : (xs ys : List A) → all p (xs ++ ys) ≡ (all p xs && all p ys)
+  unfolding all
+  all-append [] ys = refl
+  all-append (x ∷ xs) ys = rw (all-append xs ys) (sym (and-assoc (p x) (all p xs) (all p ys)))
+
+  pub all-take : (n : ℕ) (xs : List A) → all p xs ≡ true → all p (take n xs) ≡ true
+  unfolding all
+  all-take zero xs t = refl
+  all-take (suc n) [] t = refl
+  all-take (suc n) (x ∷ xs) t = let w = both (p x) (all p xs) t in rw (w .0) (all-take n xs (w .1))
+
+  pub all-drop : (n : ℕ) (xs : List A) → all p xs ≡ true → all p (drop n xs) ≡ true
+  unfolding all
+  all-drop zero xs t = t
+  all-drop (suc n) [] t = refl
+  all-drop (suc n) (x ∷ xs) t = all-drop n xs (both (p x) (all p xs) t .1)
+
+  -- at every place, and past the end where it holds of the default
+  pub all-at : (d : A) → p d ≡ true → (xs : List A) → all p xs ≡ true → (i : ℕ) → p (getD xs i d) ≡ true
+  unfolding all
+  all-at d e [] t i = e
+  all-at d e (x ∷ xs) t zero = both (p x) (all p xs) t .0
+  all-at d e (x ∷ xs) t (suc i) = all-at d e xs (both (p x) (all p xs) t .1) i
+
+  -- one element of which `p` does not hold is enough
+  pub all-lacks : (d : A) → p d ≡ true → (xs : List A) (a n j : ℕ) → a ≤ j → j < a + n → p (getD xs j d) ≡ false
+      → all p (take n (drop a xs)) ≡ false
+  all-lacks d e xs a n j low high f = ⊎-elim (λ t. absurd (false≢true (sym f ∙ sym same ∙ all-at d e (take n (drop a xs)) t (j - a)))) (λ t. t) (bool-cases (all p (take n (drop a xs))))
+    where
+      same : p (getD (take n (drop a xs)) (j - a) d) ≡ p (getD xs j d)
+      same = let o : j - a < n = omega arith in let k : a + (j - a) ≡ j = omega arith in rw (getD-take, getD-drop, k)
+
+  -- all of `n` from `a` on hold where the first of them and the others do
+  pub all-before : (d : A) (xs : List A) (a n : ℕ) → p (getD xs a d) ≡ true → all p (take n (drop (suc a) xs)) ≡ true
+      → all p (take (suc n) (drop a xs)) ≡ true
+  unfolding all
+  all-before d [] a n e t = rw (drop-nil {A = A} a)
+  all-before d (x ∷ xs) zero n e t = rw e t
+  all-before d (x ∷ xs) (suc a) n e t = all-before d xs a n e t
+
+  pub leading-pass : (xs : List A) (n : ℕ) → n ≤ length xs → all p (take n xs) ≡ true → n + leading p (drop n xs) ≡ leading p xs
+  unfolding all leading
+  leading-pass xs zero h t = omega arith
+  leading-pass [] (suc n) h t = omega arith
+  leading-pass (x ∷ xs) (suc n) h t =
+      let w = both (p x) (all p (take n xs)) t in
+      rw (w .0) (omega (arith, leading-pass xs n (omega arith) (w .1)))
+
+  -- one step of a loop that asks all from `i` on, and its end
+  pub all-step : (b : Bool) (xs : List A) (i : ℕ) (d : A) → i < length xs
+      → ((b && p (getD xs i d)) && all p (drop (i + 1) xs)) ≡ (b && all p (drop i xs))
+  unfolding all
+  all-step b xs i d h = rw (add-one, drop-cons xs i d) (and-assoc b (p (getD xs i d)) (all p (drop (suc i) xs)))
+
+  pub all-end : (b : Bool) (xs : List A) (i : ℕ) → length xs ≤ i → (b && all p (drop i xs)) ≡ b
+  unfolding all
+  all-end b xs i h = rw (drop-of-length-le xs h) (and-true b)
+
+  -- one step of a loop that passes what `p` holds of, and its two ends
+  pub leading-step : (xs : List A) (i : ℕ) (d : A) → i < length xs → p (getD xs i d) ≡ true
+      → i + 1 + leading p (drop (i + 1) xs) ≡ i + leading p (drop i xs)
+  unfolding leading
+  leading-step xs i d h t = rw (add-one, drop-cons xs i d, t) (omega arith)
+
+  pub leading-stop : (xs : List A) (i : ℕ) (d : A) → i < length xs → p (getD xs i d) ≡ false → i + leading p (drop i xs) ≡ i
+  unfolding leading
+  leading-stop xs i d h f = rw (drop-cons xs i d, f) (omega arith)
+
+  pub leading-end : (xs : List A) (i : ℕ) → length xs ≤ i → i + leading p (drop i xs) ≡ i
+  unfolding leading
+  leading-end xs i h = rw (drop-of-length-le xs h) (omega arith)
+
+  -- the part from `i` up to `e` is passed whole
+  pub leading-part : (xs : List A) (i e : ℕ) → i ≤ e → e ≤ length xs → all p (take (e - i) (drop i xs)) ≡ true
+      → e + leading p (drop e xs) ≡ i + leading p (drop i xs)
+  leading-part xs i e h h′ t =
+      let k : i + (e - i) ≡ e = omega arith in
+      let rest = ap (leading p) (drop-drop (e - i) i xs ∙ ap (λ (n : ℕ). drop n xs) k) in
+      omega (arith, leading-pass (drop i xs) (e - i) (rw length-drop (omega arith)) t, rest)

@@ -1,0 +1,60 @@
+-- `readings::sum` meets its contract. The invariant: the total and what is left to add, as a number of 32 bits, is the sum.
+use Prim.Native.Nat.{_+_, _-_, _%_, _^_, _≤_, _<_}
+use mathlib.Core.Path.{_≡_, ap}
+use native.Mathlib.Omega.{arith}
+use borrow.Author.Needs.{needs}
+use lib.ListN.{length, drop, drop-of-length-le}
+use Rattle.lists.specs.Lists.{sumOf}
+use Rattle.lists.proofs.Sums.{sum-step}
+use Rattle.readings.proofs.sum.Statement.{statement}
+use Rattle.readings.proofs.sum.Tie as tie
+
+abbrev Inv-loop : tie.InvT-loop
+Inv-loop xs total₀ i₀ total i = (i ≤ length xs) × (total < 2 ^ 32) × ((total + sumOf (drop i xs)) % 2 ^ 32 ≡ sumOf xs % 2 ^ 32)
+
+abbrev μ-loop : tie.MeasureT-loop
+μ-loop xs total₀ i₀ total i = length xs - i
+
+loop-holds : tie.Need-loop-holds Inv-loop μ-loop
+loop-holds c = search needs
+
+mul-wrapping-add-u32 : tie.Need-mul-wrapping-add-u32 Inv-loop μ-loop
+mul-wrapping-add-u32 c = search needs
+
+shared-slice-read-wrapping-add-u32 : tie.Need-shared-slice-read-wrapping-add-u32 Inv-loop μ-loop
+shared-slice-read-wrapping-add-u32 c = search needs
+
+wrapping-add-u32-requires : tie.Need-wrapping-add-u32-requires Inv-loop μ-loop
+wrapping-add-u32-requires c κs = search needs
+
+add-i : tie.Need-add-i Inv-loop μ-loop
+add-i c = search needs
+
+loop-less : tie.Need-loop-less Inv-loop μ-loop
+loop-less c = search needs
+
+loop-again : tie.Need-loop-again Inv-loop μ-loop
+loop-again c =
+    let l = c .before .before .before .loop in
+    omega (arith, sum-step (c .before .before .before .before .before .args .xs .now) (l .i) (omega arith))
+
+returns : tie.Need-returns Inv-loop μ-loop
+unfolding sumOf
+returns c =
+    let l = c .before .loop in
+    omega (arith, ap sumOf (drop-of-length-le (c .before .before .before .args .xs .now) (c .loop-test .left)))
+
+pub sum-spec : {M : Type 1} → statement M
+sum-spec =
+    tie.close
+    (tie.spec
+    Inv-loop
+    μ-loop
+    loop-holds
+    mul-wrapping-add-u32
+    shared-slice-read-wrapping-add-u32
+    wrapping-add-u32-requires
+    add-i
+    loop-less
+    loop-again
+    returns)
