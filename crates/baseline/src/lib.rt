@@ -1,4 +1,5 @@
 // The baseline over a lent table: the public call, and the part of a day.
+mod refusals;
 mod table;
 
 ghost use denote.Ref.{ptr};
@@ -10,6 +11,12 @@ use method::Refusal;
 pub enum Given {
     Answered,
     Refused(Refusal),
+}
+
+// What refusals that are tested one after the other come to.
+enum Tested {
+    Passed,
+    Failed(Refusal),
 }
 
 // What a call answers. Where it is refused, every field but `given` is nought.
