@@ -9,7 +9,7 @@ use native.Mathlib.Numerals.{add-one}
 use native.Mathlib.Omega.{arith}
 use borrow.Author.Tests.{le-leb, lt-leb, eq-eqb, ne-eqb, leb-true, eqb-true, eqb-false}
 use lib.Dec.{leb, eqb}
-use lib.ListN.{length, take, drop, getD, List·getD-eq-default, length-append}
+use lib.ListN.{length, take, drop, getD, List·getD-eq-default, length-append, length-take}
 use lib.Seq.{getD-append-add}
 use Rattle.lists.specs.Lists.{all, sumOf}
 use Rattle.lists.proofs.All.{bool-cases, all-before, all-lacks, and-false}
@@ -17,6 +17,8 @@ use Rattle.lists.proofs.Parts.{part-append}
 use Rattle.lists.proofs.Sums.{sum-append}
 use Rattle.method.specs.Table.{present, missing}
 use Rattle.method.specs.Adjustment.{windowEnds, latestEnd, A}
+use Rattle.readings.specs.Sums.{Summed}
+use Rattle.readings.proofs.Exact.{exact-both}
 use Rattle.readings.specs.Steps.{RunBefore}
 
 -- the ruler's second day
@@ -91,15 +93,19 @@ module _ (l : List ℕ) where
   latest-none zero h = refl
   latest-none (suc k) h = latest-earlier k (too-early (suc k) h) ∙ latest-none k (omega arith)
 
--- the sum over a window is that of its parts on the two days, also as numbers of 32 bits. `s` is where it starts; `a` and `b` are where its
--- part of the second day starts and ends
+-- the sum over a window is that of its parts on the two days, exactly. `s` is where it starts; `a` and `b` are where its part of the second
+-- day starts and ends
 pub window-parts : (ys ts : List ℕ) (end s a b x y : ℕ) → s ≡ end - 12 → a ≡ s - length ys → b ≡ s + 12 - length ys
-    → x ≡ sumOf (take (s + 12 - s) (drop s ys)) % 2 ^ 32 → y ≡ sumOf (take (b - a) (drop a ts)) % 2 ^ 32
-    → (x + y) % 2 ^ 32 ≡ A (ys ++ ts) end % 2 ^ 32
+    → Summed (take (s + 12 - s) (drop s ys)) x → Summed (take (b - a) (drop a ts)) y → (x + y) % 2 ^ 64 ≡ A (ys ++ ts) end
 unfolding A
 window-parts ys ts end s a b x y e e₁ e₂ f g =
     let k : 12 ≡ s + 12 - s = omega arith in
     let whole : sumOf (take 12 (drop s (ys ++ ts))) ≡ sumOf (take (s + 12 - s) (drop s ys)) + sumOf (take (b - a) (drop a ts)) =
     rw (e₁, e₂) (ap (λ (n : ℕ). sumOf (take n (drop s (ys ++ ts)))) k ∙ ap sumOf (part-append s (s + 12) ys ts) ∙
     sum-append (take (s + 12 - s) (drop s ys)) (take (s + 12 - length ys - (s - length ys)) (drop (s - length ys) ts))) in
-    rw (← e) (omega arith)
+    let few₁ : s + 12 - s ≤ 12 = omega arith in
+    let few₂ : b - a ≤ 12 = omega arith in
+    rw (← e) (exact-both f g (few (s + 12 - s) (drop s ys) few₁) (few (b - a) (drop a ts) few₂) ∙ sym whole)
+  where
+    few : (n : ℕ) (l : List ℕ) → n ≤ 12 → length (take n l) ≤ 2 ^ 30
+    few n l h = rw length-take (omega arith)

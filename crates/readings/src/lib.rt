@@ -2,25 +2,26 @@
 // slices of any length and any values.
 ghost use mathlib.Core.Path.{_≡_};
 ghost use mathlib.Core.List.{_++_};
-ghost use Prim.Native.Nat.{_-_, _%_, _^_, _≤_, min};
+ghost use Prim.Native.Nat.{_-_, _≤_, min};
 ghost use lib.ListN.{take, drop, getD};
-ghost use Rattle.lists.specs.Lists.{all, leading, sumOf};
+ghost use Rattle.lists.specs.Lists.{all, leading};
 ghost use Rattle.method.specs.Table.{present, goodMark, goodReading, eventBit, outageBit};
 ghost use Rattle.method.specs.Adjustment.{A as twelveSum, windowEnds, latestEnd, adjustmentEnd};
 ghost use Rattle.readings.specs.Steps.{GoodBefore, RunBefore};
+ghost use Rattle.readings.specs.Sums.{Summed};
 use method::Request;
 
 // 01: "4,294,967,295 means missing"
 const MISSING: u32 = 4294967295;
 
-// The sum of numbers, as a number of 32 bits.
-pub fn sum(xs: &[u32]) -> u32
-    ensures { λ r. ⌜ r ≡ sumOf (now (xs .entry)) % 2 ^ 32 ⌝ }
+// The sum of numbers, as a number of 64 bits: of fewer than 2 ^ 32 numbers it is exact.
+pub fn sum(xs: &[u32]) -> u64
+    ensures { λ r. ⌜ Summed (now (xs .entry)) r ⌝ }
 {
-    let mut total: u32 = 0;
+    let mut total: u64 = 0;
     let mut i = 0;
     while i < xs.len() {
-        total = std::num::wrapping_add_u32(total, xs[i]);
+        total = std::num::wrapping_add_u64(total, xs[i] as u64);
         i += 1;
     }
     total
@@ -199,8 +200,8 @@ fn minus(a: usize, b: usize) -> usize
 }
 
 // The sum of what there is from `start` up to `end`.
-fn sum_between(xs: &[u32], start: usize, end: usize) -> u32
-    ensures { λ r. ⌜ r ≡ sumOf (take (end - start) (drop start (now (xs .entry)))) % 2 ^ 32 ⌝ }
+pub fn sum_between(xs: &[u32], start: usize, end: usize) -> u64
+    ensures { λ r. ⌜ Summed (take (end - start) (drop start (now (xs .entry)))) r ⌝ }
 {
     let last = least(end, xs.len());
     if start < last {
@@ -210,14 +211,15 @@ fn sum_between(xs: &[u32], start: usize, end: usize) -> u32
     }
 }
 
-// The sum of the twelve readings that end at a place of the ruler, as a number of 32 bits.
-pub fn window_sum(end: u32, yesterday: &[u32], today: &[u32]) -> u32
-    ensures { λ r. ⌜ r ≡ twelveSum (now (yesterday .entry) ++ now (today .entry)) end % 2 ^ 32 ⌝ }
+// The sum of the twelve readings that end at a place of the ruler. Twelve numbers of 32 bits are
+// added up exactly.
+pub fn window_sum(end: u32, yesterday: &[u32], today: &[u32]) -> u64
+    ensures { λ r. ⌜ r ≡ twelveSum (now (yesterday .entry) ++ now (today .entry)) end ⌝ }
 {
     let start = minus(end as usize, 12);
     let last = start + 12;
     let day = yesterday.len();
-    std::num::wrapping_add_u32(
+    std::num::wrapping_add_u64(
         sum_between(yesterday, start, last),
         sum_between(today, minus(start, day), minus(last, day)),
     )

@@ -1,5 +1,6 @@
--- `readings::sum` meets its contract. The invariant: the total and what is left to add, as a number of 32 bits, is the sum.
-use Prim.Native.Nat.{_+_, _-_, _%_, _^_, _≤_, _<_}
+-- `readings::sum` meets its contract. The invariant: the total and what is left to add, as a number of 64 bits, is the sum;
+-- what was passed is at most 2 ^ 32 - 1 a number.
+use Prim.Native.Nat.{_+_, _-_, _*_, _%_, _^_, _≤_, _<_}
 use mathlib.Core.Path.{_≡_, ap}
 use native.Mathlib.Omega.{arith}
 use borrow.Author.Needs.{needs}
@@ -10,7 +11,7 @@ use Rattle.readings.proofs.sum.Statement.{statement}
 use Rattle.readings.proofs.sum.Tie as tie
 
 abbrev Inv-loop : tie.InvT-loop
-Inv-loop xs total₀ i₀ total i = (i ≤ length xs) × (total < 2 ^ 32) × ((total + sumOf (drop i xs)) % 2 ^ 32 ≡ sumOf xs % 2 ^ 32)
+Inv-loop xs total₀ i₀ total i = (i ≤ length xs) × (total < 2 ^ 64) × ((total + sumOf (drop i xs)) % 2 ^ 64 ≡ sumOf xs % 2 ^ 64) × (sumOf xs ≤ 4294967295 * i + sumOf (drop i xs))
 
 abbrev μ-loop : tie.MeasureT-loop
 μ-loop xs total₀ i₀ total i = length xs - i
@@ -18,14 +19,17 @@ abbrev μ-loop : tie.MeasureT-loop
 loop-holds : tie.Need-loop-holds Inv-loop μ-loop
 loop-holds c = search needs
 
-mul-wrapping-add-u32 : tie.Need-mul-wrapping-add-u32 Inv-loop μ-loop
-mul-wrapping-add-u32 c = search needs
+mul-wrapping-add-u64 : tie.Need-mul-wrapping-add-u64 Inv-loop μ-loop
+mul-wrapping-add-u64 c = search needs
 
-shared-slice-read-wrapping-add-u32 : tie.Need-shared-slice-read-wrapping-add-u32 Inv-loop μ-loop
-shared-slice-read-wrapping-add-u32 c = search needs
+shared-slice-read-wrapping-add-u64 : tie.Need-shared-slice-read-wrapping-add-u64 Inv-loop μ-loop
+shared-slice-read-wrapping-add-u64 c = search needs
 
-wrapping-add-u32-requires : tie.Need-wrapping-add-u32-requires Inv-loop μ-loop
-wrapping-add-u32-requires c κs = search needs
+cast-wrapping-add-u64 : tie.Need-cast-wrapping-add-u64 Inv-loop μ-loop
+cast-wrapping-add-u64 c = omega (arith, c .shared-slice-known2 .given (c .before .before .loop .i))
+
+wrapping-add-u64-requires : tie.Need-wrapping-add-u64-requires Inv-loop μ-loop
+wrapping-add-u64-requires c κs = search needs
 
 add-i : tie.Need-add-i Inv-loop μ-loop
 add-i c = search needs
@@ -36,7 +40,11 @@ loop-less c = search needs
 loop-again : tie.Need-loop-again Inv-loop μ-loop
 loop-again c =
     let l = c .before .before .before .loop in
-    omega (arith, sum-step (c .before .before .before .before .before .args .xs .now) (l .i) (omega arith))
+    omega (
+      arith,
+      sum-step (c .before .before .before .before .before .args .xs .now) (l .i) (omega arith),
+      c .before .shared-slice-known2 .given (l .i),
+    )
 
 returns : tie.Need-returns Inv-loop μ-loop
 unfolding sumOf
@@ -51,9 +59,10 @@ sum-spec =
     Inv-loop
     μ-loop
     loop-holds
-    mul-wrapping-add-u32
-    shared-slice-read-wrapping-add-u32
-    wrapping-add-u32-requires
+    mul-wrapping-add-u64
+    shared-slice-read-wrapping-add-u64
+    cast-wrapping-add-u64
+    wrapping-add-u64-requires
     add-i
     loop-less
     loop-again

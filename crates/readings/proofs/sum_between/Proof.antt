@@ -1,7 +1,7 @@
 -- `readings::sum_between` meets its contract: the part ends where the list does.
-use Prim.Native.Nat.{ℕ, _-_, _%_, _^_}
-use mathlib.Core.Path.{refl, ap, sym, _∙_}
-use mathlib.Core.List.{List}
+use Prim.Native.Nat.{ℕ, _-_}
+use mathlib.Core.Path.{refl, ap, _∙_}
+use native.Mathlib.Omega.{arith}
 use borrow.Author.Needs.{needs}
 use lib.ListN.{take, drop}
 use Rattle.lists.specs.Lists.{sumOf}
@@ -31,13 +31,14 @@ returns : tie.Need-returns
 returns c =
     let a = c .before .before .before .before .before .args in
     let within = ap (λ (n : ℕ). take (n - a .start) (drop (a .start) (a .xs .now))) (c .before .before .before .least .ensures) in
-    c .sum .ensures ∙ ap (λ (l : List ℕ). sumOf l % 2 ^ 32) (within ∙ part-within (a .start) (a .end) (a .xs .now))
+    rw (within ∙ part-within (a .start) (a .end) (a .xs .now)) at (c .sum .ensures)
 
 returns-2 : tie.Need-returns-2
 unfolding sumOf
 returns-2 c =
     let a = c .before .before .before .args in
     rw (no-part (a .start) (a .end) (a .xs .now) (rw (c .before .least .ensures) at (c .if1 .left)))
+    (record { sum = refl; bound = omega arith })
 
 pub sum-between-spec : {M : Type 1} → statement M
 sum-between-spec =

@@ -23,15 +23,15 @@ minus-requires-3 c κs = search needs
 sum-between-requires-2 : tie.Need-sum-between-requires-2
 sum-between-requires-2 c κs = search needs
 
-wrapping-add-u32-requires : tie.Need-wrapping-add-u32-requires
-wrapping-add-u32-requires c κs = search needs
+wrapping-add-u64-requires : tie.Need-wrapping-add-u64-requires
+wrapping-add-u64-requires c κs = search needs
 
 returns : tie.Need-returns
 returns c =
     let a = c .before .before .before .before .before .before .before .before .args in
     let first = c .before .before .before .before .sum-between in
     let second = c .before .sum-between2 in
-    c .wrapping-add-u32 .ensures ∙
+    c .wrapping-add-u64 .ensures ∙
     window-parts (a .yesterday .now) (a .today .now) (a .end) (c .before .before .before .before .before .minus .result) (c .before .before .before .minus2 .result) (c .before .before .minus3 .result)
     (first .result) (second .result) (c .before .before .before .before .before .minus .ensures) (c .before .before .before .minus2 .ensures) (c .before .before .minus3 .ensures)
     (first .ensures) (second .ensures)
@@ -46,5 +46,5 @@ window-sum-spec =
     minus-requires-2
     minus-requires-3
     sum-between-requires-2
-    wrapping-add-u32-requires
+    wrapping-add-u64-requires
     returns)
