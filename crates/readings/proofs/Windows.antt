@@ -1,29 +1,21 @@
 -- Adjustment windows: what a run of present readings says of one that ends there, and that none reaches over a missing reading.
 use Prim.Native.Nat.{ℕ, zero, suc, _+_, _-_, _%_, _^_, _≤_, _<_}
 use mathlib.Core.Path.{_≡_, refl, ap, sym, _∙_}
-use mathlib.Core.Bool.{Bool, true, false, not, cond, _&&_}
+use mathlib.Core.Bool.{true, false, not}
 use mathlib.Core.List.{List, _++_}
 use mathlib.Core.Logic.{⊎-elim}
 use native.Mathlib.Nat.{add-zero, add-suc}
 use native.Mathlib.Numerals.{add-one}
 use native.Mathlib.Omega.{arith}
-use borrow.Author.Tests.{le-leb, lt-leb, eq-eqb, ne-eqb, leb-true, eqb-true, eqb-false}
+use borrow.Author.Tests.{le-leb, lt-leb, ne-eqb, eqb-true, eqb-false}
 use lib.Dec.{leb, eqb}
-use lib.ListN.{length, take, drop, getD, List·getD-eq-default, length-append}
-use lib.Seq.{getD-append-add}
+use lib.ListN.{length, take, drop, getD}
 use Rattle.lists.specs.Lists.{all, sumOf}
 use Rattle.lists.proofs.All.{bool-cases, all-before, all-lacks, and-false}
-use Rattle.lists.proofs.Parts.{part-append}
-use Rattle.lists.proofs.Sums.{sum-append}
+use Rattle.lists.proofs.Sums.{sum-part-append}
 use Rattle.method.specs.Table.{present, missing}
 use Rattle.method.specs.Adjustment.{windowEnds, latestEnd, A}
 use Rattle.readings.specs.Steps.{RunBefore}
-
--- the ruler's second day
-pub second-day : (ys ts : List ℕ) (place : ℕ) → length ys ≤ place → getD (ys ++ ts) place 0 ≡ getD ts (place - length ys) 0
-second-day ys ts place h =
-    let k : length ys + (place - length ys) ≡ place = omega arith in
-    ap (λ (n : ℕ). getD (ys ++ ts) n 0) (sym k) ∙ getD-append-add ys ts (place - length ys) 0
 
 module _ (l : List ℕ) where
   -- a run goes on where the reading before it is present
@@ -64,10 +56,10 @@ module _ (l : List ℕ) where
       ⊎-elim (λ e. e ∙ sym (whole-run end run h r (eqb-true run 12 e))) (λ f. f ∙ sym (broken-run end run h r (eqb-false run 12 f)))
       (bool-cases (eqb run 12))
 
-  pub latest-here : (end : ℕ) → 0 < end → windowEnds l end ≡ true → latestEnd l end ≡ end
+  pub latest-here : (end : ℕ) → windowEnds l end ≡ true → latestEnd l end ≡ end
   unfolding latestEnd
-  latest-here zero h t = refl
-  latest-here (suc k) h t = rw t
+  latest-here zero t = refl
+  latest-here (suc k) t = rw t
 
   pub latest-earlier : (k : ℕ) → windowEnds l (suc k) ≡ false → latestEnd l (suc k) ≡ latestEnd l k
   unfolding latestEnd
@@ -91,15 +83,13 @@ module _ (l : List ℕ) where
   latest-none zero h = refl
   latest-none (suc k) h = latest-earlier k (too-early (suc k) h) ∙ latest-none k (omega arith)
 
--- the sum over a window is that of its parts on the two days, also as numbers of 32 bits. `s` is where it starts; `a` and `b` are where its
--- part of the second day starts and ends
+-- the sum over a window is that of its parts on the two days, also as numbers of 32 bits. It starts at `s`, and its part of the second day
+-- goes from `a` up to `b`
 pub window-parts : (ys ts : List ℕ) (end s a b x y : ℕ) → s ≡ end - 12 → a ≡ s - length ys → b ≡ s + 12 - length ys
     → x ≡ sumOf (take (s + 12 - s) (drop s ys)) % 2 ^ 32 → y ≡ sumOf (take (b - a) (drop a ts)) % 2 ^ 32
     → (x + y) % 2 ^ 32 ≡ A (ys ++ ts) end % 2 ^ 32
 unfolding A
 window-parts ys ts end s a b x y e e₁ e₂ f g =
-    let k : 12 ≡ s + 12 - s = omega arith in
-    let whole : sumOf (take 12 (drop s (ys ++ ts))) ≡ sumOf (take (s + 12 - s) (drop s ys)) + sumOf (take (b - a) (drop a ts)) =
-    rw (e₁, e₂) (ap (λ (n : ℕ). sumOf (take n (drop s (ys ++ ts)))) k ∙ ap sumOf (part-append s (s + 12) ys ts) ∙
-    sum-append (take (s + 12 - s) (drop s ys)) (take (s + 12 - length ys - (s - length ys)) (drop (s - length ys) ts))) in
-    rw (← e) (omega arith)
+    let k : s + 12 - s ≡ 12 = omega arith in
+    let both = ap (λ (n : ℕ). sumOf (take n (drop s (ys ++ ts)))) (sym k) ∙ sum-part-append s (s + 12) ys ts in
+    rw (← e) (omega (arith, rw (← e₁, ← e₂) at both))
