@@ -1,5 +1,18 @@
 // The choice of days over a directory of rooms: which days are relevant, eligible and spare, the window, the chosen days and the reach
 // (document 01, "Choosing the days"). A table, a ring and a shared store make a directory; the choice is the same function.
+ghost use mathlib.Core.Path.{_≡_};
+ghost use mathlib.Core.Bool.{Bool};
+ghost use mathlib.Core.List.{List, map};
+ghost use Prim.Native.Nat.{ℕ, _+_, _-_, _%_, _≤_, _<_, min};
+ghost use lib.ListN.{length, take};
+ghost use Rattle.calendar.specs.Holidays.{group as groupOf};
+ghost use Rattle.method.specs.Relevant.{groupNumber, relevant as isRelevant};
+ghost use Rattle.method.specs.Method.{wholeReach};
+ghost use Rattle.method.specs.HighXofY.{Y, N, eventSum, highXofY};
+ghost use Rattle.choose.specs.Rooms.{partAt, roomHistory, heldRooms};
+ghost use Rattle.choose.specs.Choice.{choiceOf, noDays, inFive};
+ghost use Rattle.choose.specs.Look.{room, roomsOf, mayBe, judged, nearest, ifRelevant, Further, Adds, Enough, dayOf, ranked, amongFew};
+use calendar::Group;
 use method::Request;
 
 // Where the days from D-45 to D stand in lent readings, and their marks: entry i is day D - i. So many days before D are held.
@@ -27,4 +40,309 @@ pub enum Choosing {
 pub struct Choice {
     pub choosing: Choosing,
     pub chosen: Chosen,
+}
+
+// What the readings and marks of a relevant day make of it, with its word.
+enum Judged {
+    Eligible(u64),
+    Spare(u64),
+    Neither,
+}
+
+// What was found looking back: the words of eligible days, how many there are, how far back the last of them lies, and the same of spare
+// days but for their place.
+struct Found {
+    eligible: [u64; 10],
+    count: u32,
+    oldest: u32,
+    spare: [u64; 10],
+    spares: u32,
+}
+
+// How far back a day may lie.
+const LOOK_BACK: u32 = 45;
+
+// The first number less the second; 0 where it is not above it.
+fn less(a: u32, b: u32) -> u32
+    ensures { λ r. ⌜ r ≡ a - b ⌝ }
+{
+    if b <= a { a - b } else { 0 }
+}
+
+// The lesser of two numbers.
+fn lesser(a: u32, b: u32) -> u32
+    ensures { λ r. ⌜ r ≡ min a b ⌝ }
+{
+    if a < b { a } else { b }
+}
+
+// Y: how many eligible days fill the window.
+fn most(group: Group) -> u32
+    ensures { λ r. ⌜ r ≡ Y group ⌝ }
+{
+    match group {
+        Group::Weekday => 10,
+        Group::Saturday => 3,
+        Group::HolidayGroup => 3,
+    }
+}
+
+// N: how many days are chosen.
+fn fill(group: Group) -> u32
+    ensures { λ r. ⌜ r ≡ N group ⌝ }
+{
+    match group {
+        Group::Weekday => 5,
+        Group::Saturday => 2,
+        Group::HolidayGroup => 2,
+    }
+}
+
+// A group's number.
+fn number(of: Group) -> u32
+    ensures { λ r. ⌜ r ≡ groupNumber of ⌝ }
+{
+    match of {
+        Group::Weekday => 0,
+        Group::Saturday => 1,
+        Group::HolidayGroup => 2,
+    }
+}
+
+// By its day of the week a day may be of the group. It spares the calendar most of the days of a Saturday's look back.
+fn may_be(group: Group, day: u32) -> bool
+    ensures { λ r. ⌜ r ≡ mayBe group (day % 7) ⌝ }
+{
+    match group {
+        Group::Weekday => 1 < day % 7,
+        Group::Saturday => day % 7 == 0,
+        Group::HolidayGroup => true,
+    }
+}
+
+// Whether a day before the event is relevant, where it lies in the look back.
+fn relevant(request: Request, group: Group, day: u32) -> bool
+    requires { ⌜ (group ≡ groupOf (request .event)) × (day < request .event) ⌝ }
+    ensures { λ r. ⌜ r ≡ isRelevant groupOf request day ⌝ }
+{
+    if day < request.participation {
+        return false;
+    }
+    if (number(group) == 0) & (day + 1 == request.event) {
+        return false;
+    }
+    if may_be(group, day) {
+        number(calendar::group_of(day)) == number(group)
+    } else {
+        false
+    }
+}
+
+// How far back the oldest relevant day lies; 0 where none is relevant. It is looked for from the farthest day on.
+fn whole_reach(request: Request, group: Group) -> u32
+    requires { ⌜ group ≡ groupOf (request .event) ⌝ }
+    ensures { λ r. ⌜ r ≡ wholeReach (highXofY groupOf request) ⌝ }
+{
+    let event = request.event;
+    let mut back = lesser(LOOK_BACK, event);
+    while 0 < back {
+        if relevant(request, group, event - back) {
+            return back;
+        }
+        back -= 1;
+    }
+    0
+}
+
+// The 96 readings that start at a place; none where they run past the end.
+fn part_at<'a>(readings: &'a [u32], at: u32) -> &'a [u32]
+    ensures { λ r. ⌜ now r ≡ partAt (now (readings .entry)) at ⌝ }
+{
+    let start = at as usize;
+    let end = start + 96;
+    if end <= readings.len() {
+        &readings[start..end]
+    } else {
+        &readings[..0]
+    }
+}
+
+// The sum of a day's readings over the event's own quarters.
+fn event_sum(request: Request, part: &[u32]) -> u64
+    requires { ⌜ length (now part) ≤ 96 ⌝ }
+    ensures { λ r. ⌜ (r ≡ eventSum request (room 0 (now (part .entry)))) × (r ≤ 412316860320) ⌝ }
+{
+    let start = less(request.s, 96) as usize;
+    let end = start + less(request.e, request.s) as usize;
+    readings::sum_between(part, start, end)
+}
+
+// What a relevant day's mark and readings make of it.
+fn judge(request: Request, mark: u8, part: &[u32], back: u32) -> Judged
+    requires { ⌜ (1 ≤ back) × (back ≤ 45) × (back ≤ request .event) × (length (now part) ≤ 96) ⌝ }
+    ensures { λ r. ⌜ r ≡ judged request (request .event - back, room mark (now (part .entry))) ⌝ }
+{
+    if readings::is_out(mark) {
+        return Judged::Neither;
+    }
+    if readings::complete(part) {
+        let word = ranking::word(event_sum(request, part), 46 - back);
+        if readings::is_event(mark) {
+            Judged::Spare(word)
+        } else {
+            Judged::Eligible(word)
+        }
+    } else {
+        Judged::Neither
+    }
+}
+
+// What was found once one more day is looked at, `back` days before the event.
+fn with_day(
+    request: Request,
+    group: Group,
+    back: u32,
+    mark: u8,
+    part: &[u32],
+    found: Found,
+) -> Found
+    requires { ⌜ (group ≡ groupOf (request .event)) × Further request back found × (length (now part) ≤ 96) ⌝ }
+    ensures { λ r. ⌜ Adds request back (ifRelevant groupOf request (request .event - back, room mark (now (part .entry)))) found r ⌝ }
+{
+    if relevant(request, group, request.event - back) {
+        let eligible = found.eligible;
+        let spare = found.spare;
+        match judge(request, mark, part, back) {
+            Judged::Eligible(word) => Found {
+                eligible: ranking::insert(eligible, word),
+                count: found.count + 1,
+                oldest: back,
+                spare,
+                spares: found.spares,
+            },
+            Judged::Spare(word) => Found {
+                eligible,
+                count: found.count,
+                oldest: found.oldest,
+                spare: ranking::insert(spare, word),
+                spares: found.spares + 1,
+            },
+            Judged::Neither => found,
+        }
+    } else {
+        found
+    }
+}
+
+// The look back over the held days, nearest first. It ends at the day that fills the window.
+fn look(request: Request, group: Group, rooms: Directory, readings: &[u32], held: u32) -> Found
+    requires { ⌜ (group ≡ groupOf (request .event)) × (held ≤ 45) × (held ≤ request .event) ⌝ }
+    ensures { λ r. ⌜ Enough request (Y group) (nearest groupOf request (roomsOf request rooms (now (readings .entry))) held) r ⌝ }
+{
+    let wanted = most(group);
+    let mut found = Found {
+        eligible: [0; 10],
+        count: 0,
+        oldest: 0,
+        spare: [0; 10],
+        spares: 0,
+    };
+    let mut back = 0;
+    while back < held {
+        if found.count == wanted {
+            return found;
+        }
+        back += 1;
+        let place = back as usize;
+        let part = part_at(readings, rooms.at[place]);
+        let next = with_day(request, group, back, rooms.marks[place], part, found);
+        found = next;
+    }
+    found
+}
+
+// The day of a word.
+fn day_of(event: u32, word: u64) -> u32
+    ensures { λ r. ⌜ r ≡ event - (46 - word % 64) ⌝ }
+{
+    less(event, less(46, ranking::nearness_of(word)))
+}
+
+// The days of the first words of a row, up to five.
+fn days_of(event: u32, row: [u64; 10], count: usize) -> [u32; 5]
+    requires { ⌜ count ≤ 5 ⌝ }
+    ensures { λ r. ⌜ r ≡ inFive (map (dayOf event) (take count row)) ⌝ }
+{
+    let mut days = [0; 5];
+    let mut i = 0;
+    while i < count {
+        days[i] = day_of(event, row[i]);
+        i += 1;
+    }
+    days
+}
+
+// The choice that a refusal is.
+fn refused(choosing: Choosing) -> Choice
+    ensures { λ r. ⌜ r ≡ noDays choosing ⌝ }
+{
+    Choice {
+        choosing,
+        chosen: Chosen {
+            days: [0; 5],
+            count: 0,
+            reach: 0,
+        },
+    }
+}
+
+// The choice of the first N of a ranked window.
+fn first_of(event: u32, row: [u64; 10], count: u32, reach: u32) -> Choice
+    requires { ⌜ count ≤ 5 ⌝ }
+    ensures { λ r. ⌜ r ≡ ranked event row count reach ⌝ }
+{
+    Choice {
+        choosing: Choosing::Days,
+        chosen: Chosen {
+            days: days_of(event, row, count as usize),
+            count,
+            reach,
+        },
+    }
+}
+
+// The choice where the eligible days do not fill the window: spare days are put in up to N, and the reach is that of all relevant days.
+fn choose_among_few(request: Request, group: Group, found: Found, held: u32) -> Choice
+    requires { ⌜ (group ≡ groupOf (request .event)) × (found .count < 10) × (found .spares ≤ 45) ⌝ }
+    ensures { λ r. ⌜ r ≡ amongFew request (N group) found held (wholeReach (highXofY groupOf request)) ⌝ }
+{
+    let reach = whole_reach(request, group);
+    if held < reach {
+        return refused(Choosing::Short(reach));
+    }
+    let wanted = fill(group);
+    let size = found.count + found.spares;
+    if size < wanted {
+        return refused(Choosing::Few { size, reach });
+    }
+    let spare = found.spare;
+    let eligible = found.eligible;
+    let row = ranking::insert_all(spare, less(wanted, found.count) as usize, eligible);
+    first_of(request.event, row, wanted, reach)
+}
+
+// The choice of days: refusal 8 or 9, or the chosen days and the reach.
+pub fn choose(request: Request, rooms: Directory, readings: &[u32]) -> Choice
+    ensures { λ r. ⌜ r ≡ choiceOf (highXofY groupOf request) (roomHistory request rooms (now (readings .entry))) ⌝ }
+{
+    let event = request.event;
+    let group = calendar::group_of(event);
+    let held = lesser(rooms.held, lesser(LOOK_BACK, event));
+    let found = look(request, group, rooms, readings, held);
+    if found.count < most(group) {
+        choose_among_few(request, group, found, held)
+    } else {
+        let eligible = found.eligible;
+        first_of(event, eligible, fill(group), found.oldest)
+    }
 }

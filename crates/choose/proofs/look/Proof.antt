@@ -1,0 +1,113 @@
+-- `choose::look` meets its contract. The invariant: what was found is what the `back` nearest days hold.
+use Prim.Native.Nat.{_+_, _-_}
+use mathlib.Core.Path.{_∙_, ap}
+use native.Mathlib.Omega.{arith}
+use borrow.Author.Needs.{needs}
+use lib.ListN.{getD}
+use Rattle.calendar.specs.Holidays.{group as groupOf}
+use Rattle.choose.specs.Look.{room, roomsOf}
+use Rattle.choose.proofs.Judging.{part-few, room-back}
+use Rattle.choose.proofs.Looking.{Back, back-start, back-further, back-more, back-full, back-end}
+use Rattle.choose.proofs.look.Statement.{statement}
+use Rattle.choose.proofs.look.Tie as tie
+use Rattle.choose.proofs.look.Reads as reads
+use Rattle.choose.proofs.look.Lts as lts
+use Rattle.choose.proofs.most.Reads as most-reads
+use Rattle.choose.proofs.part_at.Reads as part-at-reads
+use Rattle.choose.proofs.with_day.Reads as with-day-reads
+
+abbrev Inv-loop : tie.InvT-loop
+Inv-loop request group readings held rooms wanted found₀ back₀ found back =
+    Back groupOf request (roomsOf request rooms readings) wanted held back found
+
+abbrev μ-loop : tie.MeasureT-loop
+μ-loop request group readings held rooms wanted found₀ back₀ found back = held - back
+
+-- src/lib.rt:243:9
+most-requires : tie.Need-most-requires Inv-loop μ-loop
+most-requires c κs = search needs
+
+-- src/lib.rt:252:5
+loop-holds : tie.Need-loop-holds Inv-loop μ-loop
+loop-holds c =
+    let a = c .before .before .args in back-start groupOf (a .request) (roomsOf (a .request) (a .t3) (a .readings .now)) (c .most .result) (a .held)
+
+-- src/lib.rt:254:13
+returns : tie.Need-returns Inv-loop μ-loop
+returns c =
+    let s = c .before .before .before .before .before .before in
+    rw (c .before .before .before .before .most .ensures) at (back-full groupOf (s .args .request) (roomsOf (s .args .request) (s .args .t3) (s .args .readings .now)) (c .before .before .before .before .most .result) (s .args .held) (c .before .before .before .loop .inv) (s .pre .1) (c .if1 .taken))
+
+-- src/lib.rt:256:9
+add-back : tie.Need-add-back Inv-loop μ-loop
+add-back c = omega arith
+
+-- src/lib.rt:257:21
+cast-place : tie.Need-cast-place Inv-loop μ-loop
+cast-place c = omega arith
+
+-- src/lib.rt:258:38
+mul-part-at : tie.Need-mul-part-at Inv-loop μ-loop
+mul-part-at c = omega arith
+
+-- src/lib.rt:258:38
+element-copy-out-part-at : tie.Need-element-copy-out-part-at Inv-loop μ-loop
+element-copy-out-part-at c = omega arith
+
+-- src/lib.rt:258:13
+part-at-requires : tie.Need-part-at-requires Inv-loop μ-loop
+part-at-requires c κs = search needs
+
+-- src/lib.rt:259:51
+element-copy-out-with-day : tie.Need-element-copy-out-with-day Inv-loop μ-loop
+element-copy-out-with-day c = omega arith
+
+-- src/lib.rt:259:13
+with-day-requires : tie.Need-with-day-requires Inv-loop μ-loop
+with-day-requires c κs =
+    let s = c .before .before .before .before .before .before .before .before .before in
+    let a = s .args in (
+      s .pre .0,
+      back-further groupOf (a .request) (roomsOf (a .request) (a .t3) (a .readings .now)) (c .before .before .before .before .before .before .before .most .result) (a .held) (c .before .before .before .before .before .before .loop .inv) (c .before .before .before .before .before .loop-test .taken) (s .pre .1) (s .pre .2),
+      rw (c .before .part-at .ensures) (part-few (a .readings .now) (getD (a .t3 .at) (c .before .before .before .before .before .before .loop .back + 1) 0)),
+    )
+
+-- src/lib.rt:252:5
+loop-less : tie.Need-loop-less Inv-loop μ-loop
+loop-less c = omega arith
+
+-- src/lib.rt:252:5
+loop-again : tie.Need-loop-again Inv-loop μ-loop
+loop-again c =
+    let s = c .before .before .before .before .before .before .before .before .before .before in
+    let a = s .args in
+    let back = c .before .before .before .before .before .before .before .loop .back in
+    let here = ap (room (getD (a .t3 .marks) (back + 1) 0)) (c .before .before .part-at .ensures) ∙ room-back (a .request) (a .t3) (a .readings .now) (back + 1) (omega arith) in
+    back-more groupOf (a .request) (roomsOf (a .request) (a .t3) (a .readings .now)) (c .before .before .before .before .before .before .before .before .most .result) (a .held) (c .before .before .before .before .before .before .before .loop .inv) (c .before .before .before .before .before .before .loop-test .taken) (s .pre .2) (c .before .before .before .before .if1 .left)
+    (rw here at (c .with-day .ensures))
+
+-- src/lib.rt:239:1
+returns-2 : tie.Need-returns-2 Inv-loop μ-loop
+returns-2 c =
+    let s = c .before .before .before .before in
+    rw (c .before .before .most .ensures) at (back-end groupOf (s .args .request) (roomsOf (s .args .request) (s .args .t3) (s .args .readings .now)) (c .before .before .most .result) (s .args .held) (c .before .loop .inv) (s .pre .1) (c .loop-test .left))
+
+pub look-spec : {M : Type 1} → statement M
+look-spec =
+    tie.close
+    (tie.spec
+    Inv-loop
+    μ-loop
+    most-requires
+    loop-holds
+    returns
+    add-back
+    cast-place
+    mul-part-at
+    element-copy-out-part-at
+    part-at-requires
+    element-copy-out-with-day
+    with-day-requires
+    loop-less
+    loop-again
+    returns-2)

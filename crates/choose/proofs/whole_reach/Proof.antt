@@ -1,0 +1,87 @@
+-- `choose::whole_reach` meets its contract. The invariant: no relevant day lies farther back than `back`.
+use Prim.Native.Nat.{_≤_}
+use mathlib.Core.Path.{_≡_, sym, ap, _∙_}
+use native.Mathlib.Omega.{arith}
+use borrow.Author.Needs.{needs}
+use Rattle.calendar.specs.Holidays.{group as groupOf}
+use Rattle.method.specs.Method.{wholeReach}
+use Rattle.method.specs.HighXofY.{highXofY}
+use Rattle.choose.proofs.Reaching.{reachWithin, reach-start, reach-pass, reach-here, reach-none}
+use Rattle.choose.proofs.whole_reach.Statement.{statement}
+use Rattle.choose.proofs.whole_reach.Tie as tie
+use Rattle.choose.proofs.whole_reach.Reads as reads
+use Rattle.choose.proofs.whole_reach.Lts as lts
+use Rattle.choose.proofs.lesser.Reads as lesser-reads
+use Rattle.choose.proofs.relevant.Reads as relevant-reads
+
+abbrev Inv-loop : tie.InvT-loop
+Inv-loop request group event back₀ back =
+    (back ≤ request .event) × (wholeReach (highXofY groupOf request) ≡ reachWithin groupOf request back)
+
+abbrev μ-loop : tie.MeasureT-loop
+μ-loop request group event back₀ back = back
+
+-- src/lib.rt:155:9
+lesser-requires : tie.Need-lesser-requires Inv-loop μ-loop
+lesser-requires c κs = search needs
+
+-- src/lib.rt:156:5
+loop-holds : tie.Need-loop-holds Inv-loop μ-loop
+loop-holds c =
+    let a = c .before .args in
+    (omega (arith, c .lesser .ensures), reach-start groupOf (a .request) ∙ ap (reachWithin groupOf (a .request)) (sym (c .lesser .ensures)))
+
+-- src/lib.rt:157:37
+sub-relevant : tie.Need-sub-relevant Inv-loop μ-loop
+sub-relevant c = search needs
+
+-- src/lib.rt:157:12
+relevant-requires : tie.Need-relevant-requires Inv-loop μ-loop
+relevant-requires c κs = (search needs, omega arith)
+
+-- src/lib.rt:158:13
+returns : tie.Need-returns Inv-loop μ-loop
+returns c =
+    let a = c .before .before .before .before .before .args in
+    let l = c .before .before .before .loop in
+    sym (l .inv .1 ∙ reach-here groupOf (a .request) (l .back) (c .before .before .loop-test .taken) (l .inv .0) (sym (c .before .relevant .ensures) ∙ c .if1 .taken))
+
+-- src/lib.rt:160:9
+sub-back : tie.Need-sub-back Inv-loop μ-loop
+sub-back c = search needs
+
+-- src/lib.rt:156:5
+loop-less : tie.Need-loop-less Inv-loop μ-loop
+loop-less c = search needs
+
+-- src/lib.rt:156:5
+loop-again : tie.Need-loop-again Inv-loop μ-loop
+loop-again c =
+    let a = c .before .before .before .before .before .args in
+    let l = c .before .before .before .loop in (
+      omega arith,
+      l .inv .1 ∙ reach-pass groupOf (a .request) (l .back) (c .before .before .loop-test .taken) (l .inv .0) (sym (c .before .relevant .ensures) ∙ c .if1 .left),
+    )
+
+-- src/lib.rt:150:1
+returns-2 : tie.Need-returns-2 Inv-loop μ-loop
+returns-2 c =
+    let a = c .before .before .before .args in
+    let e : c .before .loop .back ≡ 0 = omega arith in
+    sym (c .before .loop .inv .1 ∙ ap (reachWithin groupOf (a .request)) e ∙ reach-none groupOf (a .request))
+
+pub whole-reach-spec : {M : Type 1} → statement M
+whole-reach-spec =
+    tie.close
+    (tie.spec
+    Inv-loop
+    μ-loop
+    lesser-requires
+    loop-holds
+    sub-relevant
+    relevant-requires
+    returns
+    sub-back
+    loop-less
+    loop-again
+    returns-2)
