@@ -1,2 +1,4 @@
 pub mod Answer
 pub mod Directory
+pub mod Part
+pub mod Tests

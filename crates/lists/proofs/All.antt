@@ -1,8 +1,8 @@
 -- `all` and `leading` of lists put together and taken apart.
 use Prim.Native.Nat.{ℕ, zero, suc, _+_, _-_, _≤_, _<_}
-use mathlib.Core.Path.{_≡_, refl, sym, ap, _∙_}
+use mathlib.Core.Path.{_≡_, refl, sym, ap, ap₂, _∙_}
 use mathlib.Core.Bool.{Bool, true, false, _&&_, false≢true}
-use mathlib.Core.List.{List, [], _∷_, _++_}
+use mathlib.Core.List.{List, [], _∷_, _++_, map}
 use mathlib.Core.Logic.{_⊎_, inl, inr, ⊎-elim}
 use native.Mathlib.Numerals.{add-one}
 use native.Mathlib.Omega.{arith}
@@ -31,10 +31,6 @@ both true b t = (refl, t)
 both false b t = absurd (false≢true t)
 
 module _ {A : Type 0} (p : A → Bool) where
-  pub all-cons : (x : A) (xs : List A) → all p (x ∷ xs) ≡ (p x && all p xs)
-  unfolding all
-  all-cons x xs = refl
-
   pub all-append : (xs ys : List A) → all p (xs ++ ys) ≡ (all p xs && all p ys)
   unfolding all
   all-append [] ys = refl
@@ -62,10 +58,15 @@ module _ {A : Type 0} (p : A → Bool) where
   -- one element of which `p` does not hold is enough
   pub all-lacks : (d : A) → p d ≡ true → (xs : List A) (a n j : ℕ) → a ≤ j → j < a + n → p (getD xs j d) ≡ false
       → all p (take n (drop a xs)) ≡ false
-  all-lacks d e xs a n j low high f = ⊎-elim (λ t. absurd (false≢true (sym f ∙ sym same ∙ all-at d e (take n (drop a xs)) t (j - a)))) (λ t. t) (bool-cases (all p (take n (drop a xs))))
+  all-lacks d e xs a n j low high f =
+      let part = take n (drop a xs) in
+      ⊎-elim (λ t. absurd (false≢true (sym f ∙ sym same ∙ all-at d e part t (j - a)))) (λ t. t) (bool-cases (all p part))
     where
       same : p (getD (take n (drop a xs)) (j - a) d) ≡ p (getD xs j d)
-      same = let o : j - a < n = omega arith in let k : a + (j - a) ≡ j = omega arith in rw (getD-take, getD-drop, k)
+      same =
+          let o : j - a < n = omega arith in
+          let k : a + (j - a) ≡ j = omega arith in
+          rw (getD-take, getD-drop, k)
 
   -- all of `n` from `a` on hold where the first of them and the others do
   pub all-before : (d : A) (xs : List A) (a n : ℕ) → p (getD xs a d) ≡ true → all p (take n (drop (suc a) xs)) ≡ true
@@ -114,3 +115,20 @@ module _ {A : Type 0} (p : A → Bool) where
       let k : i + (e - i) ≡ e = omega arith in
       let rest = ap (leading p) (drop-drop (e - i) i xs ∙ ap (λ (n : ℕ). drop n xs) k) in
       omega (arith, leading-pass (drop i xs) (e - i) (rw length-drop (omega arith)) t, rest)
+
+-- what two tests imply at each element, they imply of all
+pub all-both : {A : Type 0} (p q r : A → Bool) → ((x : A) → p x ≡ true → q x ≡ true → r x ≡ true) → (xs : List A)
+    → all p xs ≡ true → all q xs ≡ true → all r xs ≡ true
+unfolding all
+all-both p q r h [] t u = refl
+all-both p q r h (x ∷ xs) t u =
+    let v = both (p x) (all p xs) t in
+    let w = both (q x) (all q xs) u in
+    rw (h x (v .0) (w .0)) (all-both p q r h xs (v .1) (w .1))
+
+-- two functions that agree where `p` holds
+pub map-all : {A B : Type 0} (p : A → Bool) (f g : A → B) → ((x : A) → p x ≡ true → f x ≡ g x) → (xs : List A) → all p xs ≡ true
+    → map f xs ≡ map g xs
+unfolding all
+map-all p f g h [] t = refl
+map-all p f g h (x ∷ xs) t = let w = both (p x) (all p xs) t in ap₂ (λ y ys. y ∷ ys) (h x (w .0)) (map-all p f g h xs (w .1))

@@ -5,3 +5,4 @@ pub mod All
 pub mod Parts
 pub mod Sums
 pub mod Keep
+pub mod Leading

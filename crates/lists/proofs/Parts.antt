@@ -1,11 +1,11 @@
 -- Parts of lists: `take` and `drop` past an end, and over two lists put together.
-use Prim.Native.Nat.{ℕ, zero, suc, _-_, _≤_, min}
-use mathlib.Core.Path.{_≡_, refl, ap}
+use Prim.Native.Nat.{ℕ, zero, suc, _+_, _-_, _≤_, min}
+use mathlib.Core.Path.{_≡_, ap, sym, _∙_}
 use mathlib.Core.List.{List, [], _∷_, _++_}
 use native.Mathlib.Nat.{sub-zero, zero-sub, suc-sub-suc}
 use native.Mathlib.Omega.{arith}
-use lib.ListN.{length, take, drop, length-drop}
-use lib.Seq.{take-nil}
+use lib.ListN.{length, getD, take, drop, length-drop}
+use lib.Seq.{take-nil, getD-append-add}
 
 module _ {A : Type 0} where
   pub take-append : (n : ℕ) (xs ys : List A) → take n (xs ++ ys) ≡ take n xs ++ take (n - length xs) ys
@@ -24,6 +24,12 @@ module _ {A : Type 0} where
   part-append a e xs ys =
       let k : e - a - (length xs - a) ≡ e - length xs - (a - length xs) = omega arith in
       rw (drop-append a xs ys, take-append (e - a) (drop a xs) (drop (a - length xs) ys), length-drop a xs, k)
+
+  -- past the first list
+  pub getD-append-past : (xs ys : List A) (i : ℕ) (d : A) → length xs ≤ i → getD (xs ++ ys) i d ≡ getD ys (i - length xs) d
+  getD-append-past xs ys i d h =
+      let k : length xs + (i - length xs) ≡ i = omega arith in
+      ap (λ (n : ℕ). getD (xs ++ ys) n d) (sym k) ∙ getD-append-add xs ys (i - length xs) d
 
   -- a part ends where the list does
   pub take-within : (n : ℕ) (xs : List A) → take (min n (length xs)) xs ≡ take n xs

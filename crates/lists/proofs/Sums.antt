@@ -3,15 +3,16 @@ use Prim.Native.Nat.{ℕ, zero, suc, _+_, _-_, _*_, _≤_, _<_}
 use mathlib.Core.Path.{_≡_, refl, sym}
 use mathlib.Core.Bool.{true}
 use mathlib.Core.List.{List, [], _∷_, _++_, map}
-use native.Mathlib.Nat.{le-refl, not-suc-le-zero, mul-suc}
+use native.Mathlib.Nat.{le-refl, not-suc-le-zero, mul-suc, mul-le-mul-left}
 use native.Mathlib.Numerals.{add-one}
 use native.Mathlib.Omega.{arith}
 use borrow.Author.Tests.{leb-true}
 use lib.Dec.{leb}
-use lib.ListN.{length, take, drop, getD}
+use lib.ListN.{length, take, drop, getD, length-take}
 use lib.Seq.{drop-cons}
 use Rattle.lists.specs.Lists.{all, sumOf}
-use Rattle.lists.proofs.All.{both}
+use Rattle.lists.proofs.All.{both, all-take, all-drop}
+use Rattle.lists.proofs.Parts.{part-append}
 
 pub sum-take-suc : (ls : List ℕ) (k : ℕ) → sumOf (take (suc k) ls) ≡ sumOf (take k ls) + getD ls k 0
 unfolding sumOf
@@ -52,6 +53,21 @@ sum-bounded b [] t = omega arith
 sum-bounded b (x ∷ xs) t =
     let w = both (leb x b) (all (λ x. leb x b) xs) t in
     omega (arith, leb-true x b (w .0), sum-bounded b xs (w .1), mul-suc b (length xs))
+
+-- at most `n` numbers, and any part of `n` of them
+pub sum-most : (b : ℕ) (xs : List ℕ) (n : ℕ) → length xs ≤ n → all (λ x. leb x b) xs ≡ true → sumOf xs ≤ b * n
+sum-most b xs n h t = omega (arith, sum-bounded b xs t, mul-le-mul-left b h)
+
+pub part-most : (b : ℕ) (xs : List ℕ) (a n : ℕ) → all (λ x. leb x b) xs ≡ true → sumOf (take n (drop a xs)) ≤ b * n
+part-most b xs a n t =
+    let few : length (take n (drop a xs)) ≤ n = omega (arith, length-take n (drop a xs)) in
+    sum-most b (take n (drop a xs)) n few (all-take (λ x. leb x b) n (drop a xs) (all-drop (λ x. leb x b) a xs t))
+
+-- the part from `a` up to `e` of two lists
+pub sum-part-append : (a e : ℕ) (xs ys : List ℕ)
+    → sumOf (take (e - a) (drop a (xs ++ ys)))
+    ≡ sumOf (take (e - a) (drop a xs)) + sumOf (take (e - length xs - (a - length xs)) (drop (a - length xs) ys))
+sum-part-append a e xs ys = rw (part-append a e xs ys) (sum-append (take (e - a) (drop a xs)) _)
 
 -- a sum of sums
 pub sum-map-add : {A : Type 0} (f g : A → ℕ) (xs : List A) → sumOf (map (λ x. f x + g x) xs) ≡ sumOf (map f xs) + sumOf (map g xs)

@@ -1,3 +1,4 @@
 pub mod Exact
 pub mod Marks
 pub mod Windows
+pub mod Laws

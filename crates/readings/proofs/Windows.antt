@@ -1,13 +1,13 @@
 -- Adjustment windows: what a run of present readings says of one that ends there, and that none reaches over a missing reading.
 use Prim.Native.Nat.{ℕ, zero, suc, _+_, _-_, _%_, _^_, _≤_, _<_}
 use mathlib.Core.Path.{_≡_, refl, ap, sym, _∙_}
-use mathlib.Core.Bool.{Bool, true, false, not, cond, _&&_}
+use mathlib.Core.Bool.{true, false, not}
 use mathlib.Core.List.{List, _++_}
 use mathlib.Core.Logic.{⊎-elim}
 use native.Mathlib.Nat.{add-zero, add-suc}
 use native.Mathlib.Numerals.{add-one}
 use native.Mathlib.Omega.{arith}
-use borrow.Author.Tests.{le-leb, lt-leb, eq-eqb, ne-eqb, leb-true, eqb-true, eqb-false}
+use borrow.Author.Tests.{le-leb, lt-leb, ne-eqb, eqb-true, eqb-false}
 use lib.Dec.{leb, eqb}
 use lib.ListN.{length, take, drop, getD, List·getD-eq-default, length-append, length-take}
 use lib.Seq.{getD-append-add}
@@ -20,12 +20,6 @@ use Rattle.method.specs.Adjustment.{windowEnds, latestEnd, A}
 use Rattle.readings.specs.Sums.{Summed}
 use Rattle.readings.proofs.Exact.{exact-both}
 use Rattle.readings.specs.Steps.{RunBefore}
-
--- the ruler's second day
-pub second-day : (ys ts : List ℕ) (place : ℕ) → length ys ≤ place → getD (ys ++ ts) place 0 ≡ getD ts (place - length ys) 0
-second-day ys ts place h =
-    let k : length ys + (place - length ys) ≡ place = omega arith in
-    ap (λ (n : ℕ). getD (ys ++ ts) n 0) (sym k) ∙ getD-append-add ys ts (place - length ys) 0
 
 module _ (l : List ℕ) where
   -- a run goes on where the reading before it is present
@@ -66,10 +60,10 @@ module _ (l : List ℕ) where
       ⊎-elim (λ e. e ∙ sym (whole-run end run h r (eqb-true run 12 e))) (λ f. f ∙ sym (broken-run end run h r (eqb-false run 12 f)))
       (bool-cases (eqb run 12))
 
-  pub latest-here : (end : ℕ) → 0 < end → windowEnds l end ≡ true → latestEnd l end ≡ end
+  pub latest-here : (end : ℕ) → windowEnds l end ≡ true → latestEnd l end ≡ end
   unfolding latestEnd
-  latest-here zero h t = refl
-  latest-here (suc k) h t = rw t
+  latest-here zero t = refl
+  latest-here (suc k) t = rw t
 
   pub latest-earlier : (k : ℕ) → windowEnds l (suc k) ≡ false → latestEnd l (suc k) ≡ latestEnd l k
   unfolding latestEnd

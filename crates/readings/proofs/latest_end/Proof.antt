@@ -26,7 +26,7 @@ returns c =
     let run = c .before .present-before in
     let xs = a .yesterday .now ++ a .today .now in
     let here = whole-run xs (l .end) (run .result) (search needs) (run .ensures) (c .if1 .taken) in
-    sym (latest-here xs (l .end) (search needs) here) ∙ l .inv
+    sym (latest-here xs (l .end) here) ∙ l .inv
 
 add-end : tie.Need-add-end Inv-loop μ-loop
 add-end c = search needs

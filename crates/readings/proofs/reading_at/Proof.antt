@@ -1,8 +1,8 @@
 -- `readings::reading_at` meets its contract: on the first day, on the second, and past both.
-use mathlib.Core.Path.{_≡_, sym, _∙_}
+use mathlib.Core.Path.{sym, _∙_}
 use borrow.Author.Needs.{needs}
 use lib.ListN.{List·getD-append, List·getD-eq-default}
-use Rattle.readings.proofs.Windows.{second-day}
+use Rattle.lists.proofs.Parts.{getD-append-past}
 use Rattle.readings.proofs.reading_at.Statement.{statement}
 use Rattle.readings.proofs.reading_at.Tie as tie
 
@@ -29,12 +29,12 @@ shared-slice-read-result-2 c = search needs
 returns-2 : tie.Need-returns-2
 returns-2 c =
     let a = c .before .before .before .args in
-    sym (second-day (a .yesterday .now) (a .today .now) (a .place) (c .before .before .if1 .left))
+    sym (getD-append-past (a .yesterday .now) (a .today .now) (a .place) 0 (c .before .before .if1 .left))
 
 returns-3 : tie.Need-returns-3
 returns-3 c =
     let a = c .before .before .args in
-    sym (second-day (a .yesterday .now) (a .today .now) (a .place) (c .before .if1 .left) ∙ List·getD-eq-default (a .today .now) 0 (c .if2 .left))
+    sym (getD-append-past (a .yesterday .now) (a .today .now) (a .place) 0 (c .before .if1 .left) ∙ List·getD-eq-default (a .today .now) 0 (c .if2 .left))
 
 pub reading-at-spec : {M : Type 1} → statement M
 reading-at-spec =

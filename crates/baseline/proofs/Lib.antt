@@ -1,0 +1,4 @@
+pub mod Places
+pub mod Extracts
+pub mod Rooms
+pub mod FirstRefusal

@@ -1,0 +1,50 @@
+-- `baseline::refusals::of_table` meets its contract: each way out is a law of `FirstRefusal`.
+use mathlib.Core.Path.{sym, _∙_}
+use native.Mathlib.Omega.{arith}
+use borrow.Author.Needs.{needs}
+use Rattle.baseline.specs.Answer.{tableOf}
+use Rattle.baseline.proofs.Extracts.{extract-is}
+use Rattle.baseline.proofs.FirstRefusal.{bad-table, bad-mark, bad-reading, good-table}
+use Rattle.baseline.proofs.refusals.of_table.Statement.{statement}
+use Rattle.baseline.proofs.refusals.of_table.Tie as tie
+
+is-extract-requires : tie.Need-is-extract-requires
+is-extract-requires c κs = search needs
+
+first-bad-mark-requires : tie.Need-first-bad-mark-requires
+first-bad-mark-requires c κs = search needs
+
+cast-t10 : tie.Need-cast-t10
+cast-t10 c = let a = c .before .before .before .before .before .before .args in omega (arith, extract-is (tableOf (a .first) (a .marks .now) (a .readings .now)) (sym (c .before .before .before .is-extract .ensures) ∙ c .before .before .if1 .taken))
+
+returns : tie.Need-returns
+returns c = let a = c .before .before .before .before .before .before .args in bad-mark (tableOf (a .first) (a .marks .now) (a .readings .now)) (sym (c .before .before .before .is-extract .ensures) ∙ c .before .before .if1 .taken) (c .before .first-bad-mark .ensures) (c .if2 .taken)
+
+first-bad-reading-requires : tie.Need-first-bad-reading-requires
+first-bad-reading-requires c κs = search needs
+
+cast-t13 : tie.Need-cast-t13
+cast-t13 c = let a = c .before .before .before .before .before .before .before .before .args in omega (arith, extract-is (tableOf (a .first) (a .marks .now) (a .readings .now)) (sym (c .before .before .before .before .before .is-extract .ensures) ∙ c .before .before .before .before .if1 .taken))
+
+returns-2 : tie.Need-returns-2
+returns-2 c = let a = c .before .before .before .before .before .before .before .before .args in bad-reading (tableOf (a .first) (a .marks .now) (a .readings .now)) (sym (c .before .before .before .before .before .is-extract .ensures) ∙ c .before .before .before .before .if1 .taken) (c .before .before .before .first-bad-mark .ensures) (c .before .before .if2 .left) (c .before .first-bad-reading .ensures) (c .if3 .taken)
+
+returns-3 : tie.Need-returns-3
+returns-3 c = let a = c .before .before .before .before .before .before .before .before .args in good-table (tableOf (a .first) (a .marks .now) (a .readings .now)) (sym (c .before .before .before .before .before .is-extract .ensures) ∙ c .before .before .before .before .if1 .taken) (c .before .before .before .first-bad-mark .ensures) (c .before .before .if2 .left) (c .before .first-bad-reading .ensures) (c .if3 .left)
+
+returns-4 : tie.Need-returns-4
+returns-4 c = let a = c .before .before .before .before .args in bad-table (tableOf (a .first) (a .marks .now) (a .readings .now)) (sym (c .before .is-extract .ensures) ∙ c .if1 .left)
+
+pub of-table-spec : {M : Type 1} → statement M
+of-table-spec =
+    tie.close
+    (tie.spec
+    is-extract-requires
+    first-bad-mark-requires
+    cast-t10
+    returns
+    first-bad-reading-requires
+    cast-t13
+    returns-2
+    returns-3
+    returns-4)
