@@ -19,23 +19,19 @@ pub fn sum(xs: &[u32]) -> u64
     ensures { λ r. ⌜ Summed (now (xs .entry)) r ⌝ }
 {
     let mut total: u64 = 0;
-    let mut i = 0;
-    while i < xs.len() {
+    for i in 0..xs.len() {
         total = std::num::wrapping_add_u64(total, xs[i] as u64);
-        i += 1;
     }
     total
 }
 
 // Whether no reading is missing. There is no branch in the loop, so that it takes several readings at a time.
-pub fn complete(xs: &[u32]) -> bool
-    ensures { λ r. ⌜ r ≡ all present (now (xs .entry)) ⌝ }
+pub fn complete(day: &[u32]) -> bool
+    ensures { λ r. ⌜ r ≡ all present (now (day .entry)) ⌝ }
 {
     let mut all_present = true;
-    let mut i = 0;
-    while i < xs.len() {
-        all_present = all_present & (xs[i] != MISSING);
-        i += 1;
+    for i in 0..day.len() {
+        all_present = all_present & (day[i] != MISSING);
     }
     all_present
 }
@@ -58,14 +54,12 @@ pub fn is_out(mark: u8) -> bool
 pub fn first_bad_mark(marks: &[u8]) -> usize
     ensures { λ r. ⌜ r ≡ leading goodMark (now (marks .entry)) ⌝ }
 {
-    let mut i = 0;
-    while i < marks.len() {
+    for i in 0..marks.len() {
         if marks[i] & 252 != 0 {
             return i;
         }
-        i += 1;
     }
-    i
+    marks.len()
 }
 
 // Whether a reading is in range, or missing.
@@ -80,10 +74,8 @@ fn block_is_good(block: &[u32]) -> bool
     ensures { λ r. ⌜ r ≡ all goodReading (now (block .entry)) ⌝ }
 {
     let mut all_good = true;
-    let mut i = 0;
-    while i < block.len() {
+    for i in 0..block.len() {
         all_good = all_good & is_good(block[i]);
-        i += 1;
     }
     all_good
 }
@@ -136,14 +128,12 @@ fn present_before(end: u32, yesterday: &[u32], today: &[u32]) -> u32
     requires { ⌜ 12 ≤ end ⌝ }
     ensures { λ r. ⌜ RunBefore (now (yesterday .entry) ++ now (today .entry)) end r ⌝ }
 {
-    let mut run = 0;
-    while run < 12 {
+    for run in 0..12 {
         if reading_at(end - run - 1, yesterday, today) == MISSING {
             return run;
         }
-        run += 1;
     }
-    run
+    12
 }
 
 // Whether twelve quarters end at a place of the ruler, with all their readings present.

@@ -11,10 +11,10 @@ use Rattle.readings.proofs.block_is_good.Statement.{statement}
 use Rattle.readings.proofs.block_is_good.Tie as tie
 
 abbrev Inv-loop : tie.InvT-loop
-Inv-loop block all-good₀ i₀ all-good i = (i ≤ length block) × ((all-good && all goodReading (drop i block)) ≡ all goodReading block)
+Inv-loop block all-good₀ i₀ i-end all-good i = (i ≤ length block) × ((all-good && all goodReading (drop i block)) ≡ all goodReading block)
 
 abbrev μ-loop : tie.MeasureT-loop
-μ-loop block all-good₀ i₀ all-good i = length block - i
+μ-loop block all-good₀ i₀ i-end all-good i = length block - i
 
 loop-holds : tie.Need-loop-holds Inv-loop μ-loop
 loop-holds c = search needs

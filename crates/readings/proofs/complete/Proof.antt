@@ -11,10 +11,10 @@ use Rattle.readings.proofs.complete.Statement.{statement}
 use Rattle.readings.proofs.complete.Tie as tie
 
 abbrev Inv-loop : tie.InvT-loop
-Inv-loop xs all-present₀ i₀ all-present i = (i ≤ length xs) × ((all-present && all present (drop i xs)) ≡ all present xs)
+Inv-loop day all-present₀ i₀ i-end all-present i = (i ≤ length day) × ((all-present && all present (drop i day)) ≡ all present day)
 
 abbrev μ-loop : tie.MeasureT-loop
-μ-loop xs all-present₀ i₀ all-present i = length xs - i
+μ-loop day all-present₀ i₀ i-end all-present i = length day - i
 
 loop-holds : tie.Need-loop-holds Inv-loop μ-loop
 loop-holds c = search needs
@@ -35,13 +35,13 @@ loop-again : tie.Need-loop-again Inv-loop μ-loop
 loop-again c =
     let l = c .before .before .loop in (
       search needs,
-      all-step present (l .all-present) (c .before .before .before .args .xs .now) (l .i) 0 (c .before .loop-test .taken) ∙ l .inv .1,
+      all-step present (l .all-present) (c .before .before .before .args .day .now) (l .i) 0 (c .before .loop-test .taken) ∙ l .inv .1,
     )
 
 returns : tie.Need-returns Inv-loop μ-loop
 returns c =
     let l = c .before .loop in
-    sym (all-end present (l .all-present) (c .before .before .args .xs .now) (l .i) (c .loop-test .left)) ∙ l .inv .1
+    sym (all-end present (l .all-present) (c .before .before .args .day .now) (l .i) (c .loop-test .left)) ∙ l .inv .1
 
 pub complete-spec : {M : Type 1} → statement M
 complete-spec =

@@ -1,6 +1,7 @@
 -- `readings::first_bad_mark` meets its contract. The invariant: what was passed, and what is left to pass, is all that is passed.
 use Prim.Native.Nat.{_+_, _-_, _≤_}
 use mathlib.Core.Path.{_≡_, sym, _∙_}
+use native.Mathlib.Omega.{arith}
 use borrow.Author.Needs.{needs}
 use lib.ListN.{length, drop, getD}
 use Rattle.lists.specs.Lists.{leading}
@@ -11,10 +12,10 @@ use Rattle.readings.proofs.first_bad_mark.Statement.{statement}
 use Rattle.readings.proofs.first_bad_mark.Tie as tie
 
 abbrev Inv-loop : tie.InvT-loop
-Inv-loop marks i₀ i = (i ≤ length marks) × (i + leading goodMark (drop i marks) ≡ leading goodMark marks)
+Inv-loop marks i₀ i-end i = (i ≤ length marks) × (i + leading goodMark (drop i marks) ≡ leading goodMark marks)
 
 abbrev μ-loop : tie.MeasureT-loop
-μ-loop marks i₀ i = length marks - i
+μ-loop marks i₀ i-end i = length marks - i
 
 loop-holds : tie.Need-loop-holds Inv-loop μ-loop
 loop-holds c = search needs
@@ -45,7 +46,7 @@ loop-again c =
 returns-2 : tie.Need-returns-2 Inv-loop μ-loop
 returns-2 c =
     let l = c .before .loop in
-    sym (leading-end goodMark (c .before .before .args .marks .now) (l .i) (c .loop-test .left)) ∙ l .inv .1
+    omega (arith, leading-end goodMark (c .before .before .args .marks .now) (l .i) (c .loop-test .left))
 
 pub first-bad-mark-spec : {M : Type 1} → statement M
 first-bad-mark-spec =

@@ -54,7 +54,8 @@ loop-again c =
 returns-2 : tie.Need-returns-2 Inv-loop μ-loop
 returns-2 c =
     let l = c .before .loop in
-    record { most = l .inv .0; clear = l .inv .1; stops = λ h. absurd (omega arith) }
+    let whole : l .run ≡ 12 = omega arith in
+    record { most = search needs; clear = rw whole at (l .inv .1); stops = λ h. absurd (omega arith) }
 
 pub present-before-spec : {M : Type 1} → statement M
 present-before-spec =

@@ -11,10 +11,10 @@ use Rattle.readings.proofs.sum.Statement.{statement}
 use Rattle.readings.proofs.sum.Tie as tie
 
 abbrev Inv-loop : tie.InvT-loop
-Inv-loop xs total₀ i₀ total i = (i ≤ length xs) × (total < 2 ^ 64) × ((total + sumOf (drop i xs)) % 2 ^ 64 ≡ sumOf xs % 2 ^ 64) × (sumOf xs ≤ 4294967295 * i + sumOf (drop i xs))
+Inv-loop xs total₀ i₀ i-end total i = (i ≤ length xs) × (total < 2 ^ 64) × ((total + sumOf (drop i xs)) % 2 ^ 64 ≡ sumOf xs % 2 ^ 64) × (sumOf xs ≤ 4294967295 * i + sumOf (drop i xs))
 
 abbrev μ-loop : tie.MeasureT-loop
-μ-loop xs total₀ i₀ total i = length xs - i
+μ-loop xs total₀ i₀ i-end total i = length xs - i
 
 loop-holds : tie.Need-loop-holds Inv-loop μ-loop
 loop-holds c = search needs
