@@ -8,8 +8,7 @@ use native.Mathlib.Omega.{arith}
 use borrow.Author.Tests.{le-leb, lt-leb, eq-eqb, ne-eqb, leb-true, eqb-true, eqb-false, not-true, lt-ltb, le-ltb, ltb-true}
 use lib.Dec.{leb, ltb, eqb}
 use lib.ListN.{length, take, drop, length-take, length-drop}
-use Rattle.lists.proofs.Bools.{both, lt-or-le}
-use Rattle.lists.proofs.Keep.{and-left, and-right}
+use Rattle.lists.proofs.Bools.{both, lt-or-le, and-left, and-right}
 use Rattle.calendar.specs.Days.{lastDay}
 use Rattle.method.specs.Table.{Table, heldDays, offset, shaped, isExtract, held, history, size, dayOf, dayPart}
 use Rattle.method.proofs.Tables.{offset-is}

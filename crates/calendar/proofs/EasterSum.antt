@@ -6,8 +6,8 @@ use mathlib.Core.Logic.{⊎-elim}
 use native.Mathlib.Omega.{arith}
 use borrow.Author.Tests.{leb-true}
 use lib.Dec.{leb}
-use Rattle.lists.proofs.Bools.{lt-or-le}
 use Rattle.lists.proofs.Below.{at-each}
+use Rattle.lists.proofs.Bools.{lt-or-le}
 use Rattle.lists.specs.Lists.{sumOf}
 use Rattle.calendar.specs.Days.{leap, months, newYear, dayNumber}
 use Rattle.calendar.specs.Holidays.{easterD, easterE, easterQ, easter, isSunday}

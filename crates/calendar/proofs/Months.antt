@@ -9,8 +9,8 @@ use borrow.Author.Tests.{eqb-true, leb-true, lt-ltb, le-ltb}
 use lib.Dec.{leb, ltb, eqb}
 use lib.ListN.{getD, take}
 use Rattle.lists.specs.Lists.{sumOf}
-use Rattle.lists.proofs.Bools.{lt-or-le}
 use Rattle.lists.proofs.Below.{below, at-each}
+use Rattle.lists.proofs.Bools.{lt-or-le}
 use Rattle.calendar.specs.Days.{leap, months}
 use Rattle.calendar.proofs.Years.{leap-cases, leap-le}
 

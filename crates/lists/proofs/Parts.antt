@@ -1,11 +1,11 @@
 -- Parts of lists: `take` and `drop` past an end, and over two lists put together.
 use Prim.Native.Nat.{ℕ, zero, suc, _+_, _-_, _≤_, min}
-use mathlib.Core.Path.{_≡_, ap, sym, _∙_}
+use mathlib.Core.Path.{_≡_, refl, ap, sym, _∙_}
 use mathlib.Core.List.{List, [], _∷_, _++_}
 use native.Mathlib.Nat.{sub-zero, zero-sub, suc-sub-suc}
 use native.Mathlib.Omega.{arith}
 use lib.ListN.{length, getD, take, drop, length-drop}
-use lib.Seq.{take-nil, getD-append-add}
+use lib.Seq.{take-nil, take-take, getD-append-add}
 
 module _ {A : Type 0} where
   pub take-append : (n : ℕ) (xs ys : List A) → take n (xs ++ ys) ≡ take n xs ++ take (n - length xs) ys
@@ -46,3 +46,10 @@ module _ {A : Type 0} where
 
   pub no-part : (a e : ℕ) (xs : List A) → min e (length xs) ≤ a → take (e - a) (drop a xs) ≡ []
   no-part a e xs h = let k : min e (length xs) - a ≡ 0 = omega arith in rw (← part-within a e xs, k)
+
+-- what lies within the first `s` is seen in them
+pub take-drop-take : {A : Type 0} (n k s : ℕ) (xs : List A) → k + n ≤ s → take n (drop k (take s xs)) ≡ take n (drop k xs)
+take-drop-take n zero s xs h = take-take n s xs (omega arith)
+take-drop-take n (suc k) zero xs h = absurd (omega arith)
+take-drop-take n (suc k) (suc s) [] h = refl
+take-drop-take n (suc k) (suc s) (x ∷ xs) h = take-drop-take n k s xs (omega arith)

@@ -11,7 +11,8 @@ use lib.Dec.{leb}
 use lib.ListN.{length, take, drop, getD, length-take}
 use lib.Seq.{drop-cons}
 use Rattle.lists.specs.Lists.{all, sumOf}
-use Rattle.lists.proofs.All.{both, all-take, all-drop}
+use Rattle.lists.proofs.All.{all-take, all-drop}
+use Rattle.lists.proofs.Bools.{both}
 use Rattle.lists.proofs.Parts.{part-append}
 
 pub sum-take-suc : (ls : List ℕ) (k : ℕ) → sumOf (take (suc k) ls) ≡ sumOf (take k ls) + getD ls k 0

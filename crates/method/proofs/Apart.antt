@@ -6,7 +6,8 @@ use mathlib.Core.List.{List, [], _∷_, append-nil}
 use Prim.Native.Nat.{ℕ, _≤_, _<_}
 use native.Mathlib.Omega.{arith}
 use Rattle.lists.specs.Lists.{keep, member}
-use Rattle.lists.proofs.Keep.{bool-cases, clash, keep-append}
+use Rattle.lists.proofs.Bools.{bool-cases, clash}
+use Rattle.lists.proofs.Keep.{keep-append}
 use Rattle.method.specs.Table.{History, held}
 use Rattle.method.specs.Method.{Method, dated, seen, eligibles, spares, window, isShort}
 use Rattle.method.specs.Lawful.{Lawful}

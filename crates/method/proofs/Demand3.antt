@@ -7,7 +7,8 @@ use mathlib.Core.Option.{Option}
 use Prim.Native.Nat.{ℕ, _-_, _≤_, _<_}
 use native.Mathlib.Omega.{arith}
 use Rattle.lists.specs.Lists.{member}
-use Rattle.lists.proofs.Keep.{clash, bool-cases, leastOf-from}
+use Rattle.lists.proofs.Bools.{clash, bool-cases}
+use Rattle.lists.proofs.Keep.{leastOf-from}
 use Rattle.calendar.specs.declared.Group.{Group}
 use Rattle.method.specs.declared.Request.{Request}
 use Rattle.method.specs.declared.Refusal.the-variants.{MarginTooShort}

@@ -10,7 +10,7 @@ use lib.ListN.{length, getD}
 use lib.Dec.{leb, eqb}
 use borrow.Author.Tests.{leb-true, le-leb, eqb-true}
 use Rattle.lists.specs.Lists.{all}
-use Rattle.lists.proofs.Keep.{and-left, and-right, or-cases, clash}
+use Rattle.lists.proofs.Bools.{and-left, and-right, either, clash}
 use Rattle.calendar.specs.declared.Group.{Group}
 use Rattle.method.specs.declared.Request.{Request}
 use Rattle.method.specs.declared.Refusal.the-variants.{MarginTooShort}

@@ -6,7 +6,8 @@ use native.Mathlib.Omega.{arith}
 use lib.Dec.{leb, ltb}
 use borrow.Author.Tests.{leb-true}
 use Rattle.lists.specs.Lists.{member}
-use Rattle.lists.proofs.Keep.{and-left, and-right, kept-member, kept-holds}
+use Rattle.lists.proofs.Bools.{and-left, and-right}
+use Rattle.lists.proofs.Keep.{kept-member, kept-holds}
 use Rattle.calendar.specs.declared.Group.{Group}
 use Rattle.calendar.specs.declared.Group.the-variants.{Weekday, Saturday, HolidayGroup}
 use Rattle.method.specs.declared.Request.{Request}

@@ -10,8 +10,8 @@ use lib.ListN.{length, take}
 use lib.Dec.{leb, ltb}
 use borrow.Author.Tests.{leb-true, ltb-true, le-leb, lt-ltb, le-ltb}
 use Rattle.lists.specs.Lists.{keep, member}
-use Rattle.lists.proofs.Keep.{bool-cases, and-left, and-right, member-head, member-map-reach, member-keep, kept-holds}
-use Rattle.lists.proofs.Keep.{keep-append, keep-map, keep-same, keep-every, keep-none, map-same}
+use Rattle.lists.proofs.Bools.{bool-cases, and-left, and-right}
+use Rattle.lists.proofs.Keep.{member-head, member-map-reach, member-keep, kept-holds, keep-append, keep-map, keep-same, keep-every, keep-none, map-same}
 use Rattle.method.specs.Table.{History, held}
 use Rattle.method.specs.Method.{Method, dated, seen, eligibles, spares, window}
 use Rattle.method.specs.Lawful.{Lawful}

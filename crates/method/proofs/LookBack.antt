@@ -7,7 +7,8 @@ use native.Mathlib.Omega.{arith}
 use lib.Dec.{eqb}
 use borrow.Author.Tests.{eqb-false}
 use Rattle.lists.specs.Lists.{member}
-use Rattle.lists.proofs.Keep.{bool-cases, clash, member-cases}
+use Rattle.lists.proofs.Bools.{bool-cases, clash}
+use Rattle.lists.proofs.Keep.{member-cases}
 use Rattle.method.specs.Relevant.{daysBefore, lookBack}
 use Rattle.method.specs.Lawful.{Falling, none, next}
 

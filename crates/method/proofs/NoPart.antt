@@ -11,7 +11,8 @@ use lib.Seq.{take-append-add}
 use lib.Dec.{leb, ltb}
 use borrow.Author.Tests.{leb-true}
 use Rattle.lists.specs.Lists.{any}
-use Rattle.lists.proofs.Keep.{and-left, and-right, clash, take-drop-take}
+use Rattle.lists.proofs.Bools.{and-left, and-right, clash}
+use Rattle.lists.proofs.Parts.{take-drop-take}
 use Rattle.calendar.specs.declared.Group.{Group}
 use Rattle.method.specs.declared.Request.{Request}
 use Rattle.method.specs.Table.{Table, Day, dayOf, held, history, isExtract}

@@ -9,7 +9,8 @@ use lib.ListN.{length}
 use lib.Dec.{ltb, eqb}
 use borrow.Author.Tests.{ltb-true, ltb-false, eqb-true, eq-eqb}
 use Rattle.lists.specs.Lists.{leastOf}
-use Rattle.lists.proofs.Keep.{bool-cases, clash, leastOf-top, leastOf-member, leastOf-from}
+use Rattle.lists.proofs.Bools.{bool-cases, clash}
+use Rattle.lists.proofs.Keep.{leastOf-top, leastOf-member, leastOf-from}
 use Rattle.method.specs.Table.{History, held}
 use Rattle.method.specs.Method.{Method, dated, eligibles, window, reach, wholeReach, isShort}
 use Rattle.method.specs.Lawful.{Lawful}

@@ -9,7 +9,7 @@ use lib.ListN.{length}
 use lib.Dec.{eqb}
 use borrow.Author.Tests.{not-true}
 use Rattle.lists.specs.Lists.{any, all}
-use Rattle.lists.proofs.Keep.{clash, bool-cases, and-left, and-right}
+use Rattle.lists.proofs.Bools.{clash, bool-cases, and-left, and-right}
 use Rattle.calendar.specs.declared.Group.{Group}
 use Rattle.method.specs.declared.Request.{Request}
 use Rattle.method.specs.declared.Refusal.{Refusal}

@@ -9,7 +9,8 @@ use lib.ListN.{length, take}
 use lib.Dec.{leb}
 use borrow.Author.Tests.{lt-ltb}
 use Rattle.lists.specs.Lists.{keep, member}
-use Rattle.lists.proofs.Keep.{or-cases, kept-holds, kept-member, member-map-keep, member-map-take, member-map-append}
+use Rattle.lists.proofs.Bools.{either}
+use Rattle.lists.proofs.Keep.{kept-holds, kept-member, member-map-keep, member-map-take, member-map-append}
 use Rattle.method.specs.Table.{History, held}
 use Rattle.method.specs.Method.{Method, dated, seen, eligibles, spares, window}
 use Rattle.method.specs.Lawful.{Lawful}
@@ -31,7 +32,7 @@ module _ {A : Type 0} (d : ℕ) where
   in-take k days e = member-map-take (λ (p : ℕ × A). p .0) k days d e
 
   pub in-cases : (xs ys : List (ℕ × A)) → In d (xs ++ ys) → In d xs ⊎ In d ys
-  in-cases xs ys e = or-cases (member d (dated xs)) (member d (dated ys)) (sym (member-map-append (λ (p : ℕ × A). p .0) d xs ys) ∙ e)
+  in-cases xs ys e = either (member d (dated xs)) (member d (dated ys)) (sym (member-map-append (λ (p : ℕ × A). p .0) d xs ys) ∙ e)
 
   pub in-left : (xs ys : List (ℕ × A)) → In d xs → In d (xs ++ ys)
   in-left xs ys e = rw (member-map-append (λ (p : ℕ × A). p .0) d xs ys, e)

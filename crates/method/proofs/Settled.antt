@@ -8,7 +8,7 @@ use lib.ListN.{length}
 use lib.Dec.{eqb}
 use borrow.Author.Tests.{eqb-true}
 use Rattle.lists.specs.Lists.{all}
-use Rattle.lists.proofs.Keep.{or-cases, clash}
+use Rattle.lists.proofs.Bools.{either, clash}
 use Rattle.calendar.specs.declared.Group.{Group}
 use Rattle.method.specs.declared.Request.{Request}
 use Rattle.method.specs.Table.{Table, Day, History, history}
@@ -21,7 +21,7 @@ use Rattle.method.proofs.Replies.{earlier-cases, plain, hidden-other}
 
 pub settled-margin : (reply : Reply) → isSettled reply ≡ true → isMargin reply ≡ false
 settled-margin (refused w) e =
-    ⊎-elim (λ n. rw (eqb-true (number w) 9 n)) (λ n. rw (eqb-true (number w) 10 n)) (or-cases (eqb (number w) 9) (eqb (number w) 10) e)
+    ⊎-elim (λ n. rw (eqb-true (number w) 9 n)) (λ n. rw (eqb-true (number w) 10 n)) (either (eqb (number w) 9) (eqb (number w) 10) e)
 settled-margin (answered a) e = refl
 
 closing-reach : (m : Method Day (Option Baseline)) (h : History Day) → isSettled (closing (outcome m h)) ≡ true

@@ -12,7 +12,8 @@ use lib.Seq.{drop-at, drop-drop, getD-drop, take-append-le, drop-append-le}
 use lib.Dec.{leb, eqb}
 use borrow.Author.Tests.{eqb-true, eqb-false, eq-eqb, ne-eqb, leb-true, le-leb, not-true}
 use Rattle.lists.specs.Lists.{all}
-use Rattle.lists.proofs.Keep.{and-left, and-right, all-append, all-replicate, all-take, all-drop}
+use Rattle.lists.proofs.All.{all-append, all-replicate, all-take, all-drop}
+use Rattle.lists.proofs.Bools.{and-left, and-right}
 use Rattle.calendar.specs.Days.{lastDay}
 use Rattle.method.specs.declared.Request.{Request}
 use Rattle.method.specs.Table.{Table, heldDays, size, offset, dayOf, goodMark, goodReading, held, history, shaped}

@@ -11,7 +11,7 @@ use borrow.Author.Tests.{lt-ltb, le-ltb, leb-true, le-leb}
 use Rattle.lists.specs.Lists.{all}
 use Rattle.method.specs.HighXofY.{insertBy}
 use Rattle.ranking.specs.Words.{insertDown}
-use Rattle.ranking.proofs.Basics.{both, lt-or-le}
+use Rattle.lists.proofs.Bools.{both, lt-or-le}
 
 pub goes-here : (x y : ℕ) (ys : List ℕ) → y < x → insertDown x (y ∷ ys) ≡ x ∷ y ∷ ys
 unfolding insertBy

@@ -2,6 +2,5 @@ pub mod Rank
 pub mod Sorting
 pub mod Insertion
 pub mod Numbers
-pub mod Basics
 pub mod Carry
 pub mod OneByOne

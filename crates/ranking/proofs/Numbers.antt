@@ -12,7 +12,7 @@ use lib.Dec.{leb, ltb, eqb}
 use borrow.Author.Tests.{leb-true, lt-ltb, le-ltb, eq-eqb, ne-eqb}
 use Rattle.lists.specs.Lists.{all, sumOf}
 use Rattle.method.specs.Table.{present, goodReading, missing}
-use Rattle.ranking.proofs.Basics.{both, lt-or-le}
+use Rattle.lists.proofs.Bools.{both, lt-or-le}
 
 same-test : (a b c d : ℕ) → (a < b → c < d) → (b ≤ a → d ≤ c) → ltb a b ≡ ltb c d
 same-test a b c d f g =

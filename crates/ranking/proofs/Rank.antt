@@ -3,7 +3,7 @@
 use Prim.Native.Nat.{ℕ, zero, suc, _+_, _-_, _%_, _^_, _<_, _≤_}
 use mathlib.Core.Path.{_≡_, refl, ap, ap₂, sym, _∙_}
 use mathlib.Core.Bool.{Bool, true, _&&_}
-use mathlib.Core.List.{List, [], _∷_, _++_, map, append-nil}
+use mathlib.Core.List.{List, [], _∷_, _++_, map, append-nil, map-append}
 use mathlib.Core.Logic.{⊎-elim}
 use native.Mathlib.Omega.{arith}
 use lib.ListN.{take, length, replicate, length-take, length-append, length-replicate, length-map}
@@ -16,7 +16,9 @@ use Rattle.method.specs.Table.{Day, goodReading}
 use Rattle.method.specs.Method.{dated}
 use Rattle.method.specs.HighXofY.{complete, eventSum, higher, sortBy}
 use Rattle.ranking.specs.Words.{word, above, insertDown, sortDown, padded, insertAll}
-use Rattle.ranking.proofs.Basics.{both, lt-or-le, all-take, map-take, map-append}
+use Rattle.lists.proofs.All.{all-take}
+use Rattle.lists.proofs.Bools.{both, lt-or-le}
+use Rattle.lists.proofs.Maps.{map-take}
 use Rattle.ranking.proofs.Sorting.{same-sorted, length-sorted, all-inserted, all-sorted, map-sorted}
 use Rattle.ranking.proofs.Insertion.{into-none, goes-here, goes-later, smaller-first, none-above, before-noughts, behind-all}
 use Rattle.ranking.proofs.OneByOne.{insert-none, insert-next}

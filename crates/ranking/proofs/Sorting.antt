@@ -9,7 +9,7 @@ use lib.Dec.{eqb}
 use Rattle.lists.specs.Lists.{all, member}
 use Rattle.method.specs.Method.{dated}
 use Rattle.method.specs.HighXofY.{insertBy, sortBy}
-use Rattle.ranking.proofs.Basics.{both}
+use Rattle.lists.proofs.Bools.{both}
 
 -- `g` folds a list by a step `f`, and the order of two steps does not matter
 module _ {A C : Type 0} (before : A → A → Bool) (g : List A → C) (f : A → C → C)

@@ -11,7 +11,8 @@ use lib.Dec.{leb, eqb}
 use lib.ListN.{length, take, drop, getD, length-take, length-append, List·getD-append}
 use lib.Seq.{drop-cons}
 use Rattle.lists.specs.Lists.{all, sumOf}
-use Rattle.lists.proofs.All.{bool-cases, both, all-append, all-take, all-drop, all-both, map-all}
+use Rattle.lists.proofs.All.{all-append, all-take, all-drop, all-both, map-all}
+use Rattle.lists.proofs.Bools.{bool-cases, both}
 use Rattle.lists.proofs.Parts.{getD-append-past}
 use Rattle.lists.proofs.Sums.{sum-bounded, sum-most, part-most, sum-swap}
 use Rattle.method.specs.declared.Request.{Request}

@@ -1,7 +1,7 @@
 -- Adjustment windows: what a run of present readings says of one that ends there, and that none reaches over a missing reading.
 use Prim.Native.Nat.{ℕ, zero, suc, _+_, _-_, _%_, _^_, _≤_, _<_}
 use mathlib.Core.Path.{_≡_, refl, ap, sym, _∙_}
-use mathlib.Core.Bool.{true, false, not}
+use mathlib.Core.Bool.{true, false, not, and-false}
 use mathlib.Core.List.{List, _++_}
 use mathlib.Core.Logic.{⊎-elim}
 use native.Mathlib.Nat.{add-zero, add-suc}
@@ -12,7 +12,8 @@ use lib.Dec.{leb, eqb}
 use lib.ListN.{length, take, drop, getD, List·getD-eq-default, length-append, length-take}
 use lib.Seq.{getD-append-add}
 use Rattle.lists.specs.Lists.{all, sumOf}
-use Rattle.lists.proofs.All.{bool-cases, all-before, all-lacks, and-false}
+use Rattle.lists.proofs.All.{all-before, all-lacks}
+use Rattle.lists.proofs.Bools.{bool-cases}
 use Rattle.lists.proofs.Parts.{part-append}
 use Rattle.lists.proofs.Sums.{sum-append}
 use Rattle.method.specs.Table.{present, missing}
