@@ -95,7 +95,8 @@ module _ (t : Table) (day : ℕ) where
   has-is e = both (isExtract t) (held (history t) day) e
 
   -- a day that is held has its ninety-six readings
-  pub has-inside : hasDay t day ≡ true → (t .first ≤ day) × (day < t .first + heldDays t) × (96 * (day - t .first) + 96 ≤ length (t .readings))
+  pub has-inside : hasDay t day ≡ true
+      → (t .first ≤ day) × (day < t .first + heldDays t) × (offset (t .first) (day - t .first) + 96 ≤ length (t .readings))
   unfolding held
   has-inside e =
       let w = has-is e in
@@ -103,21 +104,17 @@ module _ (t : Table) (day : ℕ) where
       let h = both (leb (t .first) day) (ltb day (t .first + heldDays t)) (w .1) in
       let a = leb-true (t .first) day (h .0) in
       let b = ltb-true day (t .first + heldDays t) (h .1) in
-      (a, b, omega (arith, x .sized))
+      (a, b, omega (arith, x .sized, offset-is (t .first) (day - t .first)))
 
   -- the part of a day that is held, and of one that is not
   module _ (whole : ℕ × ℕ) (part : List ℕ) (at : ℕ × ℕ) (same : at .0 ≡ whole .0) where
-    pub part-held : hasDay t day ≡ true → part ≡ take (96 * (day - t .first) + 96 - 96 * (day - t .first)) (drop (96 * (day - t .first)) (t .readings))
-        → at .1 ≡ whole .1 + 4 * (96 * (day - t .first)) → DayPart t day whole part at
+    pub part-held : (start : ℕ) → start ≡ offset (t .first) (day - t .first) → hasDay t day ≡ true
+        → part ≡ take (start + 96 - start) (drop start (t .readings)) → at .1 ≡ whole .1 + 4 * start → DayPart t day whole part at
     unfolding dayPart dayOf size partStart
-    part-held e l b =
+    part-held start s e l b =
         let w = has-is e in
-        let k : 96 * (day - t .first) + 96 - 96 * (day - t .first) ≡ 96 = omega arith in
-        record {
-          list = rw (w .0, w .1, offset-is (t .first) (day - t .first)) (rw k at l);
-          block = same;
-          byte = rw (e, offset-is (t .first) (day - t .first)) b;
-        }
+        let k : start + 96 - start ≡ 96 = omega arith in
+        record { list = rw (w .0, w .1, ← s) (rw k at l); block = same; byte = rw (e, ← s) b }
 
     pub part-none : hasDay t day ≡ false → part ≡ [] → at .1 ≡ whole .1 → DayPart t day whole part at
     unfolding dayPart partStart
@@ -132,8 +129,12 @@ module _ (t : Table) (day : ℕ) where
   part-whole e =
       let w = has-is e in
       let k = has-inside e .2 in
-      rw (w .0, w .1, offset-is (t .first) (day - t .first), length-take, length-drop) (omega arith)
+      rw (w .0, w .1, length-take, length-drop) (omega arith)
 
   pub part-empty : hasDay t day ≡ false → dayPart t day ≡ []
   unfolding dayPart hasDay
   part-empty e = rw e
+
+  pub part-is : hasDay t day ≡ true → dayPart t day ≡ dayOf t day .readings
+  unfolding dayPart hasDay
+  part-is e = rw e

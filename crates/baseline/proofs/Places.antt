@@ -2,14 +2,15 @@
 use Prim.Native.Nat.{ℕ, zero, suc, _+_, _≤_, _<_}
 use mathlib.Core.Path.{_≡_, refl, ap, sym, _∙_, fun-ext}
 use mathlib.Core.Bool.{Bool, true, false, cond}
-use mathlib.Core.List.{List, [], _∷_, map}
+use mathlib.Core.List.{List, [], _∷_, _++_, map, append-nil}
 use mathlib.Core.Logic.{_⊎_, ⊎-elim}
 use native.Mathlib.Nat.{add-zero, add-suc, suc-add}
+use native.Mathlib.Numerals.{add-one}
 use native.Mathlib.Omega.{arith}
 use borrow.Author.Tests.{lt-ltb, le-ltb, le-leb, lt-leb, eqb-true, eqb-false}
 use lib.Dec.{leb, ltb, eqb}
-use lib.ListN.{length, getD, set, length-set, length-map}
-use lib.Seq.{ext-getD, getD-set-same, getD-set-other}
+use lib.ListN.{length, getD, set, drop, length-set, length-map, length-append, length-drop}
+use lib.Seq.{ext-getD, getD-set-same, getD-set-other, getD-drop, getD-append-add, drop-cons, drop-length, set-at, append-snoc}
 use Rattle.lists.proofs.Bools.{bool-cases, lt-or-le}
 use Rattle.method.specs.Adjustment.{places}
 
@@ -77,3 +78,77 @@ module _ (f : ℕ → ℕ) (n : ℕ) where
       (λ k a b.
       ⊎-elim (λ l. let l′ : k ≤ h = omega arith in rw (lt-ltb k i l, le-leb k h l′))
       (λ l. let l′ : h < k = omega arith in rw (le-ltb k i l, lt-leb k h l′)) (lt-or-le k i))
+
+-- one place more, at the end
+pub over-snoc : {A : Type 0} (f : ℕ → A) (n t : ℕ) → map f (places (suc n) t) ≡ map f (places n t) ++ (f (t + n) ∷ [])
+unfolding places
+over-snoc f zero t = rw (add-zero t)
+over-snoc f (suc n) t = let e : suc t + n ≡ t + suc n = omega arith in ap (λ l. f t ∷ l) (over-snoc f n (suc t) ∙ rw e)
+
+-- places counted from `s`
+pub over-shift : {A : Type 0} (f : ℕ → A) (s n t : ℕ) → map f (places n (s + t)) ≡ map (λ q. f (s + q)) (places n t)
+unfolding places
+over-shift f s zero t = refl
+over-shift f s (suc n) t = ap (λ l. f (s + t) ∷ l) (rw (← add-suc s t) (over-shift f s n (suc t)))
+
+-- a buffer of which a loop has set the first `i` places to `f`
+unfoldable stored : (ℕ → ℕ) → List ℕ → ℕ → List ℕ
+stored f l i = map f (places i 0) ++ drop i l
+
+module _ (f : ℕ → ℕ) (l : List ℕ) where
+  stored-none : l ≡ stored f l 0
+  unfolding stored places
+  stored-none = refl
+
+  length-stored : (i : ℕ) → i ≤ length l → length (stored f l i) ≡ length l
+  unfolding stored
+  length-stored i h = rw (length-append, length-over f i 0, length-drop) (omega arith)
+
+  -- what the next place still holds
+  stored-ahead : (i : ℕ) → getD (stored f l i) i 0 ≡ getD l i 0
+  unfolding stored
+  stored-ahead i =
+      let e : length (map f (places i 0)) + 0 ≡ i = omega (arith, length-over f i 0) in
+      let o : i + 0 ≡ i = omega arith in
+      ap (λ n. getD (map f (places i 0) ++ drop i l) n 0) (sym e) ∙ getD-append-add (map f (places i 0)) (drop i l) 0 0 ∙
+      getD-drop i l 0 0 ∙ ap (λ n. getD l n 0) o
+
+  stored-more : (i v : ℕ) → i < length l → v ≡ f i → set (stored f l i) i v ≡ stored f l (i + 1)
+  unfolding stored
+  stored-more i v h e =
+      let z : 0 + i ≡ i = omega arith in
+      rw (drop-cons l i 0 h, set-at (map f (places i 0)) (getD l i 0) (drop (suc i) l) v i (length-over f i 0), add-one i, over-snoc f i 0, z, e)
+      (sym (append-snoc (map f (places i 0)) (f i) (drop (suc i) l)))
+
+  stored-all : (i : ℕ) → i ≡ length l → stored f l i ≡ map f (places (length l) 0)
+  unfolding stored
+  stored-all i e = rw (e, drop-length l) (append-nil (map f (places (length l) 0)))
+
+-- the invariant of a loop that goes over a buffer and sets each place to `f` of it
+pub record Storing (f : ℕ → ℕ) (l now : List ℕ) (i : ℕ) : Type 0 where
+  pub within : i ≤ length l
+  pub size : length now ≡ length l
+  pub done : now ≡ map f (places i 0) ++ drop i l
+
+pub storing-begin : (f : ℕ → ℕ) (l : List ℕ) → Storing f l l 0
+unfolding places
+storing-begin f l = record { within = omega arith; size = refl; done = refl }
+
+module _ {f : ℕ → ℕ} {l now : List ℕ} {i : ℕ} (w : Storing f l now i) where
+  pub storing-here : getD now i 0 ≡ getD l i 0
+  unfolding stored
+  storing-here = rw (w .done) (stored-ahead f l i)
+
+  pub storing-next : {v : ℕ} → i < length now → v ≡ f i → Storing f l (set now i v) (i + 1)
+  unfolding stored
+  storing-next {v} h e =
+      let k = w .size in
+      record {
+        within = omega arith;
+        size = length-set now i v ∙ w .size;
+        done = rw (w .done) (stored-more f l i v (omega arith) e);
+      }
+
+  pub storing-end : length now ≤ i → now ≡ map f (places (length l) 0)
+  unfolding stored
+  storing-end h = let k = w .size in let b = w .within in w .done ∙ stored-all f l i (omega arith)

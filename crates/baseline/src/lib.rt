@@ -1,12 +1,23 @@
 // The baseline over a lent table: the public call, and the part of a day.
+mod numerators;
 mod refusals;
 mod table;
 
 ghost use denote.Ref.{ptr};
-ghost use Rattle.baseline.specs.Answer.{tableOf};
+ghost use mathlib.Core.Path.{_≡_};
+ghost use lib.ListN.{length};
+ghost use Rattle.calendar.specs.Holidays.{group};
+ghost use Rattle.method.specs.Table.{history};
+ghost use Rattle.method.specs.Method.{outcome};
+ghost use Rattle.method.specs.HighXofY.{highXofY};
+ghost use Rattle.method.specs.Verdict.{refused, closing, verdict};
+ghost use Rattle.baseline.specs.Answer.{tableOf, answerOf};
 ghost use Rattle.baseline.specs.Part.{DayPart};
+ghost use Rattle.baseline.specs.Ready.{Answers, Passes, Ready, replyOf};
+use choose::Choosing;
 use choose::Chosen;
 use method::Refusal;
+use method::Request;
 
 pub enum Given {
     Answered,
@@ -29,13 +40,120 @@ pub struct Answer {
     pub adjustment: i64,
 }
 
+// Refused: every other field is nought.
+fn refuse(refusal: Refusal) -> Answer
+    ensures { λ r. ⌜ r ≡ answerOf (refused refusal) ⌝ }
+{
+    Answer {
+        given: Given::Refused(refusal),
+        chosen: Chosen {
+            days: [0; 5],
+            count: 0,
+            reach: 0,
+        },
+        denominator: 0,
+        adjustment: 0,
+    }
+}
+
+// Days are chosen: refusal 10, or the answer, with the numerators in the output.
+fn finish(
+    first: u32,
+    marks: &[u8],
+    readings: &[u32],
+    request: Request,
+    chosen: Chosen,
+    out: &mut [u32],
+) -> Answer
+    requires { ⌜ Ready (tableOf first (now marks) (now readings)) request (length (now out)) chosen ⌝ }
+    ensures { λ r. ⌜ Answers (replyOf (tableOf first (now (marks .entry)) (now (readings .entry))) request chosen) r (now (out .entry)) (now (out .exit)) ⌝ }
+{
+    let yesterday = day_part(first, marks, readings, request.event - 1);
+    let today = day_part(first, marks, readings, request.event);
+    let end = readings::adjustment_end(request, yesterday, today);
+    if end == 0 {
+        return refuse(Refusal::NoAdjustmentWindow(chosen.reach));
+    }
+    let days = chosen.days;
+    let count = chosen.count as usize;
+    let own = readings::window_sum(end, yesterday, today);
+    let adjustment = numerators::adjustment(first, readings, days, count, end, own);
+    let start = (request.s - 96) as usize;
+    let length = (request.e - request.s) as usize;
+    numerators::write(
+        first,
+        readings,
+        days,
+        count,
+        start,
+        adjustment,
+        &mut out[..length],
+    );
+    Answer {
+        given: Given::Answered,
+        chosen: chosen,
+        denominator: 12 * chosen.count,
+        adjustment: adjustment,
+    }
+}
+
+// None of the refusals 1 to 7 applies: the days are chosen, and refusal 8 or 9 given, or the answer.
+fn choose_days(
+    first: u32,
+    marks: &[u8],
+    readings: &[u32],
+    request: Request,
+    out: &mut [u32],
+) -> Answer
+    requires { ⌜ Passes (tableOf first (now marks) (now readings)) request (length (now out)) ⌝ }
+    ensures { λ r. ⌜ Answers (closing (outcome (highXofY group request) (history (tableOf first (now (marks .entry)) (now (readings .entry)))))) r (now (out .entry)) (now (out .exit)) ⌝ }
+{
+    let rooms = table::directory(first, marks, request.event);
+    let choice = choose::choose(request, rooms, readings);
+    let choosing = choice.choosing;
+    match choosing {
+        Choosing::Short(days) => refuse(Refusal::MarginTooShort(days)),
+        Choosing::Few { size, reach } => refuse(Refusal::TooFew {
+            size: size,
+            reach: reach,
+        }),
+        Choosing::Days => {
+            let chosen = choice.chosen;
+            finish(first, marks, readings, request, chosen, out)
+        }
+    }
+}
+
+// The baseline over a lent table: the first refusal that applies, or the answer, with the numerators in the first places of the output.
+pub fn baseline(
+    first: u32,
+    marks: &[u8],
+    readings: &[u32],
+    request: Request,
+    out: &mut [u32],
+) -> Answer
+    ensures { λ r. ⌜ Answers (verdict group (tableOf first (now (marks .entry)) (now (readings .entry))) request (length (now (out .entry)))) r (now (out .entry)) (now (out .exit)) ⌝ }
+{
+    let of_table = refusals::of_table(first, marks, readings);
+    match of_table {
+        Tested::Failed(refusal) => refuse(refusal),
+        Tested::Passed => {
+            let of_request = refusals::of_request(first, marks, request, out.len());
+            match of_request {
+                Tested::Failed(refusal) => refuse(refusal),
+                Tested::Passed => choose_days(first, marks, readings, request, out),
+            }
+        }
+    }
+}
+
 // The ninety-six readings of a day, as that part of the lent readings itself; an empty part for a day that is not held, or a table that
 // refusal 1 turns away.
 pub fn day_part<'a>(first: u32, marks: &[u8], readings: &'a [u32], day: u32) -> &'a [u32]
     ensures { λ r. ⌜ DayPart (tableOf first (now (marks .entry)) (now (readings .entry))) day (ptr (readings .entry)) (now r) (ptr r) ⌝ }
 {
     if table::has(first, marks, readings, day) {
-        let at = 96 * ((day - first) as usize);
+        let at = table::offset(first, day);
         let end = at + 96;
         &readings[at..end]
     } else {

@@ -1,9 +1,9 @@
 // The lent table: whether refusal 1 lets it pass, which days it holds, and where their readings stand.
 ghost use mathlib.Core.Path.{_≡_};
 ghost use mathlib.Core.List.{List};
-ghost use Prim.Native.Nat.{ℕ, _+_, _≤_, _<_, min};
+ghost use Prim.Native.Nat.{ℕ, _+_, _-_, _≤_, _<_, min};
 ghost use lib.ListN.{length};
-ghost use Rattle.method.specs.Table.{isExtract, held, history};
+ghost use Rattle.method.specs.Table.{isExtract, held, history, offset};
 ghost use Rattle.baseline.specs.Answer.{tableOf};
 ghost use Rattle.baseline.specs.Directory.{directoryOf};
 ghost use Rattle.baseline.specs.Part.{hasDay};
@@ -52,10 +52,18 @@ pub fn has(first: u32, marks: &[u8], readings: &[u32], day: u32) -> bool
 }
 
 // The lesser of two numbers.
-fn least(a: usize, b: usize) -> usize
+fn least(a: u32, b: u32) -> u32
     ensures { λ r. ⌜ r ≡ min a b ⌝ }
 {
     if a < b { a } else { b }
+}
+
+// Where a day's readings start: the one function that knows where a table keeps a day.
+pub fn offset(first: u32, day: u32) -> usize
+    requires { ⌜ first ≤ day ⌝ }
+    ensures { λ r. ⌜ r ≡ offset first (day - first) ⌝ }
+{
+    96 * ((day - first) as usize)
 }
 
 // Where the event day and the days before it stand, at most 45 of them.
@@ -63,20 +71,21 @@ pub fn directory(first: u32, marks: &[u8], event: u32) -> Directory
     requires { ⌜ (first ≤ event) × (event < first + length (now marks)) × (length (now marks) ≤ 128) ⌝ }
     ensures { λ r. ⌜ ((readings : List ℕ) → r ≡ directoryOf (tableOf first (now (marks .entry)) readings) event) ⌝ }
 {
-    let back = (event - first) as usize;
-    let held = least(45, back);
+    let held = least(45, event - first);
     let mut at = [0u32; 46];
     let mut kept = [0u8; 46];
     let mut i = 0;
     while i <= held {
-        let place = back - i;
-        at[i] = (96 * place) as u32;
-        kept[i] = marks[place];
+        let day = event - i;
+        let place = i as usize;
+        let mark = (day - first) as usize;
+        at[place] = offset(first, day) as u32;
+        kept[place] = marks[mark];
         i += 1;
     }
     Directory {
         at: at,
         marks: kept,
-        held: held as u32,
+        held: held,
     }
 }

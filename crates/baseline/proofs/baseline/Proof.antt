@@ -1,0 +1,80 @@
+-- `baseline::baseline` meets its contract.
+use Prim.Native.Nat.{ℕ, _-_, _*_}
+use mathlib.Core.Path.{refl, sym, ap, _∙_}
+use native.Mathlib.Omega.{arith}
+use borrow.Author.Needs.{needs}
+use lib.ListN.{length, length-take}
+use mir.Syntax.{w64}
+use mir.ValLaws.{toZ-ofZ}
+use Rattle.calendar.specs.Holidays.{group}
+use Rattle.baseline.specs.Answer.{tableOf}
+use Rattle.baseline.proofs.Steps.{refuses, table-refused, request-refused, none-refused}
+use Rattle.baseline.proofs.baseline.Statement.{statement}
+use Rattle.baseline.proofs.baseline.Tie as tie
+
+of-table-requires : tie.Need-of-table-requires
+of-table-requires c κs = search needs
+
+enum-known-of-table : tie.Need-enum-known-of-table
+enum-known-of-table c = search needs
+
+refuse-requires : tie.Need-refuse-requires
+refuse-requires c κs = search needs
+
+enum-told : tie.Need-enum-told
+enum-told c = search needs
+
+of-request-requires : tie.Need-of-request-requires
+of-request-requires c κs = search needs
+
+enum-known-of-request : tie.Need-enum-known-of-request
+enum-known-of-request c = search needs
+
+refuse-requires-2 : tie.Need-refuse-requires-2
+refuse-requires-2 c κs = search needs
+
+enum-told-2 : tie.Need-enum-told-2
+enum-told-2 c = search needs
+
+choose-days-requires : tie.Need-choose-days-requires
+choose-days-requires c κs =
+    let a = c .before .before .before .before .before .before .before .before .before .before .args in
+    record { table = sym (c .before .before .before .before .before .before .of-table .ensures) ∙ c .before .before .before .before .enum-told .given .1; request = sym (c .before .before .before .of-request .ensures (a .readings .now)) ∙ c .before .enum-told2 .given .1 }
+
+returns : tie.Need-returns
+returns c =
+    let a = c .before .before .before .before .before .before .before .before .args in
+    refuses (a .out .now) (c .refuse .ensures) (table-refused group (tableOf (a .first) (a .marks .now) (a .readings .now)) (a .request) (length (a .out .now)) (sym (c .before .before .before .before .of-table .ensures) ∙ c .before .before .of-table2 .given .1))
+
+returns-2 : tie.Need-returns-2
+returns-2 c =
+    let a = c .before .before .before .before .before .before .before .before .before .before .before .args in
+    refuses (a .out .now) (c .refuse2 .ensures)
+    (request-refused group (tableOf (a .first) (a .marks .now) (a .readings .now)) (a .request) (length (a .out .now)) (sym (c .before .before .before .before .before .before .before .of-table .ensures) ∙ c .before .before .before .before .before .enum-told .given .1) (sym (c .before .before .before .before .of-request .ensures (a .readings .now)) ∙ c .before .before .of-request2 .given .1))
+
+same-length : tie.Need-same-length
+same-length c = search needs
+
+returns-3 : tie.Need-returns-3
+returns-3 c =
+    let a = c .before .before .before .before .before .before .before .before .before .before .before .before .before .args in
+    rw (none-refused group (tableOf (a .first) (a .marks .now) (a .readings .now)) (a .request) (length (a .out .now)) (record { table = sym (c .before .before .before .before .before .before .before .before .before .of-table .ensures) ∙ c .before .before .before .before .before .before .before .enum-told .given .1; request = sym (c .before .before .before .before .before .before .of-request .ensures (a .readings .now)) ∙ c .before .before .before .before .enum-told2 .given .1 }))
+    (c .before .before .choose-days .ensures)
+
+pub baseline-spec : {M : Type 1} → statement M
+baseline-spec =
+    tie.close
+    (tie.spec
+    of-table-requires
+    enum-known-of-table
+    refuse-requires
+    enum-told
+    of-request-requires
+    enum-known-of-request
+    refuse-requires-2
+    enum-told-2
+    choose-days-requires
+    returns
+    returns-2
+    same-length
+    returns-3)

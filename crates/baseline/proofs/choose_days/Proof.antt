@@ -1,0 +1,87 @@
+-- `baseline::choose_days` meets its contract: the choice over the directory is the choice over the table.
+use Prim.Native.Nat.{ℕ, _-_, _*_}
+use mathlib.Core.Path.{refl, sym, ap, _∙_}
+use native.Mathlib.Omega.{arith}
+use borrow.Author.Needs.{needs}
+use lib.ListN.{length, length-take}
+use mir.Syntax.{w64}
+use mir.ValLaws.{toZ-ofZ}
+use Rattle.calendar.specs.Holidays.{group}
+use Rattle.baseline.specs.Answer.{tableOf}
+use Rattle.method.specs.HighXofY.{highXofY}
+use Rattle.method.specs.Table.{history}
+use Rattle.method.specs.Verdict.{closing}
+use Rattle.baseline.proofs.Rooms.{choice-same}
+use Rattle.baseline.proofs.Choosing.{short-is, few-is, days-is, ready, reply-is}
+use Rattle.baseline.proofs.Steps.{refuses, event-inside, passed-extract, passed-holds, rooms-choice}
+use Rattle.baseline.proofs.choose_days.Statement.{statement}
+use Rattle.baseline.proofs.choose_days.Tie as tie
+
+directory-requires : tie.Need-directory-requires
+directory-requires c κs = let a = c .before .before .before .args in event-inside (tableOf (a .first) (a .marks .now) (a .readings .now)) (a .request) (length (a .out .now)) (c .before .before .before .pre)
+
+choose-requires : tie.Need-choose-requires
+choose-requires c κs = search needs
+
+enum-known-choosing : tie.Need-enum-known-choosing
+enum-known-choosing c = search needs
+
+refuse-requires : tie.Need-refuse-requires
+refuse-requires c κs = search needs
+
+enum-known-choosing-2 : tie.Need-enum-known-choosing-2
+enum-known-choosing-2 c = search needs
+
+refuse-requires-2 : tie.Need-refuse-requires-2
+refuse-requires-2 c κs = search needs
+
+enum-told : tie.Need-enum-told
+enum-told c = search needs
+
+finish-requires : tie.Need-finish-requires
+finish-requires c κs =
+    let a = c .before .before .before .before .before .before .before .before .before .args in
+    ready group (a .request) (tableOf (a .first) (a .marks .now) (a .readings .now)) (length (a .out .now)) (c .before .before .before .before .before .before .before .before .before .pre) (c .before .before .before .before .choose .result)
+    (days-is (highXofY group (a .request)) (history (tableOf (a .first) (a .marks .now) (a .readings .now)))
+    (rooms-choice group (tableOf (a .first) (a .marks .now) (a .readings .now)) (a .request) (length (a .out .now)) (c .before .before .before .before .before .before .before .before .before .pre) (c .before .before .before .before .before .directory .ensures (a .readings .now)) (c .before .before .before .before .choose .ensures)) (c .before .before .enum-told .given .1)) (passed-holds (tableOf (a .first) (a .marks .now) (a .readings .now)) (a .request) (length (a .out .now)) (c .before .before .before .before .before .before .before .before .before .pre))
+
+returns : tie.Need-returns
+unfolding closing
+returns c =
+    let a = c .before .before .before .before .before .before .before .before .before .args in
+    refuses (a .out .now) (c .refuse .ensures) (ap closing (short-is (highXofY group (a .request)) (history (tableOf (a .first) (a .marks .now) (a .readings .now)))
+    (rooms-choice group (tableOf (a .first) (a .marks .now) (a .readings .now)) (a .request) (length (a .out .now)) (c .before .before .before .before .before .before .before .before .before .pre) (c .before .before .before .before .before .directory .ensures (a .readings .now)) (c .before .before .before .before .choose .ensures)) (c .before .before .choosing .given .1)))
+
+returns-2 : tie.Need-returns-2
+unfolding closing
+returns-2 c =
+    let a = c .before .before .before .before .before .before .before .before .before .args in
+    refuses (a .out .now) (c .refuse2 .ensures) (ap closing (few-is (highXofY group (a .request)) (history (tableOf (a .first) (a .marks .now) (a .readings .now)))
+    (rooms-choice group (tableOf (a .first) (a .marks .now) (a .readings .now)) (a .request) (length (a .out .now)) (c .before .before .before .before .before .before .before .before .before .pre) (c .before .before .before .before .before .directory .ensures (a .readings .now)) (c .before .before .before .before .choose .ensures)) (c .before .before .choosing2 .given .1)))
+
+same-length : tie.Need-same-length
+same-length c = search needs
+
+returns-3 : tie.Need-returns-3
+returns-3 c =
+    let a = c .before .before .before .before .before .before .before .before .before .before .before .before .args in
+    rw (reply-is group (a .request) (tableOf (a .first) (a .marks .now) (a .readings .now)) (length (a .out .now)) (c .before .before .before .before .before .before .before .before .before .before .before .before .pre) (c .before .before .before .before .before .before .before .choose .result)
+    (days-is (highXofY group (a .request)) (history (tableOf (a .first) (a .marks .now) (a .readings .now)))
+    (rooms-choice group (tableOf (a .first) (a .marks .now) (a .readings .now)) (a .request) (length (a .out .now)) (c .before .before .before .before .before .before .before .before .before .before .before .before .pre) (c .before .before .before .before .before .before .before .before .directory .ensures (a .readings .now)) (c .before .before .before .before .before .before .before .choose .ensures)) (c .before .before .before .before .before .enum-told .given .1)) (passed-holds (tableOf (a .first) (a .marks .now) (a .readings .now)) (a .request) (length (a .out .now)) (c .before .before .before .before .before .before .before .before .before .before .before .before .pre))) at (c .before .before .finish .ensures)
+
+pub choose-days-spec : {M : Type 1} → statement M
+choose-days-spec =
+    tie.close
+    (tie.spec
+    directory-requires
+    choose-requires
+    enum-known-choosing
+    refuse-requires
+    enum-known-choosing-2
+    refuse-requires-2
+    enum-told
+    finish-requires
+    returns
+    returns-2
+    same-length
+    returns-3)
