@@ -9,7 +9,7 @@ use lib.Dec.{ltb, eqb}
 use lib.ListN.{length, take, replicate, length-take, length-map}
 use lib.Seq.{take-take, take-append-seam}
 use Rattle.lists.specs.Lists.{all, keep, member}
-use Rattle.lists.proofs.All.{both}
+use Rattle.lists.proofs.Bools.{both}
 use Rattle.lists.proofs.Keep.{member-head}
 use Rattle.calendar.specs.declared.Group.{Group}
 use Rattle.calendar.specs.declared.Group.the-variants.{Weekday, Saturday, HolidayGroup}
@@ -19,7 +19,7 @@ use Rattle.method.specs.Adjustment.{baseline}
 use Rattle.method.specs.HighXofY.{highXofY, higher, insertBy, sortBy, eligible, spare, complete, Y, N}
 use Rattle.method.specs.Method.{Method, Outcome, short, few, chose, outcome, dated, wholeReach, seen, eligibles, spares, window, chosen, reach, isShort}
 use Rattle.method.proofs.HighXofY.{lawful}
-use Rattle.method.proofs.Cut.{yesterday-held}
+use Rattle.method.proofs.Stable.{yesterday-held}
 use Rattle.method.proofs.Seen.{window-seen, seen-before}
 use Rattle.method.specs.Verdict.{closing}
 use Rattle.ranking.proofs.Sorting.{length-sorted}
@@ -219,7 +219,7 @@ module _ (group : ℕ → Group) (r : Request) (t : Table) where
     -- the day before the event is held, and the event is not on day 0
     pub day-before : held h (r .event) ≡ true → held h (r .event - 1) ≡ true
     unfolding highXofY
-    day-before holds = yesterday-held method (lawful group r) h holds enough
+    day-before holds = yesterday-held method (lawful group r) h holds enough .1
 
     pub some-before : 0 < r .event
     some-before = go (window method h) refl

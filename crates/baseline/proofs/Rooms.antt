@@ -18,7 +18,7 @@ use Rattle.method.specs.Relevant.{relevant, daysBefore}
 use Rattle.method.specs.Method.{Method, dated, wholeReach, seen, eligibles, spares, window, chosen, reach, isShort}
 use Rattle.method.specs.HighXofY.{highXofY}
 use Rattle.method.proofs.LookBack.{daysBefore-is}
-use Rattle.method.proofs.Seen.{is-held, held-first, held-last}
+use Rattle.method.proofs.Histories.{is-held, held-first, held-last}
 use Rattle.choose.specs.declared.Directory.{Directory}
 use Rattle.choose.specs.Rooms.{partAt, roomDay, heldRooms, roomHistory}
 use Rattle.choose.specs.Choice.{choiceOf}

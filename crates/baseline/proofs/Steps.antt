@@ -17,7 +17,8 @@ use mir.Val.{toZ, ofZ}
 use mir.ValLaws.{toZ-ofZ}
 use borrow.Author.Needs.{sfits-of}
 use Rattle.lists.specs.Lists.{all}
-use Rattle.lists.proofs.All.{both, all-append}
+use Rattle.lists.proofs.All.{all-append}
+use Rattle.lists.proofs.Bools.{both}
 use Rattle.calendar.specs.declared.Group.{Group}
 use Rattle.method.specs.declared.Request.{Request}
 use Rattle.method.specs.declared.Refusal.{Refusal}

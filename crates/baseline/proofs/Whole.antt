@@ -10,7 +10,8 @@ use lib.Dec.{leb, eqb}
 use lib.ListN.{length, getD, take, drop, length-take, length-drop}
 use lib.Seq.{getD-take, getD-drop}
 use Rattle.lists.specs.Lists.{all, sumOf}
-use Rattle.lists.proofs.All.{both, all-at, all-take, all-drop}
+use Rattle.lists.proofs.All.{all-at, all-take, all-drop}
+use Rattle.lists.proofs.Bools.{both}
 use Rattle.method.specs.Table.{Table, Day, present, goodReading, isExtract, held, history, offset, size, dayOf}
 use Rattle.method.specs.Adjustment.{A, B, S, places}
 use Rattle.method.specs.HighXofY.{complete}
