@@ -93,7 +93,7 @@ fn sum_windows(first: u32, readings: &[u32], days: [u32; 5], count: usize, end: 
 }
 
 // The adjustment's numerator, N·A - B, of A and the chosen days.
-pub fn adjustment(
+pub(crate) fn adjustment(
     first: u32,
     readings: &[u32],
     days: [u32; 5],
@@ -109,7 +109,7 @@ pub fn adjustment(
 }
 
 // The numerators of the quarters from `start` on, into an output of as many places.
-pub fn write(
+pub(crate) fn write(
     first: u32,
     readings: &[u32],
     days: [u32; 5],

@@ -11,7 +11,7 @@ use method::Refusal;
 use method::Request;
 
 // 1, 2 and 3: what is wrong with the table.
-pub fn of_table(first: u32, marks: &[u8], readings: &[u32]) -> Tested
+pub(crate) fn of_table(first: u32, marks: &[u8], readings: &[u32]) -> Tested
     ensures { λ r. ⌜ r ≡ tested (tableRefusals (tableOf first (now (marks .entry)) (now (readings .entry)))) ⌝ }
 {
     if table::is_extract(first, marks, readings) {
@@ -41,7 +41,7 @@ fn is_good(request: Request) -> bool
 }
 
 // 4 to 7: what is wrong with the request, for a table and so much room for the output.
-pub fn of_request(first: u32, marks: &[u8], request: Request, room: usize) -> Tested
+pub(crate) fn of_request(first: u32, marks: &[u8], request: Request, room: usize) -> Tested
     ensures { λ r. ⌜ ((readings : List ℕ) → r ≡ tested (requestRefusals (tableOf first (now (marks .entry)) readings) request room)) ⌝ }
 {
     if is_good(request) {

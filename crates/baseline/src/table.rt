@@ -13,7 +13,7 @@ use choose::Directory;
 const LAST_DAY: usize = 36524;
 
 // Whether refusal 1 lets the table pass.
-pub fn is_extract(first: u32, marks: &[u8], readings: &[u32]) -> bool
+pub(crate) fn is_extract(first: u32, marks: &[u8], readings: &[u32]) -> bool
     ensures { λ r. ⌜ r ≡ isExtract (tableOf first (now (marks .entry)) (now (readings .entry))) ⌝ }
 {
     let days = marks.len();
@@ -30,7 +30,7 @@ pub fn is_extract(first: u32, marks: &[u8], readings: &[u32]) -> bool
 }
 
 // Whether the table holds a day, whatever its readings.
-pub fn is_held(first: u32, marks: &[u8], day: u32) -> bool
+pub(crate) fn is_held(first: u32, marks: &[u8], day: u32) -> bool
     ensures { λ r. ⌜ ((readings : List ℕ) → r ≡ held (history (tableOf first (now (marks .entry)) readings)) day) ⌝ }
 {
     if first <= day {
@@ -41,7 +41,7 @@ pub fn is_held(first: u32, marks: &[u8], day: u32) -> bool
 }
 
 // Whether there are readings of a day to give.
-pub fn has(first: u32, marks: &[u8], readings: &[u32], day: u32) -> bool
+pub(crate) fn has(first: u32, marks: &[u8], readings: &[u32], day: u32) -> bool
     ensures { λ r. ⌜ r ≡ hasDay (tableOf first (now (marks .entry)) (now (readings .entry))) day ⌝ }
 {
     if is_extract(first, marks, readings) {
@@ -59,7 +59,7 @@ fn least(a: u32, b: u32) -> u32
 }
 
 // Where a day's readings start: the one function that knows where a table keeps a day.
-pub fn offset(first: u32, day: u32) -> usize
+pub(crate) fn offset(first: u32, day: u32) -> usize
     requires { ⌜ first ≤ day ⌝ }
     ensures { λ r. ⌜ r ≡ offset first (day - first) ⌝ }
 {
@@ -67,7 +67,7 @@ pub fn offset(first: u32, day: u32) -> usize
 }
 
 // Where the event day and the days before it stand, at most 45 of them.
-pub fn directory(first: u32, marks: &[u8], event: u32) -> Directory
+pub(crate) fn directory(first: u32, marks: &[u8], event: u32) -> Directory
     requires { ⌜ (first ≤ event) × (event < first + length (now marks)) × (length (now marks) ≤ 128) ⌝ }
     ensures { λ r. ⌜ ((readings : List ℕ) → r ≡ directoryOf (tableOf first (now (marks .entry)) readings) event) ⌝ }
 {

@@ -52,7 +52,7 @@ fn year_lines(year: u32) {
     }
 }
 
-pub fn groups() {
+pub(crate) fn groups() {
     io::write_all(
         STDOUT_FILENO,
         b"Groups: W weekday, S Saturday, H holiday group\n",
@@ -84,7 +84,7 @@ fn date_line(day: u32) {
     crate::line::write(line, next);
 }
 
-pub fn easters() {
+pub(crate) fn easters() {
     io::write_all(STDOUT_FILENO, b"Orthodox Easter\n");
     for year in 2000..=2099 {
         date_line(calendar::easter(year));
@@ -145,7 +145,7 @@ fn write_weekdays(monday: u32)
 }
 
 // Monday 7 January 2019 is day 6946. The table stops at Saturday 2 February, and its last cell is empty.
-pub fn table_3() {
+pub(crate) fn table_3() {
     io::write_all(STDOUT_FILENO, b"003, Table 3\n");
     write_weekdays(6946);
     for day in 6946..=6972 {
