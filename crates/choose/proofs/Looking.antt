@@ -16,7 +16,6 @@ use Rattle.method.specs.HighXofY.{complete, eligible, spare, sortBy}
 use Rattle.calendar.specs.declared.Group.{Group}
 use Rattle.ranking.specs.Words.{word, insertDown, sortDown, padded}
 use Rattle.ranking.proofs.Rank.{insert-sorts}
-use Rattle.choose.specs.declared.Judged.{Judged}
 use Rattle.choose.specs.declared.Judged.the-variants.{Eligible, Spare, Neither}
 use Rattle.choose.specs.declared.Found.{Found}
 use Rattle.choose.specs.Look.{judged, nearest, ifRelevant, eligibleOf, spareOf, rowOf, oldestOf, Looked, Further, Adds, Enough}
@@ -248,33 +247,33 @@ module _ (group : ℕ → Group) (r : Request) (day : ℕ → Day) (most held : 
         filled = omega arith;
       }
 
-  module _ {back : ℕ} {found : Found} (b : Back group r day most held back found) where
-    pub back-further : back < held → held ≤ 45 → held ≤ r .event → Further r (back + 1) found
-    back-further h m e =
-        record {
-          some = omega arith;
-          most = omega arith;
-          within = omega arith;
-          oldest = omega (arith, b .oldest);
-          count = omega (arith, b .count);
-          spares = omega (arith, b .spares);
-        }
+module _ {group : ℕ → Group} {r : Request} {day : ℕ → Day} {most held back : ℕ} {found : Found} (b : Back group r day most held back found) where
+  pub back-further : back < held → held ≤ 45 → held ≤ r .event → Further r (back + 1) found
+  back-further h m e =
+      record {
+        some = omega arith;
+        most = omega arith;
+        within = omega arith;
+        oldest = omega (arith, b .oldest);
+        count = omega (arith, b .count);
+        spares = omega (arith, b .spares);
+      }
 
-    pub back-more : {next : Found} → back < held → held ≤ r .event → (found .count ≡ most → ⊥)
-        → Adds r (back + 1) (ifRelevant group r (r .event - (back + 1), day (r .event - (back + 1)))) found next
-        → Back group r day most held (back + 1) next
-    back-more {next} h e n a =
-        record {
-          within = omega arith;
-          looked = rw (nearest-one group r day back (omega arith)) (a .then (nearest group r day back) (b .looked));
-          oldest = a .oldest;
-          count = omega (arith, a .count, b .count);
-          spares = omega (arith, a .spares, b .spares);
-          filled = omega (arith, a .count, b .filled, n);
-        }
+  pub back-more : {next : Found} → back < held → held ≤ r .event → (found .count ≡ most → ⊥)
+      → Adds r (back + 1) (ifRelevant group r (r .event - (back + 1), day (r .event - (back + 1)))) found next
+      → Back group r day most held (back + 1) next
+  back-more {next} h e n a =
+      record {
+        within = omega arith;
+        looked = rw (nearest-one group r day back (omega arith)) (a .then (nearest group r day back) (b .looked));
+        oldest = a .oldest;
+        count = omega (arith, a .count, b .count);
+        spares = omega (arith, a .spares, b .spares);
+        filled = omega (arith, a .count, b .filled, n);
+      }
 
-    pub back-full : held ≤ 45 → found .count ≡ most → Enough r most (nearest group r day held) found
-    back-full few h = let m = nearest-more group r day back held (b .within) in rw (m .1) (enough-eligible (b .looked) (omega (arith, b .spares, b .within)) h (m .0))
+  pub back-full : held ≤ 45 → found .count ≡ most → Enough r most (nearest group r day held) found
+  back-full few h = let m = nearest-more group r day back held (b .within) in rw (m .1) (enough-eligible (b .looked) (omega (arith, b .spares, b .within)) h (m .0))
 
-    pub back-end : held ≤ 45 → held ≤ back → Enough r most (nearest group r day held) found
-    back-end few h = let e : held ≡ back = omega (arith, b .within) in rw e (enough-days (b .looked) (omega (arith, b .spares, b .within)) (b .filled))
+  pub back-end : held ≤ 45 → held ≤ back → Enough r most (nearest group r day held) found
+  back-end few h = let e : held ≡ back = omega (arith, b .within) in rw e (enough-days (b .looked) (omega (arith, b .spares, b .within)) (b .filled))

@@ -1,7 +1,7 @@
 -- How far back the oldest relevant day lies: looked for from the farthest day on, and beside what a history holds.
-use Prim.Native.Nat.{ℕ, zero, suc, _+_, _-_, _≤_, _<_, min}
-use mathlib.Core.Path.{_≡_, refl, sym, ap, _∙_}
-use mathlib.Core.Bool.{Bool, true, false, cond, _||_}
+use Prim.Native.Nat.{ℕ, suc, _+_, _-_, _≤_, _<_, min}
+use mathlib.Core.Path.{_≡_, sym, ap, _∙_}
+use mathlib.Core.Bool.{true, false}
 use mathlib.Core.Logic.{⊎-elim}
 use mathlib.Core.List.{List, [], _∷_, _++_, append-nil}
 use native.Mathlib.Omega.{arith}
@@ -9,13 +9,14 @@ use lib.Dec.{ltb}
 use borrow.Author.Tests.{lt-ltb, le-ltb}
 use Rattle.lists.specs.Lists.{keep, any, member, leastOf}
 use Rattle.lists.proofs.Bools.{lt-or-le}
-use Rattle.lists.proofs.Keep.{keep-append, keep-yes, keep-no, kept-member, leastOf-top, leastOf-from}
+use Rattle.lists.proofs.Keep.{keep-append, kept-member, leastOf-top, leastOf-from}
 use Rattle.calendar.specs.declared.Group.{Group}
 use Rattle.method.specs.declared.Request.{Request}
 use Rattle.method.specs.Relevant.{daysBefore, relevant, relevantDays}
 use Rattle.method.specs.Method.{wholeReach}
 use Rattle.method.specs.HighXofY.{highXofY}
 use Rattle.method.proofs.LookBack.{daysBefore-is}
+use Rattle.ranking.proofs.Numbers.{same-test}
 use Rattle.choose.proofs.Days.{days-then, days-least, one-before}
 
 pub leastOf-snoc : (top : ℕ) (xs : List ℕ) (x : ℕ) → leastOf top (xs ++ (x ∷ [])) ≡ min (leastOf top xs) x
@@ -30,10 +31,8 @@ any-least top f [] h = sym (le-ltb top f h)
 any-least top f (x ∷ xs) h =
     ⊎-elim
     (λ (o : x < f). let l : min x (leastOf top xs) < f = omega arith in rw (lt-ltb x f o, lt-ltb (min x (leastOf top xs)) f l))
-    (λ (o : f ≤ x). rw (le-ltb x f o, any-least top f xs h) (⊎-elim
-    (λ (l : leastOf top xs < f). let k : min x (leastOf top xs) < f = omega arith in rw (lt-ltb (leastOf top xs) f l, lt-ltb (min x (leastOf top xs)) f k))
-    (λ (l : f ≤ leastOf top xs). let k : f ≤ min x (leastOf top xs) = omega arith in rw (le-ltb (leastOf top xs) f l, le-ltb (min x (leastOf top xs)) f k))
-    (lt-or-le (leastOf top xs) f)))
+    (λ (o : f ≤ x).
+    rw (le-ltb x f o, any-least top f xs h) (same-test (leastOf top xs) f (min x (leastOf top xs)) f (omega arith) (omega arith)))
     (lt-or-le x f)
 
 module _ (group : ℕ → Group) (r : Request) where
@@ -88,11 +87,9 @@ module _ (group : ℕ → Group) (r : Request) where
   pub short-of-reach : (first : ℕ) → first ≤ r .event
       → any (λ d. ltb d first) (highXofY group r .relevant) ≡ ltb (r .event - first) (wholeReach (highXofY group r))
   unfolding wholeReach highXofY
-  short-of-reach first h = any-least (r .event) first (relevantDays group r) h ∙ below (leastOf (r .event) (relevantDays group r)) (leastOf-top (r .event) (relevantDays group r))
+  short-of-reach first h =
+      let least = leastOf (r .event) (relevantDays group r) in
+      any-least (r .event) first (relevantDays group r) h ∙ below least (leastOf-top (r .event) (relevantDays group r))
     where
       below : (l : ℕ) → l ≤ r .event → ltb l first ≡ ltb (r .event - first) (r .event - l)
-      below l o =
-          ⊎-elim
-          (λ (b : l < first). let k : r .event - first < r .event - l = omega arith in rw (lt-ltb l first b, lt-ltb (r .event - first) (r .event - l) k))
-          (λ (b : first ≤ l). let k : r .event - l ≤ r .event - first = omega arith in rw (le-ltb l first b, le-ltb (r .event - first) (r .event - l) k))
-          (lt-or-le l first)
+      below l o = same-test l first (r .event - first) (r .event - l) (omega arith) (omega arith)

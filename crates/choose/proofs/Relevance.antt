@@ -1,16 +1,15 @@
 -- Which days are relevant, in the order in which the code asks.
 use Prim.Native.Nat.{ℕ, _+_, _%_, _≤_, _<_}
-use mathlib.Core.Path.{_≡_, refl, sym, _∙_}
+use mathlib.Core.Path.{_≡_, refl, sym}
 use mathlib.Core.Bool.{Bool, true, false, cond, _&&_, _||_, and-true, and-false, false≢true}
-use mathlib.Core.Logic.{⊎-elim}
 use native.Mathlib.Omega.{arith}
-use lib.Dec.{eqb, ltb}
-use borrow.Author.Tests.{le-leb, lt-leb, eq-eqb, ltb-false, eqb-false}
-use Rattle.calendar.specs.Holidays.{group, isHoliday, isSunday, isSaturday}
+use lib.Dec.{eqb}
+use borrow.Author.Tests.{le-leb, lt-leb, ltb-false, eqb-false}
+use Rattle.calendar.specs.Holidays.{group, isHoliday, isSunday}
 use Rattle.calendar.specs.declared.Group.{Group}
 use Rattle.calendar.specs.declared.Group.the-variants.{Weekday, Saturday, HolidayGroup}
 use Rattle.method.specs.declared.Request.{Request}
-use Rattle.method.specs.Relevant.{groupNumber, sameGroup, relevant}
+use Rattle.method.specs.Relevant.{sameGroup, relevant}
 use Rattle.choose.specs.Look.{mayBe}
 
 module _ (group : ℕ → Group) (r : Request) (d : ℕ) where

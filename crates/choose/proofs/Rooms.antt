@@ -1,27 +1,24 @@
 -- A directory whose rooms say of the days before an event what a history holds gives the same choice and the same outcome.
-use Prim.Native.Nat.{ℕ, _+_, _-_, _≤_, _<_, min}
-use mathlib.Core.Path.{_≡_, refl, sym, ap, _∙_}
-use mathlib.Core.Bool.{Bool, true, false, cond, _&&_}
-use mathlib.Core.List.{List, _++_, map}
-use mathlib.Core.Logic.{_⊎_, ⊎-elim}
-use mathlib.Core.Option.{Option}
+use Prim.Native.Nat.{ℕ, _-_, _≤_, _<_, min}
+use mathlib.Core.Path.{_≡_, sym, ap, _∙_}
+use mathlib.Core.Bool.{true, _&&_}
+use mathlib.Core.List.{List}
 use native.Mathlib.Omega.{arith}
-use lib.ListN.{length, take}
-use lib.Dec.{ltb, eqb}
-use borrow.Author.Tests.{lt-ltb, le-ltb}
+use lib.ListN.{length}
+use lib.Dec.{ltb}
 use Rattle.lists.specs.Lists.{keep, any, member}
-use Rattle.lists.proofs.Bools.{bool-cases, lt-or-le}
 use Rattle.lists.proofs.Keep.{kept-member, map-same}
 use Rattle.calendar.specs.declared.Group.{Group}
 use Rattle.method.specs.declared.Request.{Request}
 use Rattle.method.specs.Table.{Day, History, held}
 use Rattle.method.specs.Relevant.{daysBefore, relevant}
-use Rattle.method.specs.Method.{Method, Outcome, short, few, chose, dated, seen, eligibles, spares, window, chosen, reach, wholeReach, isShort, outcome}
+use Rattle.method.specs.Method.{Method, seen, eligibles, window, chosen, reach, wholeReach, isShort, outcome}
 use Rattle.method.specs.HighXofY.{highXofY}
 use Rattle.method.proofs.LookBack.{daysBefore-is}
-use Rattle.method.proofs.Histories.{held-first, held-last}
-use Rattle.method.proofs.Stable.{yesterday-held}
+use Rattle.method.proofs.Histories.{held-first}
+use Rattle.method.proofs.Stable.{window-of-seen, outcome-same}
 use Rattle.method.proofs.HighXofY.{lawful}
+use Rattle.ranking.proofs.Numbers.{same-test}
 use Rattle.choose.specs.declared.Directory.{Directory}
 use Rattle.choose.specs.Rooms.{heldRooms, roomDay, roomHistory}
 use Rattle.choose.specs.Choice.{choiceOf}
@@ -34,13 +31,7 @@ use Rattle.choose.proofs.WholeChoice.{seen-rooms}
 module _ {A O : Type 0} (m : Method A O) (h l : History A) (sees : seen m h ≡ seen m l)
     (begins : any (λ d. ltb d (h .first)) (m .relevant) ≡ any (λ d. ltb d (l .first)) (m .relevant)) where
   pub same-window : window m h ≡ window m l
-  unfolding window eligibles spares
-  same-window = ap of-seen sees
-    where
-      of-seen : List (ℕ × A) → List (ℕ × A)
-      of-seen s =
-          take (m .most) (keep (λ (p : ℕ × A). m .eligible (p .1)) s)
-          ++ take (m .fill - length (keep (λ (p : ℕ × A). m .eligible (p .1)) s)) (m .order (keep (λ (p : ℕ × A). m .spare (p .1)) s))
+  same-window = window-of-seen m l h sees
 
   pub same-short : isShort m h ≡ isShort m l
   unfolding isShort eligibles
@@ -57,22 +48,6 @@ module _ {A O : Type 0} (m : Method A O) (h l : History A) (sees : seen m h ≡ 
   pub same-choice : choiceOf m h ≡ choiceOf m l
   unfolding choiceOf
   same-choice = rw (same-short, same-window, same-reach, same-chosen)
-
-  pub same-outcome : (eqb (m .taken (length (window m l))) 0 ≡ false → h .day (m .event - 1) ≡ l .day (m .event - 1))
-      → h .day (m .event) ≡ l .day (m .event) → outcome m h ≡ outcome m l
-  unfolding outcome
-  same-outcome yesterday today =
-      rw (same-short, same-window, same-reach, same-chosen, today)
-      (ap (cond (isShort m l) (short (wholeReach m))) (go (eqb (m .taken (length (window m l))) 0) yesterday))
-    where
-      after : A → Outcome O
-      after y = chose (dated (chosen m l)) (reach m l) (m .finish (chosen m l) y (l .day (m .event)))
-
-      go : (t : Bool) → (t ≡ false → h .day (m .event - 1) ≡ l .day (m .event - 1))
-          → cond t (few (length (window m l)) (reach m l)) (after (h .day (m .event - 1)))
-          ≡ cond t (few (length (window m l)) (reach m l)) (after (l .day (m .event - 1)))
-      go true y = refl
-      go false y = ap after (y refl)
 
 module _ (group : ℕ → Group) (r : Request) where
   -- days that hold the same are seen alike
@@ -124,10 +99,7 @@ module _ (group : ℕ → Group) {r : Request} {rooms : Directory} {readings : L
       below : (far : ℕ) → far ≤ 45 → ltb (r .event - (r .event - min 45 (r .event - h .first))) far ≡ ltb (r .event - h .first) far
       below far o =
           let e : r .event - (r .event - min 45 (r .event - h .first)) ≡ min 45 (r .event - h .first) = omega arith in
-          rw e (⊎-elim
-          (λ (b : r .event - h .first < far). let k : min 45 (r .event - h .first) < far = omega arith in rw (lt-ltb (r .event - h .first) far b, lt-ltb (min 45 (r .event - h .first)) far k))
-          (λ (b : far ≤ r .event - h .first). let k : far ≤ min 45 (r .event - h .first) = omega arith in rw (le-ltb (r .event - h .first) far b, le-ltb (min 45 (r .event - h .first)) far k))
-          (lt-or-le (r .event - h .first) far))
+          rw e (same-test (min 45 (r .event - h .first)) far (r .event - h .first) far (omega arith) (omega arith))
 
   pub rooms-choice : choiceOf (highXofY group r) (roomHistory r rooms readings) ≡ choiceOf (highXofY group r) h
   rooms-choice = same-choice (highXofY group r) (roomHistory r rooms readings) h rooms-seen rooms-begin
@@ -135,17 +107,13 @@ module _ (group : ℕ → Group) {r : Request} {rooms : Directory} {readings : L
   pub rooms-outcome : outcome (highXofY group r) (roomHistory r rooms readings) ≡ outcome (highXofY group r) h
   unfolding highXofY
   rooms-outcome =
-      same-outcome (highXofY group r) (roomHistory r rooms readings) h rooms-seen rooms-begin yesterday today
+      outcome-same (highXofY group r) (lawful group r) h (agree .holds) (roomHistory r rooms readings)
+      (same-short (highXofY group r) (roomHistory r rooms readings) h rooms-seen rooms-begin)
+      (same-window (highXofY group r) (roomHistory r rooms readings) h rooms-seen rooms-begin)
+      (λ days some e. rw (yesterday some e, today))
     where
       today : roomHistory r rooms readings .day (r .event) ≡ h .day (r .event)
       today = let e : r .event - 0 ≡ r .event = omega arith in rw e at (same-day 0 (omega arith) (omega arith))
 
-      -- where days are chosen, the day before the event is held; it is the event day itself where that is day 0
-      yesterday : eqb (highXofY group r .taken (length (window (highXofY group r) h))) 0 ≡ false
-          → roomHistory r rooms readings .day (r .event - 1) ≡ h .day (r .event - 1)
-      yesterday t =
-          let first = held-first h (r .event - 1) (yesterday-held (highXofY group r) (lawful group r) h (agree .holds) t .1) in
-          ⊎-elim
-          (λ (o : 0 < r .event). same-day 1 (omega (arith, agree .width)) (omega arith))
-          (λ (o : r .event ≤ 0). let e : r .event - 1 ≡ r .event = omega arith in rw e today)
-          (lt-or-le 0 (r .event))
+      yesterday : 0 < r .event → held h (r .event - 1) ≡ true → roomHistory r rooms readings .day (r .event - 1) ≡ h .day (r .event - 1)
+      yesterday some e = same-day 1 (omega (arith, agree .width, held-first h (r .event - 1) e)) (omega arith)

@@ -1,15 +1,15 @@
 -- The choice: what was found gives the window, its size, its rank and the reach.
 use Prim.Native.Nat.{ℕ, _+_, _-_, _≤_, _<_, min}
 use mathlib.Core.Path.{_≡_, refl, sym, ap, _∙_}
-use mathlib.Core.Bool.{Bool, true, false, cond, _&&_}
+use mathlib.Core.Bool.{true, false}
 use mathlib.Core.Logic.{⊎-elim}
-use mathlib.Core.List.{List, [], _∷_, _++_, map}
+use mathlib.Core.List.{List, _++_, map}
 use native.Mathlib.Omega.{arith}
 use lib.ListN.{length, take, length-append, length-take}
 use lib.Seq.{take-all}
 use lib.Dec.{ltb, eqb}
 use borrow.Author.Tests.{lt-ltb, le-ltb, eq-eqb, ne-eqb}
-use Rattle.lists.specs.Lists.{all, any, keep}
+use Rattle.lists.specs.Lists.{all, keep}
 use Rattle.lists.proofs.All.{all-append, all-take}
 use Rattle.lists.proofs.Bools.{lt-or-le}
 use Rattle.calendar.specs.declared.Group.{Group}
@@ -28,10 +28,9 @@ use Rattle.ranking.proofs.Rank.{lookedBack, first-of-row, window-ranked}
 use Rattle.choose.specs.declared.Directory.{Directory}
 use Rattle.choose.specs.declared.Found.{Found}
 use Rattle.choose.specs.declared.Choosing.the-variants.{Short, Few, Days}
-use Rattle.choose.specs.declared.Choice.{Choice}
-use Rattle.choose.specs.Rooms.{heldRooms, roomDay, roomHistory}
+use Rattle.choose.specs.Rooms.{heldRooms, roomHistory}
 use Rattle.choose.specs.Choice.{choiceOf, noDays, inFive}
-use Rattle.choose.specs.Look.{nearest, roomsOf, eligibleOf, spareOf, rowOf, oldestOf, Enough, dayOf, ranked, amongFew}
+use Rattle.choose.specs.Look.{nearest, roomsOf, eligibleOf, spareOf, rowOf, Enough, dayOf, ranked, amongFew}
 use Rattle.choose.proofs.Days.{seen-nearest, nearest-back, all-keep}
 use Rattle.choose.proofs.Reaching.{short-of-reach}
 

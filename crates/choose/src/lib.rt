@@ -1,15 +1,14 @@
 // The choice of days over a directory of rooms: which days are relevant, eligible and spare, the window, the chosen days and the reach
 // (document 01, "Choosing the days"). A table, a ring and a shared store make a directory; the choice is the same function.
 ghost use mathlib.Core.Path.{_≡_};
-ghost use mathlib.Core.Bool.{Bool};
-ghost use mathlib.Core.List.{List, map};
-ghost use Prim.Native.Nat.{ℕ, _+_, _-_, _%_, _≤_, _<_, min};
+ghost use mathlib.Core.List.{map};
+ghost use Prim.Native.Nat.{_-_, _%_, _≤_, _<_, min};
 ghost use lib.ListN.{length, take};
 ghost use Rattle.calendar.specs.Holidays.{group as groupOf};
 ghost use Rattle.method.specs.Relevant.{groupNumber, relevant as isRelevant};
 ghost use Rattle.method.specs.Method.{wholeReach};
 ghost use Rattle.method.specs.HighXofY.{Y, N, eventSum, highXofY};
-ghost use Rattle.choose.specs.Rooms.{partAt, roomHistory, heldRooms};
+ghost use Rattle.choose.specs.Rooms.{partAt, roomHistory};
 ghost use Rattle.choose.specs.Choice.{choiceOf, noDays, inFive};
 ghost use Rattle.choose.specs.Look.{room, roomsOf, mayBe, judged, nearest, ifRelevant, Further, Adds, Enough, dayOf, ranked, amongFew};
 use calendar::Group;

@@ -14,7 +14,8 @@ use Rattle.lists.specs.Lists.{all, sumOf}
 use Rattle.method.specs.Table.{present, goodReading, missing}
 use Rattle.lists.proofs.Bools.{both, lt-or-le}
 
-same-test : (a b c d : ℕ) → (a < b → c < d) → (b ≤ a → d ≤ c) → ltb a b ≡ ltb c d
+-- two orders that go together are the same test
+pub same-test : (a b c d : ℕ) → (a < b → c < d) → (b ≤ a → d ≤ c) → ltb a b ≡ ltb c d
 same-test a b c d f g =
     ⊎-elim (λ h. lt-ltb a b h ∙ sym (lt-ltb c d (f h))) (λ h. le-ltb a b h ∙ sym (le-ltb c d (g h))) (lt-or-le a b)
 

@@ -35,18 +35,24 @@ first-of-requires c κs = rw (c .fill .ensures) (chosen-few (c .before .before .
 returns : tie.Need-returns
 returns c =
     let a = c .before .before .before .before .before .before .before .before .before .args in
-    let g = c .before .before .before .before .before .before .before .group-of .ensures in
+    let own = c .before .before .before .before .before .before .before .group-of .ensures in
     let held = held-is (a .request) (a .rooms) (c .before .before .before .before .before .before .lesser .ensures) (c .before .before .before .before .before .lesser2 .ensures) in
+    let found = c .before .before .before .before .look in
     c .choose-among-few .ensures
-    ∙ rw (held, g) (choose-few groupOf (a .request) (a .rooms) (a .readings .now) (c .before .before .before .before .look .result) (rw (held, g) at (c .before .before .before .before .look .ensures)) (rw (c .before .before .before .most .ensures, g) at (c .before .if1 .taken)))
+    ∙ rw (held, own)
+    (choose-few groupOf (a .request) (a .rooms) (a .readings .now) (found .result) (rw (held, own) at (found .ensures))
+    (rw (c .before .before .before .most .ensures, own) at (c .before .if1 .taken)))
 
 returns-2 : tie.Need-returns-2
 returns-2 c =
     let a = c .before .before .before .before .before .before .before .before .before .before .before .args in
-    let g = c .before .before .before .before .before .before .before .before .before .group-of .ensures in
+    let own = c .before .before .before .before .before .before .before .before .before .group-of .ensures in
     let held = held-is (a .request) (a .rooms) (c .before .before .before .before .before .before .before .before .lesser .ensures) (c .before .before .before .before .before .before .before .lesser2 .ensures) in
+    let found = c .before .before .before .before .before .before .look in
     c .first-of .ensures
-    ∙ rw (c .before .fill .ensures, g) (choose-full groupOf (a .request) (a .rooms) (a .readings .now) (c .before .before .before .before .before .before .look .result) (rw (held, g) at (c .before .before .before .before .before .before .look .ensures)) (rw (c .before .before .before .before .before .most .ensures, g) at (c .before .before .before .if1 .left)))
+    ∙ rw (c .before .fill .ensures, own)
+    (choose-full groupOf (a .request) (a .rooms) (a .readings .now) (found .result) (rw (held, own) at (found .ensures))
+    (rw (c .before .before .before .before .before .most .ensures, own) at (c .before .before .before .if1 .left)))
 
 pub choose-spec : {M : Type 1} → statement M
 choose-spec =

@@ -16,8 +16,9 @@ refused-requires c κs = search needs
 returns : tie.Need-returns
 returns c =
     let a = c .before .before .before .args in
-    c .refused .ensures ∙ short-of-days (a .request) (N (a .group)) (a .found) (a .held) (c .before .before .whole-reach .result) (c .before .if1 .taken)
-    ∙ ap (amongFew (a .request) (N (a .group)) (a .found) (a .held)) (c .before .before .whole-reach .ensures)
+    let far = c .before .before .whole-reach in
+    c .refused .ensures ∙ short-of-days (a .request) (N (a .group)) (a .found) (a .held) (far .result) (c .before .if1 .taken)
+    ∙ ap (amongFew (a .request) (N (a .group)) (a .found) (a .held)) (far .ensures)
 
 fill-requires : tie.Need-fill-requires
 fill-requires c κs = search needs
@@ -31,8 +32,10 @@ refused-requires-2 c κs = search needs
 returns-2 : tie.Need-returns-2
 returns-2 c =
     let a = c .before .before .before .before .before .before .args in
-    c .refused2 .ensures ∙ few-days (a .request) (N (a .group)) (a .found) (a .held) (c .before .before .before .before .before .whole-reach .result) (c .before .before .before .before .if1 .left) (rw (c .before .before .before .fill .ensures) at (c .before .if2 .taken))
-    ∙ ap (amongFew (a .request) (N (a .group)) (a .found) (a .held)) (c .before .before .before .before .before .whole-reach .ensures)
+    let far = c .before .before .before .before .before .whole-reach in
+    let too-few = rw (c .before .before .before .fill .ensures) at (c .before .if2 .taken) in
+    c .refused2 .ensures ∙ few-days (a .request) (N (a .group)) (a .found) (a .held) (far .result) (c .before .before .before .before .if1 .left) too-few
+    ∙ ap (amongFew (a .request) (N (a .group)) (a .found) (a .held)) (far .ensures)
 
 less-requires : tie.Need-less-requires
 less-requires c κs = search needs
@@ -49,9 +52,11 @@ first-of-requires c κs = rw (c .before .before .before .before .before .before 
 returns-3 : tie.Need-returns-3
 returns-3 c =
     let a = c .before .before .before .before .before .before .before .before .before .before .args in
-    c .first-of .ensures ∙ rw (c .before .insert-all .ensures, c .before .before .less .ensures, c .before .before .before .before .before .before .before .fill .ensures)
-    (enough-days (a .request) (N (a .group)) (a .found) (a .held) (c .before .before .before .before .before .before .before .before .before .whole-reach .result) (c .before .before .before .before .before .before .before .before .if1 .left) (rw (c .before .before .before .before .before .before .before .fill .ensures) at (c .before .before .before .before .before .if2 .left))
-    ∙ ap (amongFew (a .request) (N (a .group)) (a .found) (a .held)) (c .before .before .before .before .before .before .before .before .before .whole-reach .ensures))
+    let far = c .before .before .before .before .before .before .before .before .before .whole-reach in
+    let wanted = c .before .before .before .before .before .before .before .fill .ensures in
+    c .first-of .ensures ∙ rw (c .before .insert-all .ensures, c .before .before .less .ensures, wanted)
+    (enough-days (a .request) (N (a .group)) (a .found) (a .held) (far .result) (c .before .before .before .before .before .before .before .before .if1 .left) (rw wanted at (c .before .before .before .before .before .if2 .left))
+    ∙ ap (amongFew (a .request) (N (a .group)) (a .found) (a .held)) (far .ensures))
 
 pub choose-among-few-spec : {M : Type 1} → statement M
 choose-among-few-spec =

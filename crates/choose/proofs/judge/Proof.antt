@@ -33,20 +33,20 @@ returns-2 c =
     let s = c .before .before .before .before .before .before .before .before .before in
     let a = s .args in
     let sums = c .before .before .before .event-sum .ensures in
-    judged-as-spare (a .request) (a .back) (a .mark) (a .part .now) (s .pre .0) (s .pre .1) (s .pre .2) (sums .0) (sums .1) (c .before .before .word .ensures)
-    (sym (c .before .before .before .before .before .complete .ensures) ∙ c .before .before .before .before .if2 .taken)
-    (sym (c .before .before .before .before .before .before .before .is-out .ensures) ∙ c .before .before .before .before .before .before .if1 .left)
-    (sym (c .before .is-event .ensures) ∙ c .if3 .taken)
+    let whole = sym (c .before .before .before .before .before .complete .ensures) ∙ c .before .before .before .before .if2 .taken in
+    let on = sym (c .before .before .before .before .before .before .before .is-out .ensures) ∙ c .before .before .before .before .before .before .if1 .left in
+    judged-as-spare (a .request) (a .back) (a .mark) (a .part .now) (s .pre .0) (s .pre .1) (s .pre .2) (sums .0) (sums .1)
+    (c .before .before .word .ensures) whole on (sym (c .before .is-event .ensures) ∙ c .if3 .taken)
 
 returns-3 : tie.Need-returns-3
 returns-3 c =
     let s = c .before .before .before .before .before .before .before .before .before in
     let a = s .args in
     let sums = c .before .before .before .event-sum .ensures in
-    judged-as-eligible (a .request) (a .back) (a .mark) (a .part .now) (s .pre .0) (s .pre .1) (s .pre .2) (sums .0) (sums .1) (c .before .before .word .ensures)
-    (sym (c .before .before .before .before .before .complete .ensures) ∙ c .before .before .before .before .if2 .taken)
-    (sym (c .before .before .before .before .before .before .before .is-out .ensures) ∙ c .before .before .before .before .before .before .if1 .left)
-    (sym (c .before .is-event .ensures) ∙ c .if3 .left)
+    let whole = sym (c .before .before .before .before .before .complete .ensures) ∙ c .before .before .before .before .if2 .taken in
+    let on = sym (c .before .before .before .before .before .before .before .is-out .ensures) ∙ c .before .before .before .before .before .before .if1 .left in
+    judged-as-eligible (a .request) (a .back) (a .mark) (a .part .now) (s .pre .0) (s .pre .1) (s .pre .2) (sums .0) (sums .1)
+    (c .before .before .word .ensures) whole on (sym (c .before .is-event .ensures) ∙ c .if3 .left)
 
 returns-4 : tie.Need-returns-4
 returns-4 c =

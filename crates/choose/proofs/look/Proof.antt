@@ -23,12 +23,12 @@ most-requires c κs = search needs
 
 loop-holds : tie.Need-loop-holds Inv-loop μ-loop
 loop-holds c =
-    let a = c .before .before .args in back-start groupOf (a .request) (roomsOf (a .request) (a .t3) (a .readings .now)) (c .most .result) (a .held)
+    let a = c .before .before .args in
+    back-start groupOf (a .request) (roomsOf (a .request) (a .t3) (a .readings .now)) (c .most .result) (a .held)
 
 returns : tie.Need-returns Inv-loop μ-loop
 returns c =
-    let s = c .before .before .before .before .before .before in
-    rw (c .before .before .before .before .most .ensures) at (back-full groupOf (s .args .request) (roomsOf (s .args .request) (s .args .t3) (s .args .readings .now)) (c .before .before .before .before .most .result) (s .args .held) (c .before .before .before .loop .inv) (s .pre .1) (c .if1 .taken))
+    rw (c .before .before .before .before .most .ensures) at (back-full (c .before .before .before .loop .inv) (c .before .before .before .before .before .before .pre .1) (c .if1 .taken))
 
 add-back : tie.Need-add-back Inv-loop μ-loop
 add-back c = omega arith
@@ -51,10 +51,10 @@ element-copy-out-with-day c = omega arith
 with-day-requires : tie.Need-with-day-requires Inv-loop μ-loop
 with-day-requires c κs =
     let s = c .before .before .before .before .before .before .before .before .before in
-    let a = s .args in (
+    let l = c .before .before .before .before .before .before .loop in (
       s .pre .0,
-      back-further groupOf (a .request) (roomsOf (a .request) (a .t3) (a .readings .now)) (c .before .before .before .before .before .before .before .most .result) (a .held) (c .before .before .before .before .before .before .loop .inv) (c .before .before .before .before .before .loop-test .taken) (s .pre .1) (s .pre .2),
-      rw (c .before .part-at .ensures) (part-few (a .readings .now) (getD (a .t3 .at) (c .before .before .before .before .before .before .loop .back + 1) 0)),
+      back-further (l .inv) (c .before .before .before .before .before .loop-test .taken) (s .pre .1) (s .pre .2),
+      rw (c .before .part-at .ensures) (part-few (s .args .readings .now) (getD (s .args .t3 .at) (l .back + 1) 0)),
     )
 
 loop-less : tie.Need-loop-less Inv-loop μ-loop
@@ -64,15 +64,14 @@ loop-again : tie.Need-loop-again Inv-loop μ-loop
 loop-again c =
     let s = c .before .before .before .before .before .before .before .before .before .before in
     let a = s .args in
-    let back = c .before .before .before .before .before .before .before .loop .back in
-    let here = ap (room (getD (a .t3 .marks) (back + 1) 0)) (c .before .before .part-at .ensures) ∙ room-back (a .request) (a .t3) (a .readings .now) (back + 1) (omega arith) in
-    back-more groupOf (a .request) (roomsOf (a .request) (a .t3) (a .readings .now)) (c .before .before .before .before .before .before .before .before .most .result) (a .held) (c .before .before .before .before .before .before .before .loop .inv) (c .before .before .before .before .before .before .loop-test .taken) (s .pre .2) (c .before .before .before .before .if1 .left)
-    (rw here at (c .with-day .ensures))
+    let l = c .before .before .before .before .before .before .before .loop in
+    let part = ap (room (getD (a .t3 .marks) (l .back + 1) 0)) (c .before .before .part-at .ensures) in
+    let here = room-back (a .request) (a .t3) (a .readings .now) (l .back + 1) (omega arith) in
+    back-more (l .inv) (c .before .before .before .before .before .before .loop-test .taken) (s .pre .2) (c .before .before .before .before .if1 .left) (rw (part ∙ here) at (c .with-day .ensures))
 
 returns-2 : tie.Need-returns-2 Inv-loop μ-loop
 returns-2 c =
-    let s = c .before .before .before .before in
-    rw (c .before .before .most .ensures) at (back-end groupOf (s .args .request) (roomsOf (s .args .request) (s .args .t3) (s .args .readings .now)) (c .before .before .most .result) (s .args .held) (c .before .loop .inv) (s .pre .1) (c .loop-test .left))
+    rw (c .before .before .most .ensures) at (back-end (c .before .loop .inv) (c .before .before .before .before .pre .1) (c .loop-test .left))
 
 pub look-spec : {M : Type 1} → statement M
 look-spec =
