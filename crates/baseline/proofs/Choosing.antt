@@ -1,10 +1,10 @@
 -- What the choice of days says: the outcome it stands for, and of chosen days that they are whole days of the table, N of them.
-use Prim.Native.Nat.{ℕ, zero, suc, _-_, _≤_, _<_, min}
+use Prim.Native.Nat.{ℕ, zero, suc, _-_, _≤_, _<_}
 use mathlib.Core.Path.{_≡_, refl, sym, ap, ap₂, _∙_}
 use mathlib.Core.Bool.{Bool, true, false, cond, not, _&&_, true≢false}
 use mathlib.Core.List.{List, [], _∷_, _++_, map}
 use native.Mathlib.Omega.{arith}
-use borrow.Author.Tests.{ltb-false, ltb-true, eqb-false}
+use borrow.Author.Tests.{ltb-false}
 use lib.Dec.{ltb, eqb}
 use lib.ListN.{length, take, replicate, length-take, length-map}
 use lib.Seq.{take-take, take-append-seam}
@@ -16,8 +16,9 @@ use Rattle.calendar.specs.declared.Group.the-variants.{Weekday, Saturday, Holid
 use Rattle.method.specs.declared.Request.{Request}
 use Rattle.method.specs.Table.{Table, Day, History, dayOf, held, history, eventBit, outageBit}
 use Rattle.method.specs.Adjustment.{baseline}
-use Rattle.method.specs.HighXofY.{highXofY, higher, insertBy, sortBy, eligible, spare, complete, Y, N}
-use Rattle.method.specs.Method.{Method, Outcome, short, few, chose, outcome, dated, wholeReach, seen, eligibles, spares, window, chosen, reach, isShort}
+use Rattle.method.specs.HighXofY.{highXofY, higher, insertBy, sortBy, eligible, spare, complete, N}
+use Rattle.method.specs.Method.{Method, Outcome, short, few, chose, outcome, dated, wholeReach, seen, eligibles, spares, window, chosen}
+use Rattle.method.specs.Method.{reach, isShort}
 use Rattle.method.proofs.HighXofY.{lawful}
 use Rattle.method.proofs.Stable.{yesterday-held}
 use Rattle.method.proofs.Seen.{window-seen, seen-before}
@@ -38,7 +39,8 @@ module _ {A O : Type 0} (m : Method A O) (h : History A) where
 
   abbrev choice : Bool → Bool → Choice
   choice s f =
-      cond s (noDays (Short (wholeReach m))) (cond f (noDays (Few (length (window m h)) (reach m h))) (record { choosing = Days; chosen = picked }))
+      cond s (noDays (Short (wholeReach m))) (cond f (noDays (Few (length (window m h)) (reach m h)))
+      (record { choosing = Days; chosen = picked }))
 
   abbrev ending : Outcome O
   ending = chose (dated (chosen m h)) (reach m h) (m .finish (chosen m h) (h .day (m .event - 1)) (h .day (m .event)))
@@ -76,7 +78,8 @@ module _ {A O : Type 0} (m : Method A O) (h : History A) where
     days-is k = go (isShort m h) (eqb (m .taken (length (window m h))) 0) refl refl
       where
         go : (s f : Bool) → isShort m h ≡ s → eqb (m .taken (length (window m h))) 0 ≡ f → Chose c
-        go true f x y = absurd (let z : _≡_ {A = ℕ} 0 1 = cc (k, e, ap (λ s. choice s (eqb (m .taken (length (window m h))) 0) .choosing) x) in omega arith)
+        go true f x y = absurd (let z : _≡_ {A = ℕ} 0 1 = cc (k, e, ap (λ s. choice s (eqb (m .taken (length (window m h))) 0) .choosing) x)
+            in omega arith)
         go false true x y = absurd (let z : _≡_ {A = ℕ} 0 1 = cc (k, e, ap₂ (λ s f. choice s f .choosing) x y) in omega arith)
         go false false x y =
             record {
@@ -115,7 +118,8 @@ module _ {A : Type 0} (P : A → Type 0) where
     every-sorted [] e = tt
     every-sorted (x ∷ xs) e = every-insert x (sortBy before xs) (e .0) (every-sorted xs (e .1))
 
-every-keep : {A : Type 0} (P Q : A → Type 0) (q : A → Bool) → ((x : A) → P x → q x ≡ true → Q x) → (xs : List A) → Every P xs → Every Q (keep q xs)
+every-keep : {A : Type 0} (P Q : A → Type 0) (q : A → Bool) → ((x : A) → P x → q x ≡ true → Q x) → (xs : List A) → Every P xs
+    → Every Q (keep q xs)
 unfolding keep
 every-keep P Q q f [] e = tt
 every-keep P Q q f (x ∷ xs) e = go (q x) refl (every-keep P Q q f xs (e .1))
@@ -168,14 +172,16 @@ module _ (group : ℕ → Group) (r : Request) (t : Table) where
   unfolding eligibles highXofY
   eligibles-whole =
       every-keep Known Whole (λ (p : ℕ × Day). eligible (p .1))
-      (whole-of eligible (λ d e. complete-first (complete d) (not (eventBit (d .mark))) (not (outageBit (d .mark))) (unfold eligible in e))) (seen method h) seen-known
+      (whole-of eligible (λ d e. complete-first (complete d) (not (eventBit (d .mark))) (not (outageBit (d .mark))) (unfold eligible in e)))
+      (seen method h) seen-known
 
   spares-whole : Every Whole (spares method h)
   unfolding spares highXofY
   spares-whole =
       every-sorted Whole (higher r) (keep (λ (p : ℕ × Day). spare (p .1)) (seen method h))
       (every-keep Known Whole (λ (p : ℕ × Day). spare (p .1))
-      (whole-of spare (λ d e. complete-first (complete d) (eventBit (d .mark)) (not (outageBit (d .mark))) (unfold spare in e))) (seen method h) seen-known)
+      (whole-of spare (λ d e. complete-first (complete d) (eventBit (d .mark)) (not (outageBit (d .mark))) (unfold spare in e)))
+      (seen method h) seen-known)
 
   window-whole : Every Whole (window method h)
   unfolding window
@@ -266,7 +272,8 @@ module _ (group : ℕ → Group) (r : Request) (t : Table) (room : ℕ) (passes 
   pub reply-is : replyOf t r (c .chosen) ≡ closing (outcome (highXofY group r) (history t))
   unfolding highXofY
   reply-is =
-      ap closing ((λ i. chose (listed i) (reaches i) (baseline r (counted i) (same i) (dayOf t (r .event - 1)) (dayOf t (r .event)))) ∙ sym (x .outcome))
+      ap closing ((λ i. chose (listed i) (reaches i) (baseline r (counted i) (same i) (dayOf t (r .event - 1)) (dayOf t (r .event)))) ∙
+      sym (x .outcome))
     where
       reaches : c .chosen .reach ≡ reach (highXofY group r) (history t)
       reaches = ap (λ (k : Chosen). k .reach) (x .chosen)

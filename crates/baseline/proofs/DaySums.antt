@@ -1,9 +1,8 @@
 -- Sums over chosen days that are taken one after the other: of quarters, and of the adjustment window.
-use Prim.Native.Nat.{ℕ, zero, suc, _+_, _-_, _*_, _%_, _^_, _≤_, _<_}
-use mathlib.Core.Path.{_≡_, refl, sym, ap, ap₂, _∙_}
+use Prim.Native.Nat.{ℕ, zero, suc, _+_, _-_, _%_, _^_, _≤_, _<_}
+use mathlib.Core.Path.{_≡_, ap, _∙_}
 use mathlib.Core.List.{List, [], _∷_, _++_, map}
 use native.Mathlib.Numerals.{add-one}
-use native.Mathlib.Nat.{add-assoc}
 use native.Mathlib.Omega.{arith}
 use lib.ListN.{length, getD, take, drop}
 use lib.Seq.{getD-take, getD-drop}
@@ -15,7 +14,8 @@ use Rattle.baseline.specs.Sums.{quarterSum, twelveSums, numeratorsOf, Wi
 use Rattle.baseline.proofs.Places.{length-over, at-place, over-same}
 
 -- one day more
-sum-more : (f : ℕ → ℕ) (days : List ℕ) (k : ℕ) → k < length days → sumOf (map f (take (suc k) days)) ≡ sumOf (map f (take k days)) + f (getD days k 0)
+sum-more : (f : ℕ → ℕ) (days : List ℕ) (k : ℕ) → k < length days
+    → sumOf (map f (take (suc k) days)) ≡ sumOf (map f (take k days)) + f (getD days k 0)
 unfolding sumOf
 sum-more f [] k h = absurd (omega arith)
 sum-more f (d ∷ ds) zero h = omega arith
@@ -38,7 +38,12 @@ module _ (first : ℕ) (readings days : List ℕ) (count start n : ℕ) where
         → next ≡ map (λ q. (getD sums q 0 + getD part q 0) % 2 ^ 32) (places (length sums) 0) → Added next (k + 1)
     unfolding quarterSum
     added-next at {next} {part} x h e p f =
-        record { within = omega arith; size = ap length f ∙ length-over (λ q. (getD sums q 0 + getD part q 0) % 2 ^ 32) (length sums) 0 ∙ w .size; done = f ∙ rw (w .size) (over-same _ _ n 0 each) }
+        record {
+          within = omega arith;
+          size = ap length f ∙ length-over (λ q. (getD sums q 0 + getD part q 0) % 2 ^ 32) (length sums) 0 ∙
+              w .size;
+          done = f ∙ rw (w .size) (over-same _ _ n 0 each);
+        }
       where
         reading : (q : ℕ) → q < n → getD part q 0 ≡ getD readings (offset first (getD days k 0 - first) + (start + q)) 0
         reading q b =
@@ -47,12 +52,14 @@ module _ (first : ℕ) (readings days : List ℕ) (count start n : ℕ) where
             rw (p, l, getD-take, getD-drop, s)
 
         each : (q : ℕ) → 0 ≤ q → q < 0 + n
-            → (getD sums q 0 + getD part q 0) % 2 ^ 32 ≡ sumOf (map (λ d. getD readings (offset first (d - first) + (start + q)) 0) (take (k + 1) days)) % 2 ^ 32
+            → (getD sums q 0 + getD part q 0) % 2 ^ 32 ≡ sumOf
+            (map (λ d. getD readings (offset first (d - first) + (start + q)) 0) (take (k + 1) days)) % 2 ^ 32
         each q a b =
             let i : q < n = omega arith in
             let z : 0 + q ≡ q = omega arith in
             let m = sum-more (λ d. getD readings (offset first (d - first) + (start + q)) 0) days k (omega (arith, x .five, x .most)) in
-            let here = ap (λ l. getD l q 0) (w .done) ∙ at-place (λ q. quarterSum first readings (take k days) (start + q) % 2 ^ 32) 0 n 0 q i in
+            let here = ap (λ l. getD l q 0) (w .done) ∙ at-place
+            (λ q. quarterSum first readings (take k days) (start + q) % 2 ^ 32) 0 n 0 q i in
             rw (add-one k) (omega (arith, m, reading q i, rw z at here))
 
     pub added-end : count ≤ k → sums ≡ map (λ q. quarterSum first readings (take count days) (start + q) % 2 ^ 32) (places n 0)
@@ -67,11 +74,13 @@ module _ (first : ℕ) (readings days : List ℕ) (end : ℕ) where
   unfolding twelveSums
   windows-next total k x at h e o f =
       let l : at + 96 - at ≡ 96 = omega arith in
-      let m = sum-more (λ d. A (take 96 (drop (offset first (d - first)) readings) ++ take 96 (drop (offset first (d - first)) readings)) end) days k h in
+      let m = sum-more (λ d. A (take 96 (drop (offset first (d - first)) readings) ++ take 96 (drop (offset first (d - first)) readings))
+      end) days k h in
       rw (add-one k) (omega (arith, m, rw (l, o) at f))
 
 -- the numerators of exact sums
-module _ {first : ℕ} {readings days : List ℕ} {count start n : ℕ} {adj : ℤ} (w : Writable first readings days count start adj n) {sums : List ℕ}
+module _ {first : ℕ} {readings days : List ℕ} {count start n : ℕ} {adj : ℤ}
+    (w : Writable first readings days count start adj n) {sums : List ℕ}
     (e : sums ≡ map (λ q. quarterSum first readings (take count days) (start + q) % 2 ^ 32) (places n 0)) where
   write-size : length sums ≡ n
   write-size = ap length e ∙ length-over (λ q. quarterSum first readings (take count days) (start + q) % 2 ^ 32) n 0
@@ -79,7 +88,8 @@ module _ {first : ℕ} {readings days : List ℕ} {count start n : ℕ} {adj : �
   write-at : (q : ℕ) → q < n → getD sums q 0 ≡ quarterSum first readings (take count days) (start + q)
   write-at q h =
       let z : 0 + q ≡ q = omega arith in
-      ap (λ l. getD l q 0) e ∙ at-place (λ q. quarterSum first readings (take count days) (start + q) % 2 ^ 32) 0 n 0 q h ∙ rw z (omega (arith, w .sums q h))
+      ap (λ l. getD l q 0) e ∙ at-place (λ q. quarterSum first readings (take count days) (start + q) % 2 ^ 32) 0 n 0 q h ∙
+      rw z (omega (arith, w .sums q h))
 
   pub write-fits : (q : ℕ) → q < length sums → floored (unfloored (getD sums q 0) adj) < 2 ^ 32
   write-fits q h = let b : q < n = omega (arith, write-size) in rw (write-at q b) (w .numerators q b)
@@ -89,5 +99,6 @@ module _ {first : ℕ} {readings days : List ℕ} {count start n : ℕ} {adj : �
   unfolding numeratorsOf
   write-is f =
       f ∙ rw write-size
-      (over-same (λ q. floored (unfloored (getD sums q 0) adj)) (λ q. floored (unfloored (quarterSum first readings (take count days) (start + q)) adj)) n 0
+      (over-same (λ q. floored (unfloored (getD sums q 0) adj))
+      (λ q. floored (unfloored (quarterSum first readings (take count days) (start + q)) adj)) n 0
       (λ q a b. let k : q < n = omega arith in rw (write-at q k)))

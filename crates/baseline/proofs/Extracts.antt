@@ -1,7 +1,7 @@
 -- What the tests of a lent table say: one law for each way out of the code.
 use Prim.Native.Nat.{ℕ, _+_, _-_, _*_, _≤_, _<_}
-use mathlib.Core.Path.{_≡_, refl, sym, ap, _∙_}
-use mathlib.Core.Bool.{Bool, true, false, not, _&&_, and-false}
+use mathlib.Core.Path.{_≡_, sym, _∙_}
+use mathlib.Core.Bool.{Bool, true, false, not, _&&_}
 use mathlib.Core.List.{List, []}
 use mathlib.Core.Logic.{⊎-elim}
 use native.Mathlib.Omega.{arith}
@@ -32,13 +32,25 @@ empty t h e = rw (le-leb (heldDays t) 128 h, e)
 pub unmatched : (t : Table) → heldDays t ≤ 128 → (heldDays t ≡ 0 → ⊥) → (length (t .readings) ≡ 96 * heldDays t → ⊥) → false ≡ isExtract t
 unfolding isExtract shaped
 unmatched t h n e =
-    rw (le-leb (heldDays t) 128 h, ne-eqb (heldDays t) 0 n, offset-is (t .first) (heldDays t), ne-eqb (length (t .readings)) (96 * heldDays t) e)
+    rw (
+      le-leb (heldDays t) 128 h,
+      ne-eqb (heldDays t) 0 n,
+      offset-is (t .first) (heldDays t),
+      ne-eqb (length (t .readings))
+          (96 * heldDays t) e,
+    )
 
 pub matched : (t : Table) → heldDays t ≤ 128 → (heldDays t ≡ 0 → ⊥) → length (t .readings) ≡ 96 * heldDays t
     → leb (t .first + heldDays t - 1) lastDay ≡ isExtract t
 unfolding isExtract shaped
 matched t h n e =
-    rw (le-leb (heldDays t) 128 h, ne-eqb (heldDays t) 0 n, offset-is (t .first) (heldDays t), eq-eqb (length (t .readings)) (96 * heldDays t) e)
+    rw (
+      le-leb (heldDays t) 128 h,
+      ne-eqb (heldDays t) 0 n,
+      offset-is (t .first) (heldDays t),
+      eq-eqb (length (t .readings))
+          (96 * heldDays t) e,
+    )
 
 pub extract-is : (t : Table) → isExtract t ≡ true → Extract t
 unfolding isExtract shaped
@@ -46,7 +58,8 @@ extract-is t e =
     record {
       days = omega (arith, eqb-false (heldDays t) 0 (not-true (eqb (heldDays t) 0) (and-left some sized both)));
       most = leb-true (heldDays t) 128 (and-left (leb (heldDays t) 128) (shaped t) e);
-      sized = eqb-true (length (t .readings)) (offset (t .first) (heldDays t)) (and-right some sized both) ∙ offset-is (t .first) (heldDays t);
+      sized = eqb-true (length (t .readings)) (offset (t .first) (heldDays t)) (and-right some sized both) ∙
+          offset-is (t .first) (heldDays t);
       last = leb-true (t .first + heldDays t - 1) lastDay (and-right (some && sized) inside shape);
     }
   where
@@ -76,7 +89,8 @@ ltb-same a b c d f g =
 module _ (t : Table) (day : ℕ) where
   pub within : t .first ≤ day → ltb (day - t .first) (heldDays t) ≡ held (history t) day
   unfolding held
-  within h = rw (le-leb (t .first) day h) (ltb-same (day - t .first) (heldDays t) day (t .first + heldDays t) (λ l. omega arith) (λ l. omega arith))
+  within h = rw (le-leb (t .first) day h) (ltb-same (day - t .first) (heldDays t) day (t .first + heldDays t) (λ l. omega arith)
+      (λ l. omega arith))
 
   pub before : day < t .first → false ≡ held (history t) day
   unfolding held

@@ -1,12 +1,12 @@
 -- The first refusal: what the tests in code's form say of `tested`, and what `tested` says of the reply.
 use Prim.Native.Nat.{ℕ, _-_, _≤_, _<_}
-use mathlib.Core.Path.{_≡_, refl, sym, ap, _∙_}
-use mathlib.Core.Bool.{Bool, true, false, cond, not, _&&_, false≢true}
+use mathlib.Core.Path.{_≡_, refl, _∙_}
+use mathlib.Core.Bool.{Bool, true, false, cond, _&&_}
 use mathlib.Core.List.{List, [], _∷_, _++_}
 use native.Mathlib.Omega.{arith}
 use native.Mathlib.Numerals.{add-one}
-use borrow.Author.Tests.{leb-true, ltb-true, ltb-false, lt-ltb, le-ltb, eq-eqb, ne-eqb, not-false, not-true}
-use lib.Dec.{leb, ltb, eqb}
+use borrow.Author.Tests.{leb-true, ltb-true, ltb-false, lt-ltb, le-ltb, eq-eqb, ne-eqb, not-false}
+use lib.Dec.{leb, ltb}
 use lib.ListN.{length}
 use Rattle.lists.specs.Lists.{all, leading}
 use Rattle.lists.proofs.Bools.{both}
@@ -16,7 +16,6 @@ use Rattle.method.specs.declared.Refusal.{Refusal}
 use Rattle.method.specs.declared.Refusal.the-variants.{BadTable, BadMark, BadReading, BadRequest, NotHeld, NotYetParticipating, NoRoom}
 use Rattle.method.specs.Table.{Table, goodMark, goodReading, isExtract, held, history}
 use Rattle.method.specs.Verdict.{Reply, refused, firstOf, tableRefusals, requestRefusals, goodRequest}
-use Rattle.baseline.specs.declared.Tested.{Tested}
 use Rattle.baseline.specs.declared.Tested.the-variants.{Passed, Failed}
 use Rattle.baseline.specs.Tests.{tested}
 
@@ -60,7 +59,12 @@ module _ (t : Table) where
       let a = passed-next _ _ _ e in
       let b = passed-next _ _ _ (a .1) in
       let c = passed-next _ _ _ (b .1) in
-      record { extract = not-false (isExtract t) (a .0); marks = not-false (all goodMark (t .marks)) (b .0); readings = not-false (all goodReading (t .readings)) (c .0) }
+      record {
+        extract = not-false (isExtract t) (a .0);
+        marks = not-false (all goodMark (t .marks)) (b .0);
+        readings = not-false
+            (all goodReading (t .readings)) (c .0);
+      }
 
   -- the ways out of the code
   pub bad-table : isExtract t ≡ false → Failed BadTable ≡ tested (tableRefusals t)
@@ -74,11 +78,19 @@ module _ (t : Table) where
 
     module _ (good : length (t .marks) ≤ m) {k : ℕ} (place : k ≡ leading goodReading (t .readings)) where
       marks-good : all goodMark (t .marks) ≡ true
-      marks-good = all-leading goodMark (t .marks) ∙ eq-eqb (leading goodMark (t .marks)) (length (t .marks)) (omega (arith, leading-most goodMark (t .marks)))
+      marks-good = all-leading goodMark (t .marks) ∙ eq-eqb (leading goodMark (t .marks)) (length (t .marks))
+          (omega (arith, leading-most goodMark (t .marks)))
 
       pub bad-reading : k < length (t .readings) → Failed (BadReading k) ≡ tested (tableRefusals t)
       unfolding tableRefusals tested
-      bad-reading h = rw (extract, marks-good, all-leading goodReading (t .readings), ← place, ne-eqb k (length (t .readings)) (λ e. omega arith))
+      bad-reading h = rw (
+        extract,
+        marks-good,
+        all-leading goodReading (t .readings),
+        ← place,
+        ne-eqb k (length (t .readings))
+            (λ e. omega arith),
+      )
 
       pub good-table : length (t .readings) ≤ k → Passed ≡ tested (tableRefusals t)
       unfolding tableRefusals tested
@@ -91,7 +103,8 @@ module _ (t : Table) where
           )
 
 -- the tests of refusal 4, in code's form
-pub good-is : (r : Request) → ((((leb (r .participation) 36524 && (leb 96 (r .s) && leb (r .s) 191)) && (ltb (r .s) (r .e) && leb (r .e) 192)) && leb (r .n) (r .s))) ≡ goodRequest r
+pub good-is : (r : Request) → ((((leb (r .participation) 36524 && (leb 96 (r .s) && leb (r .s) 191)) &&
+    (ltb (r .s) (r .e) && leb (r .e) 192)) && leb (r .n) (r .s))) ≡ goodRequest r
 unfolding goodRequest
 good-is r = rw (add-one (r .s))
 

@@ -7,3 +7,4 @@ pub mod DaySums
 pub mod Whole
 pub mod Choosing
 pub mod Steps
+pub mod Laws

@@ -1,10 +1,10 @@
 -- Lists over places, `map f (places n t)`: their elements, and a buffer that a loop fills from the front.
 use Prim.Native.Nat.{ℕ, zero, suc, _+_, _≤_, _<_}
-use mathlib.Core.Path.{_≡_, refl, ap, sym, _∙_, fun-ext}
-use mathlib.Core.Bool.{Bool, true, false, cond}
+use mathlib.Core.Path.{_≡_, refl, ap, sym, _∙_}
+use mathlib.Core.Bool.{true, false, cond}
 use mathlib.Core.List.{List, [], _∷_, _++_, map, append-nil}
-use mathlib.Core.Logic.{_⊎_, ⊎-elim}
-use native.Mathlib.Nat.{add-zero, add-suc, suc-add}
+use mathlib.Core.Logic.{⊎-elim}
+use native.Mathlib.Nat.{add-zero, add-suc}
 use native.Mathlib.Numerals.{add-one}
 use native.Mathlib.Omega.{arith}
 use borrow.Author.Tests.{lt-ltb, le-ltb, le-leb, lt-leb, eqb-true, eqb-false}
@@ -50,7 +50,8 @@ module _ (f : ℕ → ℕ) (n : ℕ) where
 
   -- the next place is filled
   pub filled-more : (i v : ℕ) → i < n → v ≡ f i → set (filled f n i) i v ≡ filled f n (i + 1)
-  filled-more i v h e = ext-getD 0 (set (filled f n i) i v) (filled f n (i + 1)) (length-set (filled f n i) i v ∙ length-filled i ∙ sym (length-filled (i + 1))) at
+  filled-more i v h e = ext-getD 0 (set (filled f n i) i v) (filled f n (i + 1))
+      (length-set (filled f n i) i v ∙ length-filled i ∙ sym (length-filled (i + 1))) at
     where
       at : (k : ℕ) → k < length (set (filled f n i) i v) → getD (set (filled f n i) i v) k 0 ≡ getD (filled f n (i + 1)) k 0
       at k b = ⊎-elim here there (bool-cases (eqb k i))
@@ -117,7 +118,15 @@ module _ (f : ℕ → ℕ) (l : List ℕ) where
   unfolding stored
   stored-more i v h e =
       let z : 0 + i ≡ i = omega arith in
-      rw (drop-cons l i 0 h, set-at (map f (places i 0)) (getD l i 0) (drop (suc i) l) v i (length-over f i 0), add-one i, over-snoc f i 0, z, e)
+      rw (
+        drop-cons l i 0 h,
+        set-at (map f (places i 0)) (getD l i 0) (drop (suc i) l) v i
+            (length-over f i 0),
+        add-one i,
+        over-snoc f i 0,
+        z,
+        e,
+      )
       (sym (append-snoc (map f (places i 0)) (f i) (drop (suc i) l)))
 
   stored-all : (i : ℕ) → i ≡ length l → stored f l i ≡ map f (places (length l) 0)

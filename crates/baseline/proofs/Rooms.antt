@@ -1,7 +1,7 @@
 -- The directory of a table: what the filled rows are, that a room says of a day what the table holds of it, and that the choice of days over
 -- the directory is the choice over the table.
 use Prim.Native.Nat.{ℕ, _+_, _-_, _≤_, _<_, min}
-use mathlib.Core.Path.{_≡_, refl, sym, ap, ap₂, _∙_}
+use mathlib.Core.Path.{_≡_, sym, ap, ap₂, _∙_}
 use mathlib.Core.Bool.{true, cond, _&&_}
 use mathlib.Core.List.{List, _++_, map}
 use native.Mathlib.Omega.{arith}
@@ -31,7 +31,8 @@ use Rattle.baseline.proofs.Extracts.{has-day, has-inside, ltb-same}
 use Rattle.baseline.proofs.Places.{filled, filled-to, at-place}
 
 -- the two rows filled as far as days are held
-pub directory-is : (first : ℕ) (marks readings : List ℕ) (event held i : ℕ) {at kept : List ℕ} → held ≡ min 45 (event - first) → i ≡ held + 1
+pub directory-is : (first : ℕ) (marks readings : List ℕ) (event held i : ℕ) {at kept : List ℕ} → held ≡ min 45 (event - first)
+    → i ≡ held + 1
     → at ≡ filled (λ j. offset first (event - j - first)) 46 i → kept ≡ filled (λ j. getD marks (event - j - first) 0) 46 i
     → _≡_ {A = Directory} (record { at = at; marks = kept; held = held }) (directoryOf (tableOf first marks readings) event)
 unfolding directoryOf
@@ -106,19 +107,23 @@ module _ (t : Table) (r : Request) (extract : isExtract t ≡ true) (holds : hel
       place : (f : ℕ → ℕ) → getD (map (λ i. cond (leb i back) (f i) 0) (places 46 0)) i 0 ≡ f i
       place f = at-place (λ i. cond (leb i back) (f i) 0) 0 46 0 i few ∙ rw (zero-i, le-leb i back k)
 
-      mark : getD (map (λ i. cond (leb i back) (getD (t .marks) (r .event - i - t .first) 0) 0) (places 46 0)) i 0 ≡ getD (t .marks) (d - t .first) 0
+      mark : getD (map (λ i. cond (leb i back) (getD (t .marks) (r .event - i - t .first) 0) 0) (places 46 0)) i 0 ≡ getD (t .marks)
+          (d - t .first) 0
       mark = place (λ i. getD (t .marks) (r .event - i - t .first) 0) ∙ ap (λ n. getD (t .marks) (n - t .first) 0) same
 
       inside : offset (t .first) (d - t .first) + 96 ≤ length (t .readings)
-      inside = has-inside t d (sym (has-day t d extract) ∙ is-held (history t) d (omega (arith, held-first (history t) (r .event) holds)) (omega (arith, held-last (history t) (r .event) holds))) .2
+      inside = has-inside t d (sym (has-day t d extract) ∙ is-held (history t) d (omega (arith, held-first (history t) (r .event) holds))
+          (omega (arith, held-last (history t) (r .event) holds))) .2
 
-      start : getD (map (λ i. cond (leb i back) (offset (t .first) (r .event - i - t .first)) 0) (places 46 0)) i 0 ≡ offset (t .first) (d - t .first)
+      start : getD (map (λ i. cond (leb i back) (offset (t .first) (r .event - i - t .first)) 0) (places 46 0)) i 0 ≡ offset (t .first)
+          (d - t .first)
       start = place (λ i. offset (t .first) (r .event - i - t .first)) ∙ ap (λ n. offset (t .first) (n - t .first)) same
 
       part : partAt (t .readings) (offset (t .first) (d - t .first)) ≡ take 96 (drop (offset (t .first) (d - t .first)) (t .readings))
       part = unfold partAt in rw (le-leb (offset (t .first) (d - t .first) + 96) (length (t .readings)) inside)
 
-      readings : partAt (t .readings) (getD (map (λ i. cond (leb i back) (offset (t .first) (r .event - i - t .first)) 0) (places 46 0)) i 0) ≡ take 96 (drop (offset (t .first) (d - t .first)) (t .readings))
+      readings : partAt (t .readings) (getD (map (λ i. cond (leb i back) (offset (t .first) (r .event - i - t .first)) 0) (places 46 0)) i
+          0) ≡ take 96 (drop (offset (t .first) (d - t .first)) (t .readings))
       readings = ap (partAt (t .readings)) start ∙ part
 
   module _ (group : ℕ → Group) where
@@ -135,9 +140,11 @@ module _ (t : Table) (r : Request) (extract : isExtract t ≡ true) (holds : hel
 
     nearest-same : nearest group r (lent .day) back ≡ nearest group r (dayOf t) back
     unfolding nearest roomHistory
-    nearest-same = map-same {B = ℕ × Day} (λ d. (d, lent .day d)) (λ d. (d, dayOf t d)) (keep (relevant group r) (daysBefore back (r .event))) each
+    nearest-same = map-same {B = ℕ × Day} (λ d. (d, lent .day d)) (λ d. (d, dayOf t d))
+        (keep (relevant group r) (daysBefore back (r .event))) each
       where
-        each : (d : ℕ) → member d (keep (relevant group r) (daysBefore back (r .event))) ≡ true → _≡_ {A = ℕ × Day} (d, roomDay rooms (t .readings) (r .event - d)) (d, dayOf t d)
+        each : (d : ℕ) → member d (keep (relevant group r) (daysBefore back (r .event))) ≡ true
+            → _≡_ {A = ℕ × Day} (d, roomDay rooms (t .readings) (r .event - d)) (d, dayOf t d)
         each d e =
             let i = daysBefore-is back (r .event) d .0 (kept-member (relevant group r) (daysBefore back (r .event)) d e) in
             ap (λ (x : Day). (d, x)) (room-day d (omega arith) (omega arith))

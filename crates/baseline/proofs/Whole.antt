@@ -1,19 +1,19 @@
 -- Whole days of a good table: how large their readings and sums can be, and the method's sums as sums over days.
-use Prim.Native.Nat.{ℕ, zero, suc, _+_, _-_, _*_, _%_, _≤_, _<_}
-use mathlib.Core.Path.{_≡_, refl, sym, ap, ap₂, _∙_}
-use mathlib.Core.Bool.{Bool, true, false, _&&_}
+use Prim.Native.Nat.{ℕ, _+_, _-_, _*_, _%_, _≤_, _<_}
+use mathlib.Core.Path.{_≡_, refl, ap, _∙_}
+use mathlib.Core.Bool.{Bool, true}
 use mathlib.Core.List.{List, [], _∷_, _++_, map}
 use native.Mathlib.Nat.{mul-suc}
 use native.Mathlib.Omega.{arith}
-use borrow.Author.Tests.{leb-true, le-leb, eq-eqb}
-use lib.Dec.{leb, eqb}
+use borrow.Author.Tests.{leb-true, eq-eqb}
+use lib.Dec.{leb}
 use lib.ListN.{length, getD, take, drop, length-take, length-drop}
 use lib.Seq.{getD-take, getD-drop}
 use Rattle.lists.specs.Lists.{all, sumOf}
 use Rattle.lists.proofs.All.{all-at, all-take, all-drop}
 use Rattle.lists.proofs.Bools.{both}
 use Rattle.method.specs.Table.{Table, Day, present, goodReading, isExtract, held, history, offset, size, dayOf}
-use Rattle.method.specs.Adjustment.{A, B, S, places}
+use Rattle.method.specs.Adjustment.{A, B, S}
 use Rattle.method.specs.HighXofY.{complete}
 use Rattle.readings.proofs.Laws.{all-in-range, day-most, whole, B-by-days}
 use Rattle.baseline.specs.Part.{hasDay}
@@ -40,7 +40,8 @@ pub S-is : (t : Table) (ds : List ℕ) (q : ℕ) → S (withDays t ds) q ≡ qua
 unfolding S quarterSum dayOf size
 S-is t ds q = ap sumOf (map-with t (λ p. getD (p .1 .readings) (q % 96) 0) ds ∙ ap (λ f. map f ds) (λ i d. each d i))
   where
-    each : (d : ℕ) → getD (take 96 (drop (offset (t .first) (d - t .first)) (t .readings))) (q % 96) 0 ≡ getD (t .readings) (offset (t .first) (d - t .first) + q % 96) 0
+    each : (d : ℕ) → getD (take 96 (drop (offset (t .first) (d - t .first)) (t .readings))) (q % 96) 0 ≡ getD (t .readings)
+        (offset (t .first) (d - t .first) + q % 96) 0
     each d = let h : q % 96 < 96 = omega arith in rw (getD-take, getD-drop)
 
 module _ (t : Table) (extract : isExtract t ≡ true) (good : all goodReading (t .readings) ≡ true) where
@@ -54,7 +55,8 @@ module _ (t : Table) (extract : isExtract t ≡ true) (good : all goodReading (t
 
   pub day-good : (d : ℕ) → all goodReading (dayOf t d .readings) ≡ true
   unfolding dayOf
-  day-good d = all-take goodReading (size d) (drop (offset (t .first) (d - t .first)) (t .readings)) (all-drop goodReading (offset (t .first) (d - t .first)) (t .readings) good)
+  day-good d = all-take goodReading (size d) (drop (offset (t .first) (d - t .first)) (t .readings))
+      (all-drop goodReading (offset (t .first) (d - t .first)) (t .readings) good)
 
   day-present : (d : ℕ) → isWhole t d ≡ true → all present (dayOf t d .readings) ≡ true
   unfolding isWhole complete
@@ -65,7 +67,8 @@ module _ (t : Table) (extract : isExtract t ≡ true) (good : all goodReading (t
   day-size d e = let w = day-inside d e .1 in rw (length-take, length-drop) (omega arith)
 
   -- a quarter's sum is at most 10,000,000 a day
-  pub quarter-most : (ds : List ℕ) → all (isWhole t) ds ≡ true → (q : ℕ) → q < 96 → quarterSum (t .first) (t .readings) ds q ≤ 10000000 * length ds
+  pub quarter-most : (ds : List ℕ) → all (isWhole t) ds ≡ true → (q : ℕ) → q < 96
+      → quarterSum (t .first) (t .readings) ds q ≤ 10000000 * length ds
   unfolding quarterSum
   quarter-most ds w q h = sum-most (isWhole t) (λ d. getD (t .readings) (offset (t .first) (d - t .first) + q) 0) 10000000 each ds w
     where
@@ -86,17 +89,22 @@ module _ (t : Table) (extract : isExtract t ≡ true) (good : all goodReading (t
       rw (eq-eqb (length (dayOf t d .readings)) 96 (day-size d (v .0))) (wholes ds (v .1))
 
   -- B is a sum over days, at most 120,000,000 each
-  pub B-is : (ds : List ℕ) → all (isWhole t) ds ≡ true → (end : ℕ) → 12 ≤ end → end ≤ 192 → B (withDays t ds) end ≡ twelveSums (t .first) (t .readings) ds end
-  B-is ds w end h k = B-by-days (withDays t ds) end (wholes ds w) h k ∙ ap sumOf (map-with t (λ p. A (p .1 .readings ++ p .1 .readings) end) ds) ∙ same
+  pub B-is : (ds : List ℕ) → all (isWhole t) ds ≡ true → (end : ℕ) → 12 ≤ end → end ≤ 192
+      → B (withDays t ds) end ≡ twelveSums (t .first) (t .readings) ds end
+  B-is ds w end h k = B-by-days (withDays t ds) end (wholes ds w) h k ∙
+      ap sumOf (map-with t (λ p. A (p .1 .readings ++ p .1 .readings) end) ds) ∙ same
     where
       same : sumOf (map (λ d. A (dayOf t d .readings ++ dayOf t d .readings) end) ds) ≡ twelveSums (t .first) (t .readings) ds end
       same = unfold dayOf size twelveSums in refl
 
-  pub windows-most : (ds : List ℕ) → all (isWhole t) ds ≡ true → (end : ℕ) → twelveSums (t .first) (t .readings) ds end ≤ 120000000 * length ds
+  pub windows-most : (ds : List ℕ) → all (isWhole t) ds ≡ true → (end : ℕ)
+      → twelveSums (t .first) (t .readings) ds end ≤ 120000000 * length ds
   unfolding twelveSums
   windows-most ds w end =
-      sum-most (isWhole t) (λ d. A (take 96 (drop (offset (t .first) (d - t .first)) (t .readings)) ++ take 96 (drop (offset (t .first) (d - t .first)) (t .readings))) end) 120000000 each ds w
+      sum-most (isWhole t) (λ d. A (take 96 (drop (offset (t .first) (d - t .first)) (t .readings)) ++ take 96
+      (drop (offset (t .first) (d - t .first)) (t .readings))) end) 120000000 each ds w
     where
       each : (d : ℕ) → isWhole t d ≡ true
-          → A (take 96 (drop (offset (t .first) (d - t .first)) (t .readings)) ++ take 96 (drop (offset (t .first) (d - t .first)) (t .readings))) end ≤ 120000000
+          → A (take 96 (drop (offset (t .first) (d - t .first)) (t .readings)) ++ take 96
+          (drop (offset (t .first) (d - t .first)) (t .readings))) end ≤ 120000000
       each d e = unfold dayOf size in day-most (dayOf t d .readings) end (day-good d) (day-present d e)

@@ -80,15 +80,8 @@ fn finish(
     let adjustment = numerators::adjustment(first, readings, days, count, end, own);
     let start = (request.s - 96) as usize;
     let length = (request.e - request.s) as usize;
-    numerators::write(
-        first,
-        readings,
-        days,
-        count,
-        start,
-        adjustment,
-        &mut out[..length],
-    );
+    let part = &mut out[..length];
+    numerators::write(first, readings, days, count, start, adjustment, part);
     Answer {
         given: Given::Answered,
         chosen: chosen,

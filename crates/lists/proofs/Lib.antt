@@ -7,3 +7,4 @@ pub mod Sums
 pub mod Keep
 pub mod Leading
 pub mod Maps
+pub mod Unique

@@ -1,11 +1,7 @@
--- `baseline::baseline` meets its contract.
-use Prim.Native.Nat.{ℕ, _-_, _*_}
-use mathlib.Core.Path.{refl, sym, ap, _∙_}
-use native.Mathlib.Omega.{arith}
+-- `baseline::baseline` meets its contract: what was found of the table is known at `d`.
+use mathlib.Core.Path.{sym, _∙_}
 use borrow.Author.Needs.{needs}
-use lib.ListN.{length, length-take}
-use mir.Syntax.{w64}
-use mir.ValLaws.{toZ-ofZ}
+use lib.ListN.{length}
 use Rattle.calendar.specs.Holidays.{group}
 use Rattle.baseline.specs.Answer.{tableOf}
 use Rattle.baseline.proofs.Steps.{refuses, table-refused, request-refused, none-refused}
@@ -38,28 +34,52 @@ enum-told-2 c = search needs
 
 choose-days-requires : tie.Need-choose-days-requires
 choose-days-requires c κs =
-    let a = c .before .before .before .before .before .before .before .before .before .before .args in
-    record { table = sym (c .before .before .before .before .before .before .of-table .ensures) ∙ c .before .before .before .before .enum-told .given .1; request = sym (c .before .before .before .of-request .ensures (a .readings .now)) ∙ c .before .enum-told2 .given .1 }
+    let s = c .before .before .before .before .before .before .before .before .before .before in
+    record {
+      table = sym (c .before .before .before .before .before .before .of-table .ensures) ∙
+          c .before .before .before .before .enum-told .given .1;
+      request = sym (c .before .before .before .of-request .ensures (s .args .readings .now)) ∙ c .before .enum-told2 .given .1;
+    }
 
 returns : tie.Need-returns
 returns c =
-    let a = c .before .before .before .before .before .before .before .before .args in
-    refuses (a .out .now) (c .refuse .ensures) (table-refused group (tableOf (a .first) (a .marks .now) (a .readings .now)) (a .request) (length (a .out .now)) (sym (c .before .before .before .before .of-table .ensures) ∙ c .before .before .of-table2 .given .1))
+    let d = c .before .before .before .before in
+    let s = d .before .before .before .before in
+    let a = s .args in
+    let t = tableOf (a .first) (a .marks .now) (a .readings .now) in
+    let room = length (a .out .now) in
+    let tested = sym (d .of-table .ensures) in
+    refuses (a .out .now) (c .refuse .ensures) (table-refused group t (a .request) room (tested ∙ c .before .before .of-table2 .given .1))
 
 returns-2 : tie.Need-returns-2
 returns-2 c =
-    let a = c .before .before .before .before .before .before .before .before .before .before .before .args in
+    let d = c .before .before .before .before .before .before .before in
+    let s = d .before .before .before .before in
+    let a = s .args in
+    let t = tableOf (a .first) (a .marks .now) (a .readings .now) in
+    let room = length (a .out .now) in
+    let tested = sym (d .of-table .ensures) in
     refuses (a .out .now) (c .refuse2 .ensures)
-    (request-refused group (tableOf (a .first) (a .marks .now) (a .readings .now)) (a .request) (length (a .out .now)) (sym (c .before .before .before .before .before .before .before .of-table .ensures) ∙ c .before .before .before .before .before .enum-told .given .1) (sym (c .before .before .before .before .of-request .ensures (a .readings .now)) ∙ c .before .before .of-request2 .given .1))
+    (request-refused group t (a .request) room (tested ∙ c .before .before .before .before .before .enum-told .given .1)
+    (sym (c .before .before .before .before .of-request .ensures (a .readings .now)) ∙ c .before .before .of-request2 .given .1))
 
 same-length : tie.Need-same-length
 same-length c = search needs
 
 returns-3 : tie.Need-returns-3
 returns-3 c =
-    let a = c .before .before .before .before .before .before .before .before .before .before .before .before .before .args in
-    rw (none-refused group (tableOf (a .first) (a .marks .now) (a .readings .now)) (a .request) (length (a .out .now)) (record { table = sym (c .before .before .before .before .before .before .before .before .before .of-table .ensures) ∙ c .before .before .before .before .before .before .before .enum-told .given .1; request = sym (c .before .before .before .before .before .before .of-request .ensures (a .readings .now)) ∙ c .before .before .before .before .enum-told2 .given .1 }))
-    (c .before .before .choose-days .ensures)
+    let d = c .before .before .before .before .before .before .before .before .before in
+    let s = d .before .before .before .before in
+    let a = s .args in
+    let t = tableOf (a .first) (a .marks .now) (a .readings .now) in
+    let room = length (a .out .now) in
+    let tested = sym (d .of-table .ensures) in
+    rw (none-refused group t (a .request) room
+    (record {
+      table = tested ∙ c .before .before .before .before .before .before .before .enum-told .given .1;
+      request = sym (c .before .before .before .before .before .before .of-request .ensures (a .readings .now)) ∙
+          c .before .before .before .before .enum-told2 .given .1;
+    })) (c .before .before .choose-days .ensures)
 
 pub baseline-spec : {M : Type 1} → statement M
 baseline-spec =

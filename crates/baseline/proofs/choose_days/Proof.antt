@@ -1,24 +1,22 @@
--- `baseline::choose_days` meets its contract: the choice over the directory is the choice over the table.
-use Prim.Native.Nat.{ℕ, _-_, _*_}
-use mathlib.Core.Path.{refl, sym, ap, _∙_}
-use native.Mathlib.Omega.{arith}
+-- `baseline::choose_days` meets its contract: the choice over the directory (known at `d`) is the choice over the table.
+use mathlib.Core.Path.{ap}
 use borrow.Author.Needs.{needs}
-use lib.ListN.{length, length-take}
-use mir.Syntax.{w64}
-use mir.ValLaws.{toZ-ofZ}
+use lib.ListN.{length}
 use Rattle.calendar.specs.Holidays.{group}
-use Rattle.baseline.specs.Answer.{tableOf}
 use Rattle.method.specs.HighXofY.{highXofY}
 use Rattle.method.specs.Table.{history}
 use Rattle.method.specs.Verdict.{closing}
-use Rattle.baseline.proofs.Rooms.{choice-same}
+use Rattle.baseline.specs.Answer.{tableOf}
 use Rattle.baseline.proofs.Choosing.{short-is, few-is, days-is, ready, reply-is}
-use Rattle.baseline.proofs.Steps.{refuses, event-inside, passed-extract, passed-holds, rooms-choice}
+use Rattle.baseline.proofs.Steps.{refuses, event-inside, passed-holds, rooms-choice}
 use Rattle.baseline.proofs.choose_days.Statement.{statement}
 use Rattle.baseline.proofs.choose_days.Tie as tie
 
 directory-requires : tie.Need-directory-requires
-directory-requires c κs = let a = c .before .before .before .args in event-inside (tableOf (a .first) (a .marks .now) (a .readings .now)) (a .request) (length (a .out .now)) (c .before .before .before .pre)
+directory-requires c κs =
+    let s = c .before .before .before in
+    let a = s .args in
+    event-inside (tableOf (a .first) (a .marks .now) (a .readings .now)) (a .request) (length (a .out .now)) (s .pre)
 
 choose-requires : tie.Need-choose-requires
 choose-requires c κs = search needs
@@ -40,34 +38,61 @@ enum-told c = search needs
 
 finish-requires : tie.Need-finish-requires
 finish-requires c κs =
-    let a = c .before .before .before .before .before .before .before .before .before .args in
-    ready group (a .request) (tableOf (a .first) (a .marks .now) (a .readings .now)) (length (a .out .now)) (c .before .before .before .before .before .before .before .before .before .pre) (c .before .before .before .before .choose .result)
-    (days-is (highXofY group (a .request)) (history (tableOf (a .first) (a .marks .now) (a .readings .now)))
-    (rooms-choice group (tableOf (a .first) (a .marks .now) (a .readings .now)) (a .request) (length (a .out .now)) (c .before .before .before .before .before .before .before .before .before .pre) (c .before .before .before .before .before .directory .ensures (a .readings .now)) (c .before .before .before .before .choose .ensures)) (c .before .before .enum-told .given .1)) (passed-holds (tableOf (a .first) (a .marks .now) (a .readings .now)) (a .request) (length (a .out .now)) (c .before .before .before .before .before .before .before .before .before .pre))
+    let d = c .before .before .before .before .before in
+    let s = d .before .before .before .before in
+    let a = s .args in
+    let t = tableOf (a .first) (a .marks .now) (a .readings .now) in
+    let room = length (a .out .now) in
+    let m = highXofY group (a .request) in
+    let same = rooms-choice group t (a .request) room (s .pre) (d .directory .ensures (a .readings .now))
+    (c .before .before .before .before .choose .ensures) in
+    ready group (a .request) t room (s .pre) (c .before .before .before .before .choose .result)
+    (days-is m (history t) same (c .before .before .enum-told .given .1))
+    (passed-holds t (a .request) room (s .pre))
 
 returns : tie.Need-returns
 unfolding closing
 returns c =
-    let a = c .before .before .before .before .before .before .before .before .before .args in
-    refuses (a .out .now) (c .refuse .ensures) (ap closing (short-is (highXofY group (a .request)) (history (tableOf (a .first) (a .marks .now) (a .readings .now)))
-    (rooms-choice group (tableOf (a .first) (a .marks .now) (a .readings .now)) (a .request) (length (a .out .now)) (c .before .before .before .before .before .before .before .before .before .pre) (c .before .before .before .before .before .directory .ensures (a .readings .now)) (c .before .before .before .before .choose .ensures)) (c .before .before .choosing .given .1)))
+    let d = c .before .before .before .before .before in
+    let s = d .before .before .before .before in
+    let a = s .args in
+    let t = tableOf (a .first) (a .marks .now) (a .readings .now) in
+    let room = length (a .out .now) in
+    let m = highXofY group (a .request) in
+    let same = rooms-choice group t (a .request) room (s .pre) (d .directory .ensures (a .readings .now))
+    (c .before .before .before .before .choose .ensures) in
+    refuses (a .out .now) (c .refuse .ensures) (ap closing (short-is m (history t) same (c .before .before .choosing .given .1)))
 
 returns-2 : tie.Need-returns-2
 unfolding closing
 returns-2 c =
-    let a = c .before .before .before .before .before .before .before .before .before .args in
-    refuses (a .out .now) (c .refuse2 .ensures) (ap closing (few-is (highXofY group (a .request)) (history (tableOf (a .first) (a .marks .now) (a .readings .now)))
-    (rooms-choice group (tableOf (a .first) (a .marks .now) (a .readings .now)) (a .request) (length (a .out .now)) (c .before .before .before .before .before .before .before .before .before .pre) (c .before .before .before .before .before .directory .ensures (a .readings .now)) (c .before .before .before .before .choose .ensures)) (c .before .before .choosing2 .given .1)))
+    let d = c .before .before .before .before .before in
+    let s = d .before .before .before .before in
+    let a = s .args in
+    let t = tableOf (a .first) (a .marks .now) (a .readings .now) in
+    let room = length (a .out .now) in
+    let m = highXofY group (a .request) in
+    let same = rooms-choice group t (a .request) room (s .pre) (d .directory .ensures (a .readings .now))
+    (c .before .before .before .before .choose .ensures) in
+    refuses (a .out .now) (c .refuse2 .ensures) (ap closing (few-is m (history t) same (c .before .before .choosing2 .given .1)))
 
 same-length : tie.Need-same-length
 same-length c = search needs
 
 returns-3 : tie.Need-returns-3
 returns-3 c =
-    let a = c .before .before .before .before .before .before .before .before .before .before .before .before .args in
-    rw (reply-is group (a .request) (tableOf (a .first) (a .marks .now) (a .readings .now)) (length (a .out .now)) (c .before .before .before .before .before .before .before .before .before .before .before .before .pre) (c .before .before .before .before .before .before .before .choose .result)
-    (days-is (highXofY group (a .request)) (history (tableOf (a .first) (a .marks .now) (a .readings .now)))
-    (rooms-choice group (tableOf (a .first) (a .marks .now) (a .readings .now)) (a .request) (length (a .out .now)) (c .before .before .before .before .before .before .before .before .before .before .before .before .pre) (c .before .before .before .before .before .before .before .before .directory .ensures (a .readings .now)) (c .before .before .before .before .before .before .before .choose .ensures)) (c .before .before .before .before .before .enum-told .given .1)) (passed-holds (tableOf (a .first) (a .marks .now) (a .readings .now)) (a .request) (length (a .out .now)) (c .before .before .before .before .before .before .before .before .before .before .before .before .pre))) at (c .before .before .finish .ensures)
+    let d = c .before .before .before .before .before .before .before .before in
+    let s = d .before .before .before .before in
+    let a = s .args in
+    let t = tableOf (a .first) (a .marks .now) (a .readings .now) in
+    let room = length (a .out .now) in
+    let m = highXofY group (a .request) in
+    let same = rooms-choice group t (a .request) room (s .pre) (d .directory .ensures (a .readings .now))
+    (c .before .before .before .before .before .before .before .choose .ensures) in
+    let days = days-is m (history t) same (c .before .before .before .before .before .enum-told .given .1) in
+    rw (reply-is group (a .request) t room (s .pre) (c .before .before .before .before .before .before .before .choose .result) days
+    (passed-holds t (a .request) room (s .pre))) at
+    (c .before .before .finish .ensures)
 
 pub choose-days-spec : {M : Type 1} → statement M
 choose-days-spec =

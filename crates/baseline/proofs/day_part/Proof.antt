@@ -1,4 +1,4 @@
--- `baseline::day_part` meets its contract: a part of the lent readings, at its place.
+-- `baseline::day_part` meets its contract: a part of the lent readings, at its place. Whether the day is held is known at `d`.
 use mathlib.Core.Path.{refl, sym, _∙_}
 use native.Mathlib.Omega.{arith}
 use borrow.Author.Needs.{needs}
@@ -11,13 +11,28 @@ has-requires : tie.Need-has-requires
 has-requires c κs = search needs
 
 offset-requires : tie.Need-offset-requires
-offset-requires c κs = let a = c .before .before .before .before .args in (has-inside (tableOf (a .first) (a .marks .now) (a .readings .now)) (a .day) (sym (c .before .has .ensures) ∙ c .if1 .taken)) .0
+offset-requires c κs =
+    let d = c .before in
+    let a = d .before .before .before .args in
+    let t = tableOf (a .first) (a .marks .now) (a .readings .now) in
+    let held = sym (d .has .ensures) ∙ c .if1 .taken in
+    has-inside t (a .day) held .0
 
 add-end : tie.Need-add-end
-add-end c = let a = c .before .before .before .before .before .args in omega (arith, (has-inside (tableOf (a .first) (a .marks .now) (a .readings .now)) (a .day) (sym (c .before .before .has .ensures) ∙ c .before .if1 .taken)))
+add-end c =
+    let d = c .before .before in
+    let a = d .before .before .before .args in
+    let t = tableOf (a .first) (a .marks .now) (a .readings .now) in
+    let held = sym (d .has .ensures) ∙ c .before .if1 .taken in
+    omega (arith, has-inside t (a .day) held)
 
 mul-result : tie.Need-mul-result
-mul-result c = let a = c .before .before .before .before .before .args in omega (arith, (has-inside (tableOf (a .first) (a .marks .now) (a .readings .now)) (a .day) (sym (c .before .before .has .ensures) ∙ c .before .if1 .taken)))
+mul-result c =
+    let d = c .before .before in
+    let a = d .before .before .before .args in
+    let t = tableOf (a .first) (a .marks .now) (a .readings .now) in
+    let held = sym (d .has .ensures) ∙ c .before .if1 .taken in
+    omega (arith, has-inside t (a .day) held)
 
 sub-result : tie.Need-sub-result
 sub-result c = search needs
@@ -26,7 +41,12 @@ part-result-start : tie.Need-part-result-start
 part-result-start c = search needs
 
 part-result-end : tie.Need-part-result-end
-part-result-end c = let a = c .before .before .before .before .before .args in omega (arith, (has-inside (tableOf (a .first) (a .marks .now) (a .readings .now)) (a .day) (sym (c .before .before .has .ensures) ∙ c .before .if1 .taken)))
+part-result-end c =
+    let d = c .before .before in
+    let a = d .before .before .before .args in
+    let t = tableOf (a .first) (a .marks .now) (a .readings .now) in
+    let held = sym (d .has .ensures) ∙ c .before .if1 .taken in
+    omega (arith, has-inside t (a .day) held)
 
 mul-result-2 : tie.Need-mul-result-2
 mul-result-2 c = search needs
@@ -42,14 +62,18 @@ part-result-end-2 c = search needs
 
 returns : tie.Need-returns
 returns c =
-    let a = c .before .before .before .before .before .before .args in
-    part-held (tableOf (a .first) (a .marks .now) (a .readings .now)) (a .day) (a .readings .ptr) _ _ refl (c .before .offset .result) (c .before .offset .ensures)
-    (sym (c .before .before .before .has .ensures) ∙ c .before .before .if1 .taken) refl (omega arith)
+    let d = c .before .before .before in
+    let a = d .before .before .before .args in
+    let t = tableOf (a .first) (a .marks .now) (a .readings .now) in
+    let held = sym (d .has .ensures) ∙ c .before .before .if1 .taken in
+    part-held t (a .day) (a .readings .ptr) _ _ refl (c .before .offset .result) (c .before .offset .ensures) held refl (omega arith)
 
 returns-2 : tie.Need-returns-2
 returns-2 c =
-    let a = c .before .before .before .before .before .args in
-    part-none (tableOf (a .first) (a .marks .now) (a .readings .now)) (a .day) (a .readings .ptr) _ _ refl (sym (c .before .before .has .ensures) ∙ c .before .if1 .left) refl (omega arith)
+    let d = c .before .before in
+    let a = d .before .before .before .args in
+    let t = tableOf (a .first) (a .marks .now) (a .readings .now) in
+    part-none t (a .day) (a .readings .ptr) _ _ refl (sym (d .has .ensures) ∙ c .before .if1 .left) refl (omega arith)
 
 pub day-part-spec : {M : Type 1} → statement M
 day-part-spec =

@@ -1,9 +1,8 @@
 -- `baseline::numerators::add_part` meets its contract.
-use Prim.Native.Nat.{ℕ, _+_, _-_, _%_, _^_}
-use native.Mathlib.Omega.{arith}
+use Prim.Native.Nat.{_+_, _-_, _%_, _^_}
 use borrow.Author.Needs.{needs}
 use lib.ListN.{length, getD}
-use mathlib.Core.Path.{refl, ap, ap₂, sym, _∙_}
+use mathlib.Core.Path.{ap, _∙_}
 use Rattle.baseline.proofs.Places.{Storing, storing-begin, storing-here, storing-next, storing-end}
 use Rattle.baseline.proofs.numerators.add_part.Statement.{statement}
 use Rattle.baseline.proofs.numerators.add_part.Tie as tie

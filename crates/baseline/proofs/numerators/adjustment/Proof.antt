@@ -1,10 +1,10 @@
 -- `baseline::numerators::adjustment` meets its contract.
-use Prim.Native.Nat.{_*_, _%_, _^_, _<_}
+use Prim.Native.Nat.{_*_}
 use mathlib.Core.Path.{_≡_, ap, _∙_}
 use native.Mathlib.Omega.{arith}
 use borrow.Author.Needs.{needs}
 use lib.ListN.{take}
-use lib.IntN.{ℤ, pos, _-ℤ_}
+use lib.IntN.{pos, _-ℤ_}
 use Rattle.baseline.specs.Sums.{twelveSums}
 use Rattle.baseline.proofs.Signed.{difference-fits, difference-back}
 use Rattle.baseline.proofs.numerators.adjustment.Statement.{statement}
@@ -32,8 +32,10 @@ returns : tie.Need-returns
 returns c =
     let a = c .before .before .args in
     let p = c .before .before .pre in
-    let e : c .sum-windows .result ≡ twelveSums (a .first) (a .readings .now) (take (a .count) (a .days)) (a .end) = omega (arith, c .sum-windows .ensures, p .2) in
-    difference-back (a .count * a .own) (c .sum-windows .result) (p .1) (omega (arith, p .2, e)) ∙ ap (λ b. pos (a .count * a .own) -ℤ pos b) e
+    let e : c .sum-windows .result ≡ twelveSums (a .first) (a .readings .now) (take (a .count) (a .days)) (a .end) = omega
+    (arith, c .sum-windows .ensures, p .2) in
+    difference-back (a .count * a .own) (c .sum-windows .result) (p .1) (omega (arith, p .2, e)) ∙
+    ap (λ b. pos (a .count * a .own) -ℤ pos b) e
 
 pub adjustment-spec : {M : Type 1} → statement M
 adjustment-spec =

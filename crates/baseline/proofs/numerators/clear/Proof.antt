@@ -1,10 +1,10 @@
 -- `baseline::numerators::clear` meets its contract.
-use Prim.Native.Nat.{ℕ, _+_, _-_, _%_, _^_}
+use Prim.Native.Nat.{_-_}
 use native.Mathlib.Omega.{arith}
 use borrow.Author.Needs.{needs}
-use lib.ListN.{length, getD, length-set}
-use mathlib.Core.Path.{refl, ap, ap₂, sym, _∙_}
-use Rattle.baseline.proofs.Places.{Storing, storing-begin, storing-here, storing-next, storing-end}
+use lib.ListN.{length}
+use mathlib.Core.Path.{refl}
+use Rattle.baseline.proofs.Places.{Storing, storing-begin, storing-next, storing-end}
 use Rattle.baseline.proofs.numerators.clear.Statement.{statement}
 use Rattle.baseline.proofs.numerators.clear.Tie as tie
 

@@ -33,7 +33,12 @@ numerator-requires : tie.Need-numerator-requires Inv-loop μ-loop
 numerator-requires c κs =
     let l = c .before .before .loop in
     let k = l .inv .size in
-    rw (toZ-ofZ w64 (c .before .before .before .before .args .adjustment) (c .before .before .before .before .fits .adjustment), storing-here (l .inv)) (c .before .before .before .before .pre .0, c .before .before .before .before .pre .1 (l .q) (omega arith))
+    rw (
+      toZ-ofZ w64 (c .before .before .before .before .args .adjustment)
+          (c .before .before .before .before .fits .adjustment),
+      storing-here (l .inv),
+    )
+    (c .before .before .before .before .pre .0, c .before .before .before .before .pre .1 (l .q) (omega arith))
 
 mul-sums : tie.Need-mul-sums Inv-loop μ-loop
 mul-sums c = search needs
@@ -51,7 +56,8 @@ loop-again : tie.Need-loop-again Inv-loop μ-loop
 loop-again c =
     let l = c .before .before .before .loop in
     storing-next (l .inv) (c .before .before .loop-test .taken)
-    (c .numerator .ensures ∙ ap (λ x. floored (unfloored x (toZ w64 (ofZ w64 (c .before .before .before .before .before .args .adjustment))))) (storing-here (l .inv)))
+    (c .numerator .ensures ∙ ap (λ x. floored (unfloored x (toZ w64
+    (ofZ w64 (c .before .before .before .before .before .args .adjustment))))) (storing-here (l .inv)))
 
 same-length : tie.Need-same-length Inv-loop μ-loop
 same-length c = c .before .loop .inv .size

@@ -1,10 +1,10 @@
 -- `baseline::numerators::sum_days` meets its contract. The loop's invariant: the sums of the first `k` days (`Added`).
-use Prim.Native.Nat.{ℕ, _+_, _-_}
+use Prim.Native.Nat.{ℕ, _-_}
 use mathlib.Core.Path.{refl, ap, sym, _∙_}
 use mathlib.Core.List.{map}
 use native.Mathlib.Omega.{arith}
 use borrow.Author.Needs.{needs}
-use lib.ListN.{length, getD, length-take, length-drop}
+use lib.ListN.{length, length-take, length-drop}
 use Rattle.method.specs.Adjustment.{places}
 use Rattle.baseline.proofs.Places.{length-over}
 use Rattle.baseline.proofs.DaySums.{Added, added-begin, added-next, added-end}
@@ -21,7 +21,10 @@ clear-requires : tie.Need-clear-requires Inv-loop μ-loop
 clear-requires c κs = search needs
 
 loop-holds : tie.Need-loop-holds Inv-loop μ-loop
-loop-holds c = added-begin _ _ _ _ _ _ (c .before .before .clear .ensures ∙ ap (λ (n : ℕ). map (λ q. 0) (places n 0)) (sym (ap length (c .before .before .clear .ensures) ∙ length-over (λ q. 0) (length (c .before .before .before .before .before .before .args .sums .now)) 0)))
+loop-holds c =
+    let s = c .before .before .before .before .before .before in
+    let long = ap length (c .before .before .clear .ensures) ∙ length-over (λ q. 0) (length (s .args .sums .now)) 0 in
+    added-begin _ _ _ _ _ _ (c .before .before .clear .ensures ∙ ap (λ (n : ℕ). map (λ q. 0) (places n 0)) (sym long))
 
 mul-offset : tie.Need-mul-offset Inv-loop μ-loop
 mul-offset c = let p = c .before .before .before .before .before .before .before .before .pre .0 in omega arith
@@ -30,16 +33,44 @@ array-read-offset : tie.Need-array-read-offset Inv-loop μ-loop
 array-read-offset c = let p = c .before .before .before .before .before .before .before .before .pre .0 in omega arith
 
 offset-requires : tie.Need-offset-requires Inv-loop μ-loop
-offset-requires c κs = c .before .before .before .before .before .before .before .before .pre .0 .since (c .before .loop .k) (c .loop-test .taken)
+offset-requires c κs = c .before .before .before .before .before .before .before .before .pre .0 .since (c .before .loop .k)
+    (c .loop-test .taken)
 
 add-at : tie.Need-add-at Inv-loop μ-loop
-add-at c = let w = c .before .before .loop .inv in let p = c .before .before .before .before .before .before .before .before .before .pre in let e = (ap length (c .before .before .before .before .before .clear .ensures) ∙ length-over (λ q. 0) (length (c .before .before .before .before .before .before .before .before .before .args .sums .now)) 0) in let d = c .before .before .before .before .before .before .before .before .before .pre .0 .whole (c .before .before .loop .k) (c .before .loop-test .taken) in let g = c .before .before .before .before .before .before .before .before .before .good in let o = c .offset .ensures in omega arith
+add-at c =
+    let s = c .before .before .before .before .before .before .before .before .before in
+    let long = ap length (c .before .before .before .before .before .clear .ensures) ∙
+    length-over (λ q. 0) (length (s .args .sums .now)) 0 in
+    let inside = s .pre .0 .whole (c .before .before .loop .k) (c .before .loop-test .taken) in
+    let room = s .pre .1 in
+    let size = c .before .before .loop .inv .size in
+    let start = c .offset .ensures in
+    let good = s .good in
+    omega arith
 
 add-end : tie.Need-add-end Inv-loop μ-loop
-add-end c = let w = c .before .before .loop .inv in let p = c .before .before .before .before .before .before .before .before .before .pre in let e = (ap length (c .before .before .before .before .before .clear .ensures) ∙ length-over (λ q. 0) (length (c .before .before .before .before .before .before .before .before .before .args .sums .now)) 0) in let d = c .before .before .before .before .before .before .before .before .before .pre .0 .whole (c .before .before .loop .k) (c .before .loop-test .taken) in let g = c .before .before .before .before .before .before .before .before .before .good in let o = c .offset .ensures in omega arith
+add-end c =
+    let s = c .before .before .before .before .before .before .before .before .before in
+    let long = ap length (c .before .before .before .before .before .clear .ensures) ∙
+    length-over (λ q. 0) (length (s .args .sums .now)) 0 in
+    let inside = s .pre .0 .whole (c .before .before .loop .k) (c .before .loop-test .taken) in
+    let room = s .pre .1 in
+    let size = c .before .before .loop .inv .size in
+    let start = c .offset .ensures in
+    let good = s .good in
+    omega arith
 
 mul-add-part : tie.Need-mul-add-part Inv-loop μ-loop
-mul-add-part c = let w = c .before .before .before .loop .inv in let p = c .before .before .before .before .before .before .before .before .before .before .pre in let e = (ap length (c .before .before .before .before .before .before .clear .ensures) ∙ length-over (λ q. 0) (length (c .before .before .before .before .before .before .before .before .before .before .args .sums .now)) 0) in let d = c .before .before .before .before .before .before .before .before .before .before .pre .0 .whole (c .before .before .before .loop .k) (c .before .before .loop-test .taken) in let g = c .before .before .before .before .before .before .before .before .before .before .good in let o = c .before .offset .ensures in omega arith
+mul-add-part c =
+    let s = c .before .before .before .before .before .before .before .before .before .before in
+    let long = ap length (c .before .before .before .before .before .before .clear .ensures) ∙
+    length-over (λ q. 0) (length (s .args .sums .now)) 0 in
+    let inside = s .pre .0 .whole (c .before .before .before .loop .k) (c .before .before .loop-test .taken) in
+    let room = s .pre .1 in
+    let size = c .before .before .before .loop .inv .size in
+    let start = c .before .offset .ensures in
+    let good = s .good in
+    omega arith
 
 sub-add-part : tie.Need-sub-add-part Inv-loop μ-loop
 sub-add-part c = search needs
@@ -48,10 +79,28 @@ part-add-part-start : tie.Need-part-add-part-start Inv-loop μ-loop
 part-add-part-start c = search needs
 
 part-add-part-end : tie.Need-part-add-part-end Inv-loop μ-loop
-part-add-part-end c = let w = c .before .before .before .loop .inv in let p = c .before .before .before .before .before .before .before .before .before .before .pre in let e = (ap length (c .before .before .before .before .before .before .clear .ensures) ∙ length-over (λ q. 0) (length (c .before .before .before .before .before .before .before .before .before .before .args .sums .now)) 0) in let d = c .before .before .before .before .before .before .before .before .before .before .pre .0 .whole (c .before .before .before .loop .k) (c .before .before .loop-test .taken) in let g = c .before .before .before .before .before .before .before .before .before .before .good in let o = c .before .offset .ensures in omega arith
+part-add-part-end c =
+    let s = c .before .before .before .before .before .before .before .before .before .before in
+    let long = ap length (c .before .before .before .before .before .before .clear .ensures) ∙
+    length-over (λ q. 0) (length (s .args .sums .now)) 0 in
+    let inside = s .pre .0 .whole (c .before .before .before .loop .k) (c .before .before .loop-test .taken) in
+    let room = s .pre .1 in
+    let size = c .before .before .before .loop .inv .size in
+    let start = c .before .offset .ensures in
+    let good = s .good in
+    omega arith
 
 add-part-requires : tie.Need-add-part-requires Inv-loop μ-loop
-add-part-requires c κs = let w = c .before .before .before .before .loop .inv in let p = c .before .before .before .before .before .before .before .before .before .before .before .pre in let e = (ap length (c .before .before .before .before .before .before .before .clear .ensures) ∙ length-over (λ q. 0) (length (c .before .before .before .before .before .before .before .before .before .before .before .args .sums .now)) 0) in let d = c .before .before .before .before .before .before .before .before .before .before .before .pre .0 .whole (c .before .before .before .before .loop .k) (c .before .before .before .loop-test .taken) in let g = c .before .before .before .before .before .before .before .before .before .before .before .good in let o = c .before .before .offset .ensures in simp (length-take, length-drop) (omega arith)
+add-part-requires c κs =
+    let s = c .before .before .before .before .before .before .before .before .before .before .before in
+    let long = ap length (c .before .before .before .before .before .before .before .clear .ensures) ∙
+    length-over (λ q. 0) (length (s .args .sums .now)) 0 in
+    let inside = s .pre .0 .whole (c .before .before .before .before .loop .k) (c .before .before .before .loop-test .taken) in
+    let room = s .pre .1 in
+    let size = c .before .before .before .before .loop .inv .size in
+    let start = c .before .before .offset .ensures in
+    let good = s .good in
+    simp (length-take, length-drop) (omega arith)
 
 add-k : tie.Need-add-k Inv-loop μ-loop
 add-k c = search needs
@@ -60,13 +109,25 @@ loop-less : tie.Need-loop-less Inv-loop μ-loop
 loop-less c = search needs
 
 loop-again : tie.Need-loop-again Inv-loop μ-loop
-loop-again c = added-next _ _ _ _ _ _ (c .before .before .before .before .before .before .before .loop .inv) (c .before .before .before .before .before .offset .result) (c .before .before .before .before .before .before .before .before .before .before .before .before .before .before .pre .0) (c .before .before .before .before .before .before .loop-test .taken) (c .before .before .before .before .before .offset .ensures) refl (c .before .before .add-part .ensures)
+loop-again c =
+    added-next _ _ _ _ _ _ (c .before .before .before .before .before .before .before .loop .inv)
+    (c .before .before .before .before .before .offset .result)
+    (c .before .before .before .before .before .before .before .before .before .before .before .before .before .before .pre .0)
+    (c .before .before .before .before .before .before .loop-test .taken)
+    (c .before .before .before .before .before .offset .ensures) refl
+    (c .before .before .add-part .ensures)
 
 same-length : tie.Need-same-length Inv-loop μ-loop
-same-length c = c .before .loop .inv .size ∙ (ap length (c .before .before .before .before .clear .ensures) ∙ length-over (λ q. 0) (length (c .before .before .before .before .before .before .before .before .args .sums .now)) 0)
+same-length c =
+    let s = c .before .before .before .before .before .before .before .before in
+    let long = ap length (c .before .before .before .before .clear .ensures) ∙ length-over (λ q. 0) (length (s .args .sums .now)) 0 in
+    c .before .loop .inv .size ∙ long
 
 returns : tie.Need-returns Inv-loop μ-loop
-returns c = rw (ap length (c .before .before .before .before .clear .ensures) ∙ length-over (λ q. 0) (length (c .before .before .before .before .before .before .before .before .args .sums .now)) 0) at (added-end _ _ _ _ _ _ (c .before .loop .inv) (c .loop-test .left))
+returns c =
+    let s = c .before .before .before .before .before .before .before .before in
+    let long = ap length (c .before .before .before .before .clear .ensures) ∙ length-over (λ q. 0) (length (s .args .sums .now)) 0 in
+    rw long at (added-end _ _ _ _ _ _ (c .before .loop .inv) (c .loop-test .left))
 
 pub sum-days-spec : {M : Type 1} → statement M
 sum-days-spec =

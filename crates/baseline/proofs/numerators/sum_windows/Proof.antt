@@ -1,5 +1,5 @@
 -- `baseline::numerators::sum_windows` meets its contract. The loop's invariant: the total of the first `k` days.
-use Prim.Native.Nat.{_+_, _-_, _%_, _^_, _≤_}
+use Prim.Native.Nat.{_-_, _%_, _^_, _≤_}
 use mathlib.Core.Path.{_≡_, refl, _∙_}
 use native.Mathlib.Omega.{arith}
 use borrow.Author.Needs.{needs}
@@ -42,7 +42,8 @@ part-day-start : tie.Need-part-day-start Inv-loop μ-loop
 part-day-start c = search needs
 
 part-day-end : tie.Need-part-day-end Inv-loop μ-loop
-part-day-end c = let d = c .before .before .before .before .pre .whole (c .before .before .loop .k) (c .before .loop-test .taken) in omega arith
+part-day-end c = let d = c .before .before .before .before .pre .whole (c .before .before .loop .k)
+    (c .before .loop-test .taken) in omega arith
 
 window-sum-requires : tie.Need-window-sum-requires Inv-loop μ-loop
 window-sum-requires c κs = search needs
@@ -62,8 +63,10 @@ loop-again c =
     let l = c .before .before .before .before .before .loop in
     let p = c .before .before .before .before .before .before .before .pre in (
       omega (arith, c .before .before .before .before .loop-test .taken),
-      c .wrapping-add-u64 .ensures ∙ windows-next (a .first) (a .readings .now) (a .t3) (a .end) (l .total) (l .k) (c .before .window-sum .result) (c .before .before .before .offset .result)
-          (omega (arith, c .before .before .before .before .loop-test .taken)) (l .inv .1) (c .before .before .before .offset .ensures) (c .before .window-sum .ensures),
+      c .wrapping-add-u64 .ensures ∙ windows-next (a .first) (a .readings .now) (a .t3) (a .end) (l .total) (l .k)
+          (c .before .window-sum .result) (c .before .before .before .offset .result)
+          (omega (arith, c .before .before .before .before .loop-test .taken)) (l .inv .1) (c .before .before .before .offset .ensures)
+          (c .before .window-sum .ensures),
     )
 
 returns : tie.Need-returns Inv-loop μ-loop

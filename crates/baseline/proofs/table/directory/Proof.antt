@@ -1,5 +1,5 @@
 -- `baseline::table::directory` meets its contract. The loop's invariant: the first `i` places of both rows are filled.
-use Prim.Native.Nat.{_+_, _-_, _*_, _≤_}
+use Prim.Native.Nat.{_+_, _-_, _≤_}
 use mathlib.Core.Path.{_≡_, refl}
 use native.Mathlib.Omega.{arith}
 use borrow.Author.Needs.{needs}
@@ -13,7 +13,8 @@ use Rattle.baseline.proofs.table.directory.Statement.{statement}
 use Rattle.baseline.proofs.table.directory.Tie as tie
 
 abbrev Inv-loop : tie.InvT-loop
-Inv-loop first marks event held at₀ kept₀ i₀ at kept i = (i ≤ held + 1) × (at ≡ filled (λ j. offset first (event - j - first)) 46 i) × (kept ≡ filled (λ j. getD marks (event - j - first) 0) 46 i)
+Inv-loop first marks event held at₀ kept₀ i₀ at kept i = (i ≤ held + 1) × (at ≡ filled (λ j. offset first (event - j - first)) 46 i) ×
+    (kept ≡ filled (λ j. getD marks (event - j - first) 0) 46 i)
 
 abbrev μ-loop : tie.MeasureT-loop
 μ-loop first marks event held at₀ kept₀ i₀ at kept i = held + 1 - i
@@ -44,7 +45,8 @@ offset-requires : tie.Need-offset-requires Inv-loop μ-loop
 offset-requires c κs = search needs
 
 cast-at : tie.Need-cast-at Inv-loop μ-loop
-cast-at c = let a = c .before .before .before .before .before .args in omega (arith, offset-is (a .first) (a .event - c .before .before .loop .i - a .first))
+cast-at c = let a = c .before .before .before .before .before .args in omega
+    (arith, offset-is (a .first) (a .event - c .before .before .loop .i - a .first))
 
 mul-at : tie.Need-mul-at Inv-loop μ-loop
 mul-at c = search needs
@@ -69,15 +71,18 @@ loop-again c =
     let a = c .before .before .before .before .before .before .args in
     let l = c .before .before .before .loop in (
       omega arith,
-      rw (l .inv .1) (filled-more (λ j. offset (a .first) (a .event - j - a .first)) 46 (l .i) (c .before .offset .result) (omega arith) (c .before .offset .ensures)),
-      rw (l .inv .2) (filled-more (λ j. getD (a .marks .now) (a .event - j - a .first) 0) 46 (l .i) (getD (a .marks .now) (a .event - l .i - a .first) 0) (omega arith) refl),
+      rw (l .inv .1) (filled-more (λ j. offset (a .first) (a .event - j - a .first)) 46 (l .i) (c .before .offset .result) (omega arith)
+          (c .before .offset .ensures)),
+      rw (l .inv .2) (filled-more (λ j. getD (a .marks .now) (a .event - j - a .first) 0) 46 (l .i)
+          (getD (a .marks .now) (a .event - l .i - a .first) 0) (omega arith) refl),
     )
 
 returns : tie.Need-returns Inv-loop μ-loop
 returns c = λ readings.
     let a = c .before .before .before .before .args in
     let l = c .before .loop in
-    directory-is (a .first) (a .marks .now) readings (a .event) (c .before .before .least .result) (l .i) (c .before .before .least .ensures) (omega arith) (l .inv .1) (l .inv .2)
+    directory-is (a .first) (a .marks .now) readings (a .event) (c .before .before .least .result) (l .i)
+    (c .before .before .least .ensures) (omega arith) (l .inv .1) (l .inv .2)
 
 pub directory-spec : {M : Type 1} → statement M
 directory-spec =

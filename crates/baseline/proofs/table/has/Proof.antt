@@ -16,7 +16,8 @@ returns : tie.Need-returns
 returns c =
     let a = c .before .before .before .before .before .args in
     c .is-held .ensures (a .readings .now) ∙
-    has-day (tableOf (a .first) (a .marks .now) (a .readings .now)) (a .day) (sym (c .before .before .is-extract .ensures) ∙ c .before .if1 .taken)
+    has-day (tableOf (a .first) (a .marks .now) (a .readings .now)) (a .day)
+    (sym (c .before .before .is-extract .ensures) ∙ c .before .if1 .taken)
 
 returns-2 : tie.Need-returns-2
 returns-2 c =

@@ -1,0 +1,104 @@
+-- Laws beside the contracts: there is one outcome and one result, what the numerators are without signs or division, and how large they get.
+use Prim.Native.Nat.{ℕ, _+_, _-_, _*_}
+use mathlib.Core.Path.{_≡_, refl, sym, ap, _∙_}
+use mathlib.Core.Bool.{true, false}
+use mathlib.Core.List.{List, [], _∷_, _++_, map}
+use mathlib.Core.Logic.{_⊎_, inl, inr, ⊎-elim}
+use native.Mathlib.Omega.{arith}
+use borrow.Author.Tests.{eqb-true, eqb-false}
+use lib.Dec.{leb, eqb}
+use Rattle.lists.specs.Lists.{all}
+use Rattle.lists.proofs.Bools.{bool-cases}
+use Rattle.lists.proofs.Unique.{unique}
+use Rattle.calendar.specs.declared.Group.{Group}
+use Rattle.method.specs.declared.Request.{Request}
+use Rattle.method.specs.declared.Refusal.{Refusal}
+use Rattle.method.specs.Table.{Table, Day, dayPart, history}
+use Rattle.method.specs.Adjustment.{places, adjustmentEnd, A, S, adjustment, unfloored, floored, baselineAt}
+use Rattle.method.specs.Method.{outcome}
+use Rattle.method.specs.HighXofY.{highXofY}
+use Rattle.method.specs.Verdict.{Reply, Answer as Numbers, refused, answered, tableRefusals, requestRefusals, closing, verdict}
+use Rattle.choose.specs.declared.Choosing.{Choosing}
+use Rattle.choose.specs.declared.Choosing.the-variants.{Short, Few, Days}
+use Rattle.choose.specs.declared.Chosen.{Chosen}
+use Rattle.choose.specs.Choice.{choiceOf}
+use Rattle.baseline.specs.declared.Answer.{Answer}
+use Rattle.baseline.specs.declared.Tested.{Tested}
+use Rattle.baseline.specs.declared.Tested.the-variants.{Passed, Failed}
+use Rattle.baseline.specs.Part.{DayPart}
+use Rattle.baseline.specs.Tests.{tested}
+use Rattle.baseline.specs.Ready.{Answers, Passes, Ready, replyOf}
+use Rattle.baseline.proofs.Choosing.{short-is, few-is, days-is, ready, reply-is}
+use Rattle.baseline.proofs.Signed.{numerator-is}
+use Rattle.baseline.proofs.Steps.{table-refused, request-refused, none-refused, passed-holds, no-window, numbers-most}
+
+-- ---- one outcome
+pub one-outcome : (reply : Reply) → ((w : Refusal) × (reply ≡ refused w)) ⊎ ((a : Numbers) × (reply ≡ answered a))
+one-outcome (refused w) = inl (w, refl)
+one-outcome (answered a) = inr (a, refl)
+
+pub never-both : {reply : Reply} {w : Refusal} {a : Numbers} → reply ≡ refused w → reply ≡ answered a → ⊥
+never-both e f = let z : _≡_ {A = ℕ} 0 1 = cc in omega arith
+
+-- ---- one result: no two differing results meet a contract
+pub answers-unique : {reply : Reply} {r r′ : Answer} {out after after′ : List ℕ} → Answers reply r out after → Answers reply r′ out after′
+    → (r ≡ r′) × (after ≡ after′)
+answers-unique p q = (unique (p .answer) (q .answer), unique (p .output) (q .output))
+
+pub part-unique : {t : Table} {day : ℕ} {whole : ℕ × ℕ} {part part′ : List ℕ} {at at′ : ℕ × ℕ} → DayPart t day whole part at
+    → DayPart t day whole part′ at′
+    → (part ≡ part′) × (at .0 ≡ at′ .0) × (at .1 ≡ at′ .1)
+part-unique p q = (unique (p .list) (q .list), unique (p .block) (q .block), unique (p .byte) (q .byte))
+
+-- ---- a numerator over 12N is max(0, initial + adjustment), that is max(0, S/N + (N·A - B)/(12N)): cut-off subtraction floors it at zero
+pub numerators-are : (r : Request) (n : ℕ) (chosen : List (ℕ × Day)) (a b : ℕ)
+    → map floored (baselineAt r n chosen (adjustment n a b) .numerators) ≡ map (λ q. 12 * S chosen q + n * a - b)
+    (places (r .e - r .s) (r .s))
+unfolding baselineAt
+numerators-are r n chosen a b = go (places (r .e - r .s) (r .s))
+  where
+    go : (l : List ℕ) → map floored (map (λ q. unfloored (S chosen q) (adjustment n a b)) l) ≡ map (λ q. 12 * S chosen q + n * a - b) l
+    go [] = refl
+    go (q ∷ qs) = rw (numerator-is (S chosen q) n a b, go qs)
+
+-- ---- "The answer holds the numerators, never above 1,200,000,000"
+module _ (group : ℕ → Group) (t : Table) (r : Request) (room : ℕ) where
+  abbrev Most : Numbers → Type 0
+  Most a = all (λ x. leb x 1200000000) (a .numerators) ≡ true
+
+  chosen-most : {a : Numbers} (chosen : Chosen) → Ready t r room chosen → replyOf t r chosen ≡ answered a → Most a
+  chosen-most {a} chosen k e = ⊎-elim refusal answer (bool-cases
+      (eqb (adjustmentEnd r (dayPart t (r .event - 1) ++ dayPart t (r .event))) 0))
+    where
+      refusal : eqb (adjustmentEnd r (dayPart t (r .event - 1) ++ dayPart t (r .event))) 0 ≡ true → Most a
+      refusal z =
+          absurd (never-both (no-window t r room chosen k refl refl refl
+          (eqb-true (adjustmentEnd r (dayPart t (r .event - 1) ++ dayPart t (r .event))) 0 z)) e)
+
+      answer : eqb (adjustmentEnd r (dayPart t (r .event - 1) ++ dayPart t (r .event))) 0 ≡ false → Most a
+      answer z =
+          numbers-most t r room chosen k refl refl refl (eqb-false (adjustmentEnd r (dayPart t (r .event - 1) ++ dayPart t (r .event))) 0 z)
+          refl refl e
+
+  passed-most : {a : Numbers} → Passes t r room → closing (outcome (highXofY group r) (history t)) ≡ answered a → Most a
+  unfolding closing
+  passed-most {a} p e = go (choiceOf (highXofY group r) (history t) .choosing) refl
+    where
+      go : (c : Choosing) → choiceOf (highXofY group r) (history t) .choosing ≡ c → Most a
+      go (Short d) q = absurd (never-both (ap closing (short-is (highXofY group r) (history t) refl q)) e)
+      go (Few n d) q = absurd (never-both (ap closing (few-is (highXofY group r) (history t) refl q)) e)
+      go Days q =
+          let x = days-is (highXofY group r) (history t) refl q in
+          let c = choiceOf (highXofY group r) (history t) in
+          chosen-most (c .chosen) (ready group r t room p c x (passed-holds t r room p))
+          (reply-is group r t room p c x (passed-holds t r room p) ∙ e)
+
+  pub never-above : (a : Numbers) → verdict group t r room ≡ answered a → Most a
+  never-above a e = go (tested (tableRefusals t)) (tested (requestRefusals t r room)) refl refl
+    where
+      go : (x y : Tested) → tested (tableRefusals t) ≡ x → tested (requestRefusals t r room) ≡ y → Most a
+      go (Failed w) y p q = absurd (never-both (table-refused group t r room p) e)
+      go Passed (Failed w) p q = absurd (never-both (request-refused group t r room p q) e)
+      go Passed Passed p q =
+          let k : Passes t r room = record { table = p; request = q } in
+          passed-most k (sym (none-refused group t r room k) ∙ e)
