@@ -4,8 +4,11 @@ use Prim.Native.Char.{code}
 use Prim.Native.String.{String, [] as empty, _∷_ as _then_}
 use mathlib.Core.Path.{_≡_}
 use mathlib.Core.List.{List, [], _∷_, _++_}
-use lib.ListN.{length, take, drop}
-use Rattle.method.specs.Table.{Table, size, offset}
+use mathlib.Core.Bool.{Bool, true, _&&_}
+use lib.ListN.{length, getD, take, drop}
+use lib.Dec.{ltb}
+use Rattle.lists.specs.Lists.{all}
+use Rattle.method.specs.Table.{Table, heldDays, size, offset}
 
 -- the characters of a text as bytes
 abbrev pub ascii : String → List ℕ
@@ -62,3 +65,19 @@ fileOf c =
     pfRecord (c .participation) (c .portfolio)
     ++ dyRecords (c .table .first) (c .table .marks) (c .table .readings)
     ++ evRecords (c .events)
+
+unfoldable pub fitsEvent : Event → Bool
+fitsEvent v = ltb (v .day) (256 ^ 2) && ltb (v .s) 256 && ltb (v .e) 256 && ltb (v .n) 256
+
+-- what the bytes of a file can hold: at most 128 days and 64 events, 96 readings a day; no days with F other than 0 has no file
+pub record Fits (c : Contents) : Type 0 where
+  pub participation : c .participation < 256 ^ 2
+  pub portfolio : c .portfolio < 256 ^ 4
+  pub days : heldDays (c .table) ≤ 128
+  pub last : c .table .first + heldDays (c .table) ≤ 256 ^ 2
+  pub none : heldDays (c .table) ≡ 0 → c .table .first ≡ 0
+  pub marks : (i : ℕ) → getD (c .table .marks) i 0 < 256
+  pub size : length (c .table .readings) ≡ offset (c .table .first) (heldDays (c .table))
+  pub readings : (i : ℕ) → getD (c .table .readings) i 0 < 256 ^ 4
+  pub events : length (c .events) ≤ 64
+  pub fields : all fitsEvent (c .events) ≡ true

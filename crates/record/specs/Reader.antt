@@ -142,6 +142,17 @@ contentsIn file =
       events = eventList (eventsIn file) (drop (eventStart file 0) file);
     }
 
+-- what reading the file of some contents gives
+unfoldable pub shapeOf : Contents → Shape
+shapeOf c =
+    record {
+      participation = c .participation;
+      portfolio = c .portfolio;
+      first = c .table .first;
+      days = heldDays (c .table);
+      events = length (c .events);
+    }
+
 -- the request at a place, counted from 0: the file's P with the EV there
 unfoldable pub requestAt : List ℕ → ℕ → Request
 requestAt file place =
