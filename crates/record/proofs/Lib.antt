@@ -9,3 +9,4 @@ pub mod Loading
 pub mod Back
 pub mod ReadsBack
 pub mod WrittenAgain
+pub mod RefusedWhere
