@@ -1,41 +1,27 @@
 -- What is written of days and events reads back: one record, and records one after the other.
-use Prim.Native.Nat.{ℕ, zero, suc, _+_, _-_, _*_, _/_, _%_, _^_, _<_, _≤_}
+use Prim.Native.Nat.{ℕ, zero, suc, _+_, _*_, _/_, _%_, _^_, _<_, _≤_}
 use mathlib.Core.Path.{_≡_, refl, sym, _∙_, ap}
-use mathlib.Core.Bool.{Bool, true, false, cond, _&&_, and-false}
-use mathlib.Core.List.{List, [], _∷_, _++_, append-assoc, append-nil}
+use mathlib.Core.Bool.{true, false, _&&_, and-false}
+use mathlib.Core.List.{List, [], _∷_, _++_, append-assoc}
 use native.Mathlib.Omega.{arith}
-use native.Mathlib.Nat.{add-zero}
-use borrow.Author.Tests.{le-leb, lt-leb, eq-eqb, ltb-true}
-use lib.ListN.{length, take, drop, getD, length-append, length-take, length-drop, take-append-drop}
-use lib.Seq.{drop-at, length-take-le, getD-take, getD-drop}
+use borrow.Author.Tests.{le-leb, eq-eqb, ltb-true}
+use lib.ListN.{length, take, drop, getD, length-append, length-drop, take-append-drop}
+use lib.Seq.{drop-at, length-take-le}
 use lib.Dec.{ltb}
 use Rattle.lists.proofs.Bools.{both}
 use Rattle.lists.specs.Lists.{all}
-use Rattle.method.specs.Table.{Table, heldDays, size, offset}
-use Rattle.record.specs.Layout.{ascii, bytes, pfRecord, readingBytes, dyRecord, Event, evRecord, dyRecords, evRecords, Contents, fileOf, Fits, fitsEvent}
-use Rattle.record.specs.declared.Shape.{Shape}
-use Rattle.record.specs.declared.Read.the-variants.{File, Refused}
-use Rattle.record.specs.Reader.{numberAt, opensWith, isRecord, isPF, isDY, isEV, isDYof, dyLength, dyDay, run, daysFrom, eventsFrom, firstIn, daysIn}
-use Rattle.record.specs.Reader.{dayStart, eventStart, eventsIn, goodEnd, shapeIn, readFile, marksFrom, numbers, readingsFrom, tableIn, eventOf, eventList, contentsIn}
-use Rattle.record.proofs.Numbers.{number-drop}
-use Rattle.record.proofs.Bytes.{number-bytes, numbers-bytes}
+use Rattle.method.specs.Table.{size}
+use Rattle.record.specs.Layout.{Below, bytes, readingBytes, dyRecord, Event, evRecord, dyRecords, evRecords, fitsEvent}
+use Rattle.record.specs.Reader.{numberAt, opensWith, isRecord, isDY, isEV, isDYof, dyLength, dyDay, run}
+use Rattle.record.specs.Reader.{marksFrom, numbers, readingsFrom, eventOf, eventList}
+use Rattle.record.proofs.Bytes.{below-drop, below-take, numbers-bytes}
 use Rattle.record.proofs.Records.{size-is, dy-length, day-record, day-not}
 use Rattle.record.proofs.Runs.{run-more, run-stops}
-use Rattle.record.proofs.Files.{offset-is, day-start-is, event-start-is}
 
 reading-length : (xs : List ℕ) → length (readingBytes xs) ≡ 4 * length xs
 unfolding readingBytes bytes
 reading-length [] = refl
 reading-length (x ∷ xs) = omega (arith, reading-length xs)
-
-taken : (n : ℕ) (xs : List ℕ) → ((i : ℕ) → getD xs i 0 < 256 ^ 4) → (i : ℕ) → getD (take n xs) i 0 < 256 ^ 4
-taken zero xs h i = omega arith
-taken (suc n) [] h i = omega arith
-taken (suc n) (x ∷ xs) h zero = h 0
-taken (suc n) (x ∷ xs) h (suc i) = taken n xs (λ j. h (suc j)) i
-
-dropped : (n : ℕ) (xs : List ℕ) → ((i : ℕ) → getD xs i 0 < 256 ^ 4) → (i : ℕ) → getD (drop n xs) i 0 < 256 ^ 4
-dropped n xs h i = rw (getD-drop n xs i 0) (h (n + i))
 
 -- one DY, with anything after it
 module _ (d m : ℕ) (xs rest : List ℕ) (long : length xs ≡ 96) where
@@ -64,7 +50,7 @@ module _ (d m : ℕ) (xs rest : List ℕ) (long : length xs ≡ 96) where
   unfolding dyRecord bytes
   day-mark = refl
 
-  pub day-readings : ((i : ℕ) → getD xs i 0 < 256 ^ 4) → numbers (size d) (drop 6 (dyRecord d m xs ++ rest)) ≡ xs
+  pub day-readings : Below (256 ^ 4) xs → numbers (size d) (drop 6 (dyRecord d m xs ++ rest)) ≡ xs
   unfolding dyRecord bytes
   day-readings h = numbers-bytes (size d) xs rest (long ∙ sym (size-is d)) h
 
@@ -101,8 +87,10 @@ unfolding dyRecords
 days-length [] rs d e = refl
 days-length (m ∷ ms) rs d e =
     length-append (dyRecord d m (take (size d) rs)) (dyRecords (suc d) ms (drop (size d) rs))
-    ∙ (rw (day-length d m (take (size d) rs) [] (first-long (length ms) rs d e),
-    days-length ms (drop (size d) rs) (suc d) (others-long (length ms) rs d e)) (omega arith))
+    ∙ (rw (
+      day-length d m (take (size d) rs) [] (first-long (length ms) rs d e),
+      days-length ms (drop (size d) rs) (suc d) (others-long (length ms) rs d e),
+    ) (omega arith))
 
 -- days one after the other, and what comes after them
 module _ (tail : List ℕ) where
@@ -127,11 +115,14 @@ module _ (tail : List ℕ) where
   marks-back [] rs d e = refl
   marks-back (m ∷ ms) rs d e =
       let more = dyRecords (suc d) ms (drop (size d) rs) ++ tail in
-      rw (append-assoc (dyRecord d m (take (size d) rs)) (dyRecords (suc d) ms (drop (size d) rs)) tail,
-      day-mark d m (take (size d) rs) more (first-long (length ms) rs d e), day-after d m (take (size d) rs) more (first-long (length ms) rs d e))
+      rw (
+        append-assoc (dyRecord d m (take (size d) rs)) (dyRecords (suc d) ms (drop (size d) rs)) tail,
+        day-mark d m (take (size d) rs) more (first-long (length ms) rs d e),
+        day-after d m (take (size d) rs) more (first-long (length ms) rs d e),
+      )
       (ap (λ (l : List ℕ). m ∷ l) (marks-back ms (drop (size d) rs) (suc d) (others-long (length ms) rs d e)))
 
-  pub readings-back : (ms rs : List ℕ) (d : ℕ) → length rs ≡ 96 * length ms → ((i : ℕ) → getD rs i 0 < 256 ^ 4)
+  pub readings-back : (ms rs : List ℕ) (d : ℕ) → length rs ≡ 96 * length ms → Below (256 ^ 4) rs
       → readingsFrom (length ms) d (dyRecords d ms rs ++ tail) ≡ rs
   unfolding dyRecords readingsFrom
   readings-back [] [] d e h = refl
@@ -139,9 +130,12 @@ module _ (tail : List ℕ) where
   readings-back (m ∷ ms) rs d e h =
       let long = first-long (length ms) rs d e in
       let more = dyRecords (suc d) ms (drop (size d) rs) ++ tail in
-      rw (append-assoc (dyRecord d m (take (size d) rs)) (dyRecords (suc d) ms (drop (size d) rs)) tail,
-      day-readings d m (take (size d) rs) more long (taken (size d) rs h), day-after d m (take (size d) rs) more long,
-      readings-back ms (drop (size d) rs) (suc d) (others-long (length ms) rs d e) (dropped (size d) rs h)) (take-append-drop (size d) rs)
+      rw (
+        append-assoc (dyRecord d m (take (size d) rs)) (dyRecords (suc d) ms (drop (size d) rs)) tail,
+        day-readings d m (take (size d) rs) more long (below-take (size d) rs h),
+        day-after d m (take (size d) rs) more long,
+        readings-back ms (drop (size d) rs) (suc d) (others-long (length ms) rs d e) (below-drop (size d) rs h),
+      ) (take-append-drop (size d) rs)
 
 -- events one after the other, at the file's end
 pub events-back : (es : List Event) (most i : ℕ) → length es ≤ most → run (λ j. isEV) (λ j. 8) most i (evRecords es) ≡ length es

@@ -1,17 +1,18 @@
 -- One law for each way out of asking for an event.
 use Prim.Native.Nat.{ℕ, _+_, _*_, _<_, _≤_}
-use mathlib.Core.Path.{_≡_, refl, sym, _∙_, ap}
+use mathlib.Core.Path.{_≡_}
 use mathlib.Core.List.{List}
 use native.Mathlib.Omega.{arith}
 use borrow.Author.Tests.{lt-ltb, le-ltb}
-use lib.ListN.{length, drop, getD}
+use lib.ListN.{getD}
 use lib.Seq.{getD-drop}
 use Rattle.record.specs.declared.Shape.{Shape}
 use Rattle.record.specs.declared.Read.the-variants.{File, Refused}
 use Rattle.record.specs.declared.EventAt.the-variants.{Event as AnEvent, NoEvent, Refused as RefusedEvent}
 use Rattle.record.specs.Reader.{numberAt, daysIn, eventStart, shapeIn, readFile, eventOf, requestAt, eventAtPlace}
+use Rattle.record.specs.Laws.{Accepted}
 use Rattle.record.proofs.Numbers.{number-drop}
-use Rattle.record.proofs.Files.{Accepted, shape-fits, event-start-is}
+use Rattle.record.proofs.Files.{shape-fits, event-start-is}
 
 pub event-refused : (file : List ℕ) (place : ℕ) {at : ℕ} → readFile file ≡ Refused at → RefusedEvent at ≡ eventAtPlace (readFile file) file place
 event-refused file place r = rw r

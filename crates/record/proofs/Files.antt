@@ -1,21 +1,19 @@
 -- One law for each way out of reading a file, and what an accepted file has.
-use Prim.Native.Nat.{ℕ, zero, suc, _+_, _-_, _*_, _<_, _≤_}
+use Prim.Native.Nat.{ℕ, zero, suc, _+_, _*_, _<_, _≤_}
 use mathlib.Core.Path.{_≡_, refl, sym, _∙_, ap}
 use mathlib.Core.Bool.{Bool, true, false, cond}
 use mathlib.Core.List.{List}
-use mathlib.Core.Logic.{⊎-elim}
 use native.Mathlib.Omega.{arith}
 use borrow.Author.Tests.{le-leb, lt-leb, eq-eqb, ne-eqb, eqb-true}
-use lib.ListN.{length, drop, length-drop}
+use lib.ListN.{length, drop}
 use lib.Dec.{eqb}
-use Rattle.lists.proofs.Bools.{bool-cases}
-use Rattle.method.specs.Table.{size, offset}
+use Rattle.method.specs.Table.{offset}
 use Rattle.record.specs.Layout.{ascii}
 use Rattle.record.specs.declared.Shape.{Shape}
-use Rattle.record.specs.declared.Read.{Read}
 use Rattle.record.specs.declared.Read.the-variants.{File, Refused}
-use Rattle.record.specs.Reader.{numberAt, opensWith, isPF, isDY, isEV, isDYof, dyLength, run, daysFrom, eventsFrom, firstIn, daysIn}
+use Rattle.record.specs.Reader.{numberAt, opensWith, isPF, isDY, isEV, isDYof, dyLength, daysFrom, eventsFrom, firstIn, daysIn}
 use Rattle.record.specs.Reader.{dayStart, eventStart, eventsIn, goodEnd, shapeIn, readFile}
+use Rattle.record.specs.Laws.{Accepted}
 use Rattle.record.proofs.Numbers.{number-drop}
 use Rattle.record.proofs.Records.{size-is}
 use Rattle.record.proofs.Runs.{run-most}
@@ -83,13 +81,6 @@ module _ (file : List ℕ) {first days start events : ℕ} (f : first ≡ firstI
       rw (le-leb 8 (length file) h, t, ne-eqb (goodEnd file) (length file) (λ same. e (end-is ∙ same)), end-is)
 
 -- what an accepted file has
-pub record Accepted (file : List ℕ) (shape : Shape) : Type 0 where
-  pub is-shape : shape ≡ shapeIn file
-  pub opens : isPF file ≡ true
-  pub days : shape .days ≤ 128
-  pub events : shape .events ≤ 64
-  pub whole : 8 + 390 * shape .days + 8 * shape .events ≡ length file
-
 pub shape-fits : (file : List ℕ) (shape : Shape) → readFile file ≡ File shape → Accepted file shape
 unfolding readFile shapeIn goodEnd daysIn daysFrom eventsIn eventsFrom
 shape-fits file shape t = go (isPF file) (eqb (goodEnd file) (length file)) refl refl t

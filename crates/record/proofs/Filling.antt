@@ -1,12 +1,12 @@
 -- Filling a lent buffer from its start: what is written and what is left to write are the whole, and the rest is as it was.
-use Prim.Native.Nat.{ℕ, suc, _+_, _-_, _<_, _≤_}
+use Prim.Native.Nat.{ℕ, _+_, _-_, _<_, _≤_}
 use mathlib.Core.Path.{_≡_, refl, sym, _∙_, ap}
 use mathlib.Core.List.{List, [], _∷_, _++_, append-assoc, append-nil}
 use native.Mathlib.Omega.{arith}
 use native.Mathlib.Numerals.{add-one}
 use lib.ListN.{length, take, drop, set, length-set, take-append-drop, length-append}
 use lib.Seq.{take-suc-set, drop-set-lt, drop-drop, append-snoc, take-at, length-take-le}
-use borrow.Rule.Slice.PartMut.{putMid, midOf, same-len-mid, mid-len, drop-put}
+use borrow.Rule.Slice.PartMut.{putMid, same-len-mid, mid-len, drop-put}
 
 pub record Filling (before whole now left : List ℕ) (i : ℕ) : Type 0 where
   pub long : length now ≡ length before

@@ -10,3 +10,5 @@ pub mod Back
 pub mod ReadsBack
 pub mod WrittenAgain
 pub mod RefusedWhere
+pub mod Limits
+pub mod Laws

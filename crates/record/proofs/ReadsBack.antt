@@ -1,13 +1,13 @@
 -- What is written reads back: the file of any contents that its bytes can hold is accepted, and says those contents.
-use Prim.Native.Nat.{ℕ, zero, suc, _+_, _*_, _^_, _<_, _≤_}
-use mathlib.Core.Path.{_≡_, refl, sym, _∙_, ap}
+use Prim.Native.Nat.{ℕ, suc, _+_, _*_, _^_, _<_, _≤_}
+use mathlib.Core.Path.{_≡_, refl, sym, _∙_}
 use mathlib.Core.Bool.{true, cond}
 use mathlib.Core.List.{List, [], _∷_, _++_, append-assoc}
 use native.Mathlib.Omega.{arith}
 use borrow.Author.Tests.{le-leb, eq-eqb}
 use lib.ListN.{length, take, drop, length-append}
 use lib.Seq.{drop-at}
-use Rattle.method.specs.Table.{Table, heldDays, size}
+use Rattle.method.specs.Table.{heldDays, size}
 use Rattle.record.specs.Layout.{bytes, pfRecord, dyRecord, Event, dyRecords, evRecords, Contents, fileOf, Fits}
 use Rattle.record.specs.declared.Read.the-variants.{File}
 use Rattle.record.specs.Reader.{numberAt, opensWith, isPF, isDY, dyDay, daysFrom, eventsFrom, firstIn, daysIn, eventStart, eventsIn, goodEnd}
@@ -25,8 +25,11 @@ first-of d (m ∷ ms) rs es z l e =
     let below : d < 256 ^ 2 = omega arith in
     let long = first-long (length ms) rs d e in
     let more = dyRecords (suc d) ms (drop (size d) rs) ++ evRecords es in
-    rw (append-assoc (dyRecord d m (take (size d) rs)) (dyRecords (suc d) ms (drop (size d) rs)) (evRecords es),
-    day-is d m (take (size d) rs) more long, day-day d m (take (size d) rs) more long below)
+    rw (
+      append-assoc (dyRecord d m (take (size d) rs)) (dyRecords (suc d) ms (drop (size d) rs)) (evRecords es),
+      day-is d m (take (size d) rs) more long,
+      day-day d m (take (size d) rs) more long below,
+    )
 
 module _ (c : Contents) (q : Fits c) where
   sized : length (c .table .readings) ≡ 96 * heldDays (c .table)
@@ -78,15 +81,30 @@ module _ (c : Contents) (q : Fits c) where
   end-back : goodEnd (fileOf c) ≡ length (fileOf c)
   unfolding goodEnd fileOf
   end-back =
-      omega
-      (arith, event-start-is (fileOf c) (eventsIn (fileOf c)), held-back, count-back, before-events, events-length (c .events),
-      length-append (pfRecord (c .participation) (c .portfolio) ++ dyRecords (c .table .first) (c .table .marks) (c .table .readings)) (evRecords (c .events)))
+      omega (
+        arith,
+        event-start-is (fileOf c) (eventsIn (fileOf c)),
+        held-back,
+        count-back,
+        before-events,
+        events-length (c .events),
+        length-append (pfRecord (c .participation) (c .portfolio) ++ dyRecords (c .table .first) (c .table .marks) (c .table .readings)) (evRecords (c .events)),
+      )
 
   pub reads-back : (readFile (fileOf c) ≡ File (shapeOf c)) × (contentsIn (fileOf c) ≡ c)
   unfolding readFile shapeIn shapeOf contentsIn tableIn
-  reads-back =
-      (rw (opens-back, eq-eqb (goodEnd (fileOf c)) (length (fileOf c)) end-back, participation-back, portfolio-back, first-back, held-back, count-back),
-      rw (participation-back, portfolio-back, first-back, held-back, count-back, rest-is, events-left,
+  reads-back = (
+    rw (opens-back, eq-eqb (goodEnd (fileOf c)) (length (fileOf c)) end-back, participation-back, portfolio-back, first-back, held-back, count-back),
+    rw (
+      participation-back,
+      portfolio-back,
+      first-back,
+      held-back,
+      count-back,
+      rest-is,
+      events-left,
       marks-back (evRecords (c .events)) (c .table .marks) (c .table .readings) (c .table .first) sized,
       readings-back (evRecords (c .events)) (c .table .marks) (c .table .readings) (c .table .first) sized (q .readings),
-      event-list-back (c .events) (q .fields)))
+      event-list-back (c .events) (q .fields),
+    ),
+  )

@@ -1,11 +1,11 @@
 -- Where a file is refused: every record before the place is as laid down, and what stands there is not, or is one too many.
 use Prim.Native.Nat.{ℕ, zero, suc, _+_, _*_, _<_, _≤_}
-use mathlib.Core.Path.{_≡_, refl, sym, _∙_, ap}
-use mathlib.Core.Bool.{Bool, true, false, cond, _&&_}
+use mathlib.Core.Path.{_≡_, refl, sym, _∙_}
+use mathlib.Core.Bool.{Bool, true, false, cond}
 use mathlib.Core.List.{List}
 use mathlib.Core.Logic.{_⊎_, inl, inr}
 use native.Mathlib.Omega.{arith}
-use native.Mathlib.Nat.{add-zero, mul-zero, add-suc, mul-suc}
+use native.Mathlib.Nat.{add-zero, mul-zero, mul-suc}
 use borrow.Author.Tests.{leb-true, eqb-false}
 use lib.Arith.{lt-of-le-ne}
 use lib.ListN.{length, drop, length-drop}
@@ -14,8 +14,9 @@ use lib.Dec.{leb, eqb}
 use Rattle.lists.proofs.Bools.{both}
 use Rattle.record.specs.Layout.{ascii}
 use Rattle.record.specs.declared.Read.the-variants.{File, Refused}
-use Rattle.record.specs.Reader.{opensWith, isPF, isDY, isEV, isDYof, dyLength, dyDay, run, daysFrom, eventsFrom, firstIn, daysIn, eventStart, eventsIn}
+use Rattle.record.specs.Reader.{opensWith, isPF, isEV, isDYof, dyLength, run, daysFrom, eventsFrom, firstIn, daysIn, eventStart, eventsIn}
 use Rattle.record.specs.Reader.{goodEnd, shapeIn, readFile}
+use Rattle.record.specs.Laws.{StopsAt}
 use Rattle.record.proofs.Records.{dy-length, day-whole, day-of-is, event-whole}
 use Rattle.record.proofs.Runs.{run-more, run-stops, run-full, run-most}
 use Rattle.record.proofs.Files.{event-start-is}
@@ -25,7 +26,7 @@ module _ (good : ℕ → List ℕ → Bool) (recordLength : ℕ → ℕ) (w : �
   one-more : (most i : ℕ) (left : List ℕ) → good i left ≡ true → run good recordLength (suc most) i left ≡ suc (run good recordLength most (suc i) (drop w left))
   one-more most i left t = run-more good recordLength most i left t ∙ (rw (same i))
 
-  each : (most i : ℕ) (left : List ℕ) (k : ℕ) → k < run good recordLength most i left → good (i + k) (drop (w * k) left) ≡ true
+  pub each : (most i : ℕ) (left : List ℕ) (k : ℕ) → k < run good recordLength most i left → good (i + k) (drop (w * k) left) ≡ true
   each zero i left k h = absurd (omega (arith, run-full good recordLength i left))
   each (suc most) i left k h = go (good i left) refl k h (each most (suc i) (drop w left))
     where
@@ -40,7 +41,7 @@ module _ (good : ℕ → List ℕ → Bool) (recordLength : ℕ → ℕ) (w : �
           let far : w * suc k ≡ w + w * k = omega (arith, mul-suc w k) in
           rw (a, far, ← drop-drop (w * k) w left) (later k o)
 
-  next : (most i : ℕ) (left : List ℕ) → run good recordLength most i left < most
+  pub next : (most i : ℕ) (left : List ℕ) → run good recordLength most i left < most
       → good (i + run good recordLength most i left) (drop (w * run good recordLength most i left) left) ≡ false
   next zero i left h = absurd (omega arith)
   next (suc most) i left h = go (good i left) refl h (next most (suc i) (drop w left))
@@ -57,7 +58,7 @@ module _ (good : ℕ → List ℕ → Bool) (recordLength : ℕ → ℕ) (w : �
           let far : w * suc k ≡ w + w * k = omega (arith, mul-suc w k) in
           rw (one-more most i left e, a, far, ← drop-drop (w * k) w left) (later o)
 
-  fits : ((i : ℕ) (left : List ℕ) → good i left ≡ true → w ≤ length left) → (most i : ℕ) (left : List ℕ) → w * run good recordLength most i left ≤ length left
+  pub fits : ((i : ℕ) (left : List ℕ) → good i left ≡ true → w ≤ length left) → (most i : ℕ) (left : List ℕ) → w * run good recordLength most i left ≤ length left
   fits whole zero i left = rw (run-full good recordLength i left, mul-zero) (omega arith)
   fits whole (suc most) i left = go (good i left) refl (fits whole most (suc i) (drop w left))
     where
@@ -66,17 +67,6 @@ module _ (good : ℕ → List ℕ → Bool) (recordLength : ℕ → ℕ) (w : �
       go true e h =
           rw (one-more most i left e, mul-suc)
           (omega (arith, length-drop w left, whole i left e))
-
-pub record StopsAt (file : List ℕ) (at : ℕ) : Type 0 where
-  pub opens : isPF file ≡ true
-  pub place : at ≡ 8 + 390 * daysIn file + 8 * eventsIn file
-  pub days : daysIn file ≤ 128
-  pub each-day : (k : ℕ) → k < daysIn file → isDYof (firstIn file + k) (drop (8 + 390 * k) file) ≡ true
-  pub events : eventsIn file ≤ 64
-  pub each-event : (i : ℕ) → i < eventsIn file → isEV (drop (8 + 390 * daysIn file + 8 * i) file) ≡ true
-  pub something : at < length file
-  pub no-day : daysIn file < 128 → eventsIn file ≡ 0 → isDYof (firstIn file + daysIn file) (drop at file) ≡ false
-  pub no-event : eventsIn file < 64 → isEV (drop at file) ≡ false
 
 stops : (file : List ℕ) (at : ℕ) → isPF file ≡ true → at ≡ 8 + 390 * daysIn file + 8 * eventsIn file → (at ≡ length file → ⊥) → StopsAt file at
 unfolding isPF daysIn daysFrom eventsIn eventsFrom

@@ -1,5 +1,5 @@
 -- 01, "Record file, listing, host entry": the record file by what writing it yields.
-use Prim.Native.Nat.{ℕ, zero, suc, _+_, _*_, _/_, _%_, _≤_, _<_, _^_}
+use Prim.Native.Nat.{ℕ, zero, suc, _+_, _/_, _%_, _≤_, _<_, _^_}
 use Prim.Native.Char.{code}
 use Prim.Native.String.{String, [] as empty, _∷_ as _then_}
 use mathlib.Core.Path.{_≡_}
@@ -66,6 +66,10 @@ fileOf c =
     ++ dyRecords (c .table .first) (c .table .marks) (c .table .readings)
     ++ evRecords (c .events)
 
+-- every number of a list is below a bound
+abbrev pub Below : ℕ → List ℕ → Type 0
+Below bound l = (i : ℕ) → getD l i 0 < bound
+
 unfoldable pub fitsEvent : Event → Bool
 fitsEvent v = ltb (v .day) (256 ^ 2) && ltb (v .s) 256 && ltb (v .e) 256 && ltb (v .n) 256
 
@@ -76,8 +80,8 @@ pub record Fits (c : Contents) : Type 0 where
   pub days : heldDays (c .table) ≤ 128
   pub last : c .table .first + heldDays (c .table) ≤ 256 ^ 2
   pub none : heldDays (c .table) ≡ 0 → c .table .first ≡ 0
-  pub marks : (i : ℕ) → getD (c .table .marks) i 0 < 256
+  pub marks : Below 256 (c .table .marks)
   pub size : length (c .table .readings) ≡ offset (c .table .first) (heldDays (c .table))
-  pub readings : (i : ℕ) → getD (c .table .readings) i 0 < 256 ^ 4
+  pub readings : Below (256 ^ 4) (c .table .readings)
   pub events : length (c .events) ≤ 64
   pub fields : all fitsEvent (c .events) ≡ true

@@ -8,10 +8,6 @@ use Rattle.record.proofs.Records.{size-is, day-whole, day-of-is}
 use Rattle.record.proofs.Runs.{Counted, counted-none, counted-more, counted-stops, counted-full}
 use Rattle.record.proofs.count_days.Statement.{statement}
 use Rattle.record.proofs.count_days.Tie as tie
-use Rattle.record.proofs.count_days.Reads as reads
-use Rattle.record.proofs.count_days.Lts as lts
-use Rattle.record.proofs.day_start.Reads as day-start-reads
-use Rattle.record.proofs.is_day_of.Reads as is-day-of-reads
 
 abbrev Inv-loop : tie.InvT-loop
 Inv-loop file first days₀ days = Counted isDYof dyLength 128 first file 8 days (8 + 390 * days)
@@ -19,31 +15,24 @@ Inv-loop file first days₀ days = Counted isDYof dyLength 128 first file 8 days
 abbrev μ-loop : tie.MeasureT-loop
 μ-loop file first days₀ days = 128 - days
 
--- src/lib.rt:152:5
 loop-holds : tie.Need-loop-holds Inv-loop μ-loop
 loop-holds c = counted-none isDYof dyLength 128 (c .before .args .first) (c .before .args .file .now) 8 (omega arith)
 
--- src/lib.rt:153:28
 day-start-requires : tie.Need-day-start-requires Inv-loop μ-loop
 day-start-requires c κs = omega arith
 
--- src/lib.rt:153:45
 add-is-day-of : tie.Need-add-is-day-of Inv-loop μ-loop
 add-is-day-of c = omega arith
 
--- src/lib.rt:153:12
 is-day-of-requires : tie.Need-is-day-of-requires Inv-loop μ-loop
 is-day-of-requires c κs = omega arith
 
--- src/lib.rt:154:13
 add-days : tie.Need-add-days Inv-loop μ-loop
 add-days c = omega arith
 
--- src/lib.rt:152:5
 loop-less : tie.Need-loop-less Inv-loop μ-loop
 loop-less c = omega arith
 
--- src/lib.rt:152:5
 loop-again : tie.Need-loop-again Inv-loop μ-loop
 loop-again c =
     let a = c .before .before .before .before .before .before .args in
@@ -52,7 +41,6 @@ loop-again c =
     let whole = day-whole (drop (8 + 390 * k) (a .file .now)) (day-of-is (a .first + k) (drop (8 + 390 * k) (a .file .now)) good) in
     counted-more isDYof dyLength (c .before .before .before .before .loop .inv) (8 + 390 * (k + 1)) (omega arith) good (omega (arith, whole, size-is (a .first + k))) (omega (arith, size-is (a .first + k)))
 
--- src/lib.rt:156:13
 returns : tie.Need-returns Inv-loop μ-loop
 unfolding daysFrom
 returns c =
@@ -60,7 +48,6 @@ returns c =
     let bad = rw (c .before .before .day-start .ensures) at (sym (c .before .is-day-of .ensures) ∙ c .if1 .left) in
     (counted-stops isDYof dyLength q bad, omega arith, omega arith)
 
--- src/lib.rt:147:1
 returns-2 : tie.Need-returns-2 Inv-loop μ-loop
 unfolding daysFrom
 returns-2 c = let q = c .before .loop .inv in (counted-full isDYof dyLength q (omega arith), omega arith, omega arith)

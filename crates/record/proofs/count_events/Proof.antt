@@ -9,9 +9,6 @@ use Rattle.record.proofs.Records.{event-whole}
 use Rattle.record.proofs.Runs.{Counted, counted-none, counted-more, counted-stops, counted-full}
 use Rattle.record.proofs.count_events.Statement.{statement}
 use Rattle.record.proofs.count_events.Tie as tie
-use Rattle.record.proofs.count_events.Reads as reads
-use Rattle.record.proofs.count_events.Lts as lts
-use Rattle.record.proofs.is_event.Reads as is-event-reads
 
 abbrev Inv-loop : tie.InvT-loop
 Inv-loop file start events₀ events = Counted (λ i. isEV) (λ i. 8) 64 0 file start events (start + 8 * events)
@@ -19,35 +16,27 @@ Inv-loop file start events₀ events = Counted (λ i. isEV) (λ i. 8) 64 0 file 
 abbrev μ-loop : tie.MeasureT-loop
 μ-loop file start events₀ events = 64 - events
 
--- src/lib.rt:168:5
 loop-holds : tie.Need-loop-holds Inv-loop μ-loop
 loop-holds c = rw add-zero (counted-none (λ i. isEV) (λ i. 8) 64 0 (c .before .args .file .now) (c .before .args .start) (omega arith))
 
--- src/lib.rt:169:51
 cast-is-event : tie.Need-cast-is-event Inv-loop μ-loop
 cast-is-event c = omega arith
 
--- src/lib.rt:169:35
 mul-is-event : tie.Need-mul-is-event Inv-loop μ-loop
 mul-is-event c = omega arith
 
--- src/lib.rt:169:27
 add-is-event : tie.Need-add-is-event Inv-loop μ-loop
 add-is-event c = omega arith
 
--- src/lib.rt:169:12
 is-event-requires : tie.Need-is-event-requires Inv-loop μ-loop
 is-event-requires c κs = omega arith
 
--- src/lib.rt:170:13
 add-events : tie.Need-add-events Inv-loop μ-loop
 add-events c = omega arith
 
--- src/lib.rt:168:5
 loop-less : tie.Need-loop-less Inv-loop μ-loop
 loop-less c = omega arith
 
--- src/lib.rt:168:5
 loop-again : tie.Need-loop-again Inv-loop μ-loop
 loop-again c =
     let a = c .before .before .before .before .before .args in
@@ -56,14 +45,12 @@ loop-again c =
     let whole = event-whole (drop (a .start + 8 * k) (a .file .now)) good in
     counted-more (λ i. isEV) (λ i. 8) (c .before .before .before .loop .inv) (a .start + 8 * (k + 1)) (omega arith) good whole (omega arith)
 
--- src/lib.rt:172:13
 returns : tie.Need-returns Inv-loop μ-loop
 unfolding eventsFrom
 returns c =
     let q = c .before .before .before .loop .inv in
     (counted-stops (λ i. isEV) (λ i. 8) q (sym (c .before .is-event .ensures) ∙ c .if1 .left), omega arith, omega arith)
 
--- src/lib.rt:163:1
 returns-2 : tie.Need-returns-2 Inv-loop μ-loop
 unfolding eventsFrom
 returns-2 c = let q = c .before .loop .inv in (counted-full (λ i. isEV) (λ i. 8) q (omega arith), omega arith, omega arith)

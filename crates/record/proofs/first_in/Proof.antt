@@ -7,28 +7,19 @@ use Rattle.record.proofs.Files.{first-named, first-none}
 use borrow.Author.Needs.{needs}
 use Rattle.record.proofs.first_in.Statement.{statement}
 use Rattle.record.proofs.first_in.Tie as tie
-use Rattle.record.proofs.first_in.Reads as reads
-use Rattle.record.proofs.first_in.Lts as lts
-use Rattle.record.proofs.is_day.Reads as is-day-reads
-use Rattle.record.proofs.number2.Reads as number2-reads
 
--- src/lib.rt:131:8
 is-day-requires : tie.Need-is-day-requires
 is-day-requires c κs = search needs
 
--- src/lib.rt:132:23
 add-number2 : tie.Need-add-number2
 add-number2 c = search needs
 
--- src/lib.rt:132:9
 number2-requires : tie.Need-number2-requires
 number2-requires c κs = let a = c .before .before .before .args in omega (arith, length-drop 8 (a .file .now), day-whole (drop 8 (a .file .now)) (sym (c .before .is-day .ensures) ∙ c .if1 .taken))
 
--- src/lib.rt:127:1
 returns : tie.Need-returns
 returns c = let a = c .before .before .before .before .args in (c .number2 .ensures .0 ∙ first-named (a .file .now) (sym (c .before .before .is-day .ensures) ∙ c .before .if1 .taken), c .number2 .ensures .1)
 
--- src/lib.rt:127:1
 returns-2 : tie.Need-returns-2
 returns-2 c = (first-none _ (sym (c .before .is-day .ensures) ∙ c .if1 .left), omega arith)
 

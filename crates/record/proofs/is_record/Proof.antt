@@ -5,35 +5,25 @@ use Rattle.record.proofs.Records.{record-cut, record-foreign, record-ze
 use borrow.Author.Needs.{needs}
 use Rattle.record.proofs.is_record.Statement.{statement}
 use Rattle.record.proofs.is_record.Tie as tie
-use Rattle.record.proofs.is_record.Reads as reads
-use Rattle.record.proofs.is_record.Lts as lts
-use Rattle.record.proofs.opens.Reads as opens-reads
 
--- src/lib.rt:88:8
 sub-if1 : tie.Need-sub-if1
 sub-if1 c = search needs
 
--- src/lib.rt:89:9
 returns : tie.Need-returns
 returns c = let a = c .before .before .args in record-cut (a .file .now) (a .mark .now) (a .at) (a .size) (a .blank) (omega arith) (omega arith)
 
--- src/lib.rt:91:8
 opens-requires : tie.Need-opens-requires
 opens-requires c κs = search needs
 
--- src/lib.rt:92:14
 add-result : tie.Need-add-result
 add-result c = search needs
 
--- src/lib.rt:92:9
 shared-slice-read-result : tie.Need-shared-slice-read-result
 shared-slice-read-result c = search needs
 
--- src/lib.rt:84:1
 returns-2 : tie.Need-returns-2
 returns-2 c = let a = c .before .before .before .before .before .args in record-zero (a .file .now) (a .mark .now) (a .at) (a .size) (a .blank) (omega arith) (omega arith) (sym (c .before .before .opens .ensures) ∙ c .before .if2 .taken)
 
--- src/lib.rt:84:1
 returns-3 : tie.Need-returns-3
 returns-3 c = let a = c .before .before .before .before .args in record-foreign (a .file .now) (a .mark .now) (a .at) (a .size) (a .blank) (omega arith) (omega arith) (sym (c .before .opens .ensures) ∙ c .if2 .left)
 

@@ -7,51 +7,37 @@ use Rattle.record.proofs.Loading.{load-refused, days-held, marks-held, 
 use borrow.Author.Needs.{needs}
 use Rattle.record.proofs.load.Statement.{statement}
 use Rattle.record.proofs.load.Tie as tie
-use Rattle.record.proofs.load.Reads as reads
-use Rattle.record.proofs.load.Lts as lts
-use Rattle.record.proofs.load_marks.Reads as load-marks-reads
-use Rattle.record.proofs.load_readings.Reads as load-readings-reads
-use Rattle.record.proofs.read_file.Reads as read-file-reads
 
--- src/lib.rt:275:11
 read-file-requires : tie.Need-read-file-requires
 read-file-requires c κs = search needs
 
--- src/lib.rt:276:23
 enum-known-at : tie.Need-enum-known-at
 enum-known-at c = search needs
 
--- src/lib.rt:277:20
 enum-known-shape : tie.Need-enum-known-shape
 enum-known-shape c = search needs
 
--- src/lib.rt:279:30
 cast-if1 : tie.Need-cast-if1
 cast-if1 c = search needs
 
--- src/lib.rt:280:17
 returns : tie.Need-returns
 returns c =
     let a = c .before .before .before .before .before .before .before .before .args in
     let r = sym (c .before .before .before .before .read-file .ensures) ∙ c .before .before .shape .given .1 in
     (marks-too-few (a .file .now) r (length (a .marks .now)) (length (a .readings .now)) (omega arith), (refl, refl))
 
--- src/lib.rt:282:45
 cast-if2 : tie.Need-cast-if2
 cast-if2 c = search needs
 
--- src/lib.rt:282:33
 mul-if2 : tie.Need-mul-if2
 mul-if2 c = search needs
 
--- src/lib.rt:283:17
 returns-2 : tie.Need-returns-2
 returns-2 c =
     let a = c .before .before .before .before .before .before .before .before .before .args in
     let r = sym (c .before .before .before .before .before .read-file .ensures) ∙ c .before .before .before .shape .given .1 in
     (readings-too-few (a .file .now) r (length (a .marks .now)) (length (a .readings .now)) (omega arith), (refl, refl))
 
--- src/lib.rt:285:13
 load-marks-requires : tie.Need-load-marks-requires
 load-marks-requires c κs =
     let a = c .before .before .before .before .before .before .before .before .before .before .args in
@@ -59,7 +45,6 @@ load-marks-requires c κs =
     let q = shape-fits (a .file .now) _ r in
     (days-held (a .file .now) r, omega arith, omega arith, omega arith)
 
--- src/lib.rt:286:13
 load-readings-requires : tie.Need-load-readings-requires
 load-readings-requires c κs =
     let a = c .before .before .before .before .before .before .before .before .before .before .before .before .before .before .args in
@@ -67,21 +52,17 @@ load-readings-requires c κs =
     let q = shape-fits (a .file .now) _ r in
     (days-held (a .file .now) r, omega arith, omega arith, omega arith)
 
--- src/lib.rt:270:1
 returns-3 : tie.Need-returns-3
 returns-3 c =
     let a = c .before .before .before .before .before .before .before .args in
     (load-refused (a .file .now) (length (a .marks .now)) (length (a .readings .now)) (sym (c .before .before .before .read-file .ensures) ∙ c .before .at .given .1), (refl, refl))
 
--- src/lib.rt:270:1
 same-length : tie.Need-same-length
 same-length c = search needs
 
--- src/lib.rt:270:1
 same-length-2 : tie.Need-same-length-2
 same-length-2 c = search needs
 
--- src/lib.rt:270:1
 returns-4 : tie.Need-returns-4
 returns-4 c =
     let a = c .before .before .before .before .before .before .before .before .before .before .before .before .before .before .before .before .before .args in

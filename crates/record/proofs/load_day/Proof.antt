@@ -1,17 +1,13 @@
 -- `record::load_day` meets its contract. The loop's invariant: the readings written and those left to write are the whole (`Filling`).
 use Prim.Native.Nat.{_+_, _*_, _-_, _≤_}
-use mathlib.Core.Path.{sym, _∙_}
 use native.Mathlib.Omega.{arith}
-use native.Mathlib.Nat.{sub-zero, add-zero}
+use native.Mathlib.Nat.{add-zero}
 use lib.ListN.{drop}
 use Rattle.record.specs.Reader.{numbers}
 use Rattle.record.proofs.Filling.{Filling, filling-none, filling-one}
 use Rattle.record.proofs.Loading.{numbers-more, day-loaded}
 use Rattle.record.proofs.load_day.Statement.{statement}
 use Rattle.record.proofs.load_day.Tie as tie
-use Rattle.record.proofs.load_day.Reads as reads
-use Rattle.record.proofs.load_day.Lts as lts
-use Rattle.record.proofs.number4.Reads as number4-reads
 
 abbrev Inv-loop : tie.InvT-loop
 Inv-loop file at readings₀ q₀ readings q = (q ≤ 96) × Filling readings₀ (numbers 96 (drop at file)) readings (numbers (96 - q) (drop (at + 4 * q) file)) q
@@ -19,39 +15,30 @@ Inv-loop file at readings₀ q₀ readings q = (q ≤ 96) × Filling readings₀
 abbrev μ-loop : tie.MeasureT-loop
 μ-loop file at readings₀ q₀ readings q = 96 - q
 
--- src/lib.rt:248:5
 loop-holds : tie.Need-loop-holds Inv-loop μ-loop
 loop-holds c = (omega arith, rw (add-zero) (filling-none _ _))
 
--- src/lib.rt:249:42
 mul-number4 : tie.Need-mul-number4 Inv-loop μ-loop
 mul-number4 c = omega arith
 
--- src/lib.rt:249:37
 add-number4 : tie.Need-add-number4 Inv-loop μ-loop
 add-number4 c = omega arith
 
--- src/lib.rt:249:23
 number4-requires : tie.Need-number4-requires Inv-loop μ-loop
 number4-requires c κs = omega arith
 
--- src/lib.rt:249:9
 mul-readings : tie.Need-mul-readings Inv-loop μ-loop
 mul-readings c = omega arith
 
--- src/lib.rt:249:9
 slice-write-readings : tie.Need-slice-write-readings Inv-loop μ-loop
 slice-write-readings c = omega arith
 
--- src/lib.rt:250:9
 add-q : tie.Need-add-q Inv-loop μ-loop
 add-q c = omega arith
 
--- src/lib.rt:248:5
 loop-less : tie.Need-loop-less Inv-loop μ-loop
 loop-less c = omega arith
 
--- src/lib.rt:248:5
 loop-again : tie.Need-loop-again Inv-loop μ-loop
 loop-again c =
     let a = c .before .before .before .before .before .args in
@@ -62,11 +49,9 @@ loop-again c =
           (filling-one (f .1) _ _ (omega arith) (numbers-more (a .file .now) (a .at + 4 * q) (a .at + 4 * (q + 1)) q 96 (omega arith) (omega arith))),
     )
 
--- src/lib.rt:243:1
 same-length : tie.Need-same-length Inv-loop μ-loop
 same-length c = c .before .loop .inv .1 .long
 
--- src/lib.rt:243:1
 returns : tie.Need-returns Inv-loop μ-loop
 returns c =
     let a = c .before .before .before .before .args in

@@ -1,6 +1,5 @@
 -- `record::load_marks` meets its contract. The loop's invariant: the marks written and those left to write are the whole (`Filling`).
 use Prim.Native.Nat.{_+_, _*_, _-_, _≤_}
-use mathlib.Core.Path.{sym, _∙_}
 use native.Mathlib.Omega.{arith}
 use native.Mathlib.Nat.{sub-zero, add-zero}
 use lib.ListN.{drop}
@@ -9,9 +8,6 @@ use Rattle.record.proofs.Filling.{Filling, filling-none, filling-one}
 use Rattle.record.proofs.Loading.{marks-more, marks-loaded}
 use Rattle.record.proofs.load_marks.Statement.{statement}
 use Rattle.record.proofs.load_marks.Tie as tie
-use Rattle.record.proofs.load_marks.Reads as reads
-use Rattle.record.proofs.load_marks.Lts as lts
-use Rattle.record.proofs.day_start.Reads as day-start-reads
 
 abbrev Inv-loop : tie.InvT-loop
 Inv-loop file days marks₀ k₀ marks k = (k ≤ days) × Filling marks₀ (marksFrom days (firstIn file) (drop 8 file)) marks (marksFrom (days - k) (firstIn file + k) (drop (8 + 390 * k) file)) k
@@ -19,39 +15,30 @@ Inv-loop file days marks₀ k₀ marks k = (k ≤ days) × Filling marks₀ (mar
 abbrev μ-loop : tie.MeasureT-loop
 μ-loop file days marks₀ k₀ marks k = days - k
 
--- src/lib.rt:236:5
 loop-holds : tie.Need-loop-holds Inv-loop μ-loop
 loop-holds c = (omega arith, rw (sub-zero, add-zero) (filling-none _ _))
 
--- src/lib.rt:237:34
 day-start-requires : tie.Need-day-start-requires Inv-loop μ-loop
 day-start-requires c κs = omega arith
 
--- src/lib.rt:237:34
 add-marks : tie.Need-add-marks Inv-loop μ-loop
 add-marks c = omega arith
 
--- src/lib.rt:237:29
 shared-slice-read-marks : tie.Need-shared-slice-read-marks Inv-loop μ-loop
 shared-slice-read-marks c = omega arith
 
--- src/lib.rt:237:15
 cast-marks : tie.Need-cast-marks Inv-loop μ-loop
 cast-marks c = omega arith
 
--- src/lib.rt:237:9
 slice-write-marks : tie.Need-slice-write-marks Inv-loop μ-loop
 slice-write-marks c = omega arith
 
--- src/lib.rt:238:9
 add-k : tie.Need-add-k Inv-loop μ-loop
 add-k c = omega arith
 
--- src/lib.rt:236:5
 loop-less : tie.Need-loop-less Inv-loop μ-loop
 loop-less c = omega arith
 
--- src/lib.rt:236:5
 loop-again : tie.Need-loop-again Inv-loop μ-loop
 loop-again c =
     let a = c .before .before .before .before .before .before .args in
@@ -62,11 +49,9 @@ loop-again c =
           (filling-one (q .1) _ _ (omega arith) (marks-more (a .file .now) (8 + 390 * k) (8 + 390 * (k + 1)) k (a .days) (firstIn (a .file .now)) (omega arith) (omega arith))),
     )
 
--- src/lib.rt:231:1
 same-length : tie.Need-same-length Inv-loop μ-loop
 same-length c = c .before .loop .inv .1 .long
 
--- src/lib.rt:231:1
 returns : tie.Need-returns Inv-loop μ-loop
 returns c =
     let a = c .before .before .before .before .args in

@@ -1,6 +1,6 @@
 -- `record::load_readings` meets its contract. The loop's invariant: the days written and those left to write are the whole (`Filling`).
 use Prim.Native.Nat.{_+_, _*_, _-_, _≤_}
-use mathlib.Core.Path.{sym, _∙_}
+use mathlib.Core.Path.{_∙_}
 use native.Mathlib.Omega.{arith}
 use native.Mathlib.Nat.{sub-zero, add-zero}
 use lib.ListN.{drop}
@@ -10,10 +10,6 @@ use Rattle.record.proofs.Filling.{Filling, filling-none}
 use Rattle.record.proofs.Loading.{day-put, readings-loaded}
 use Rattle.record.proofs.load_readings.Statement.{statement}
 use Rattle.record.proofs.load_readings.Tie as tie
-use Rattle.record.proofs.load_readings.Reads as reads
-use Rattle.record.proofs.load_readings.Lts as lts
-use Rattle.record.proofs.day_start.Reads as day-start-reads
-use Rattle.record.proofs.load_day.Reads as load-day-reads
 
 abbrev Inv-loop : tie.InvT-loop
 Inv-loop file days readings₀ k₀ readings k = (k ≤ days) × Filling readings₀ (readingsFrom days (firstIn file) (drop 8 file)) readings (readingsFrom (days - k) (firstIn file + k) (drop (8 + 390 * k) file)) (96 * k)
@@ -21,59 +17,45 @@ Inv-loop file days readings₀ k₀ readings k = (k ≤ days) × Filling reading
 abbrev μ-loop : tie.MeasureT-loop
 μ-loop file days readings₀ k₀ readings k = days - k
 
--- src/lib.rt:260:5
 loop-holds : tie.Need-loop-holds Inv-loop μ-loop
 loop-holds c = (omega arith, rw (sub-zero, add-zero) (filling-none _ _))
 
--- src/lib.rt:261:33
 cast-start : tie.Need-cast-start Inv-loop μ-loop
 cast-start c = omega arith
 
--- src/lib.rt:261:21
 mul-start : tie.Need-mul-start Inv-loop μ-loop
 mul-start c = omega arith
 
--- src/lib.rt:262:19
 add-end : tie.Need-add-end Inv-loop μ-loop
 add-end c = omega arith
 
--- src/lib.rt:263:24
 day-start-requires : tie.Need-day-start-requires Inv-loop μ-loop
 day-start-requires c κs = omega arith
 
--- src/lib.rt:263:24
 add-load-day : tie.Need-add-load-day Inv-loop μ-loop
 add-load-day c = omega arith
 
--- src/lib.rt:263:56
 mul-load-day : tie.Need-mul-load-day Inv-loop μ-loop
 mul-load-day c = omega arith
 
--- src/lib.rt:263:56
 sub-load-day : tie.Need-sub-load-day Inv-loop μ-loop
 sub-load-day c = omega arith
 
--- src/lib.rt:263:56
 part-load-day-start : tie.Need-part-load-day-start Inv-loop μ-loop
 part-load-day-start c = omega arith
 
--- src/lib.rt:263:56
 part-load-day-end : tie.Need-part-load-day-end Inv-loop μ-loop
 part-load-day-end c = omega arith
 
--- src/lib.rt:263:9
 load-day-requires : tie.Need-load-day-requires Inv-loop μ-loop
 load-day-requires c κs = (omega arith, mid-len (96 * c .before .before .before .loop .k) (96 * c .before .before .before .loop .k + 96) (c .before .before .before .loop .readings) (omega arith) ∙ omega arith)
 
--- src/lib.rt:264:9
 add-k : tie.Need-add-k Inv-loop μ-loop
 add-k c = omega arith
 
--- src/lib.rt:260:5
 loop-less : tie.Need-loop-less Inv-loop μ-loop
 loop-less c = omega arith
 
--- src/lib.rt:260:5
 loop-again : tie.Need-loop-again Inv-loop μ-loop
 loop-again c =
     let a = c .before .before .before .before .before .before .before .before .before .args in
@@ -81,11 +63,9 @@ loop-again c =
     let q = c .before .before .before .before .before .before .loop .inv in
     (omega arith, day-put (a .file .now) k (a .days) (firstIn (a .file .now)) (q .1) (omega arith) (omega arith) (c .before .before .before .before .day-start .ensures) (c .before .before .load-day .ensures))
 
--- src/lib.rt:255:1
 same-length : tie.Need-same-length Inv-loop μ-loop
 same-length c = c .before .loop .inv .1 .long
 
--- src/lib.rt:255:1
 returns : tie.Need-returns Inv-loop μ-loop
 returns c =
     let a = c .before .before .before .before .args in

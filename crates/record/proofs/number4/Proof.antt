@@ -4,31 +4,22 @@ use Rattle.record.proofs.Numbers.{number-four}
 use borrow.Author.Needs.{needs}
 use Rattle.record.proofs.number4.Statement.{statement}
 use Rattle.record.proofs.number4.Tie as tie
-use Rattle.record.proofs.number4.Reads as reads
-use Rattle.record.proofs.number4.Lts as lts
-use Rattle.record.proofs.number2.Reads as number2-reads
 
--- src/lib.rt:72:5
 number2-requires : tie.Need-number2-requires
 number2-requires c κs = search needs
 
--- src/lib.rt:72:47
 add-number2 : tie.Need-add-number2
 add-number2 c = search needs
 
--- src/lib.rt:72:33
 number2-requires-2 : tie.Need-number2-requires-2
 number2-requires-2 c κs = search needs
 
--- src/lib.rt:72:25
 mul-result : tie.Need-mul-result
 mul-result c = search needs
 
--- src/lib.rt:72:5
 add-result : tie.Need-add-result
 add-result c = search needs
 
--- src/lib.rt:68:1
 returns : tie.Need-returns
 returns c = let a = c .before .before .before .args in omega (arith, number-four (a .at) (a .file .now))
 

@@ -5,75 +5,51 @@ use Rattle.record.proofs.Files.{file-cut, file-foreign, file-good, file
 use borrow.Author.Needs.{needs}
 use Rattle.record.proofs.read_file.Statement.{statement}
 use Rattle.record.proofs.read_file.Tie as tie
-use Rattle.record.proofs.read_file.Reads as reads
-use Rattle.record.proofs.read_file.Lts as lts
-use Rattle.record.proofs.count_days.Reads as count-days-reads
-use Rattle.record.proofs.count_events.Reads as count-events-reads
-use Rattle.record.proofs.day_start.Reads as day-start-reads
-use Rattle.record.proofs.first_in.Reads as first-in-reads
-use Rattle.record.proofs.number2.Reads as number2-reads
-use Rattle.record.proofs.number4.Reads as number4-reads
-use Rattle.record.proofs.opens.Reads as opens-reads
 
--- src/lib.rt:181:9
 returns : tie.Need-returns
 returns c = file-cut (c .before .before .args .file .now) (omega arith)
 
--- src/lib.rt:183:8
 opens-requires : tie.Need-opens-requires
 opens-requires c κs = search needs
 
--- src/lib.rt:184:13
 first-in-requires : tie.Need-first-in-requires
 first-in-requires c κs = search needs
 
--- src/lib.rt:185:13
 count-days-requires : tie.Need-count-days-requires
 count-days-requires c κs = search needs
 
--- src/lib.rt:186:13
 day-start-requires : tie.Need-day-start-requires
 day-start-requires c κs = search needs
 
--- src/lib.rt:187:13
 count-events-requires : tie.Need-count-events-requires
 count-events-requires c κs = search needs
 
--- src/lib.rt:188:43
 cast-end : tie.Need-cast-end
 cast-end c = search needs
 
--- src/lib.rt:188:27
 mul-end : tie.Need-mul-end
 mul-end c = search needs
 
--- src/lib.rt:188:19
 add-end : tie.Need-add-end
 add-end c = search needs
 
--- src/lib.rt:191:32
 number2-requires : tie.Need-number2-requires
 number2-requires c κs = search needs
 
--- src/lib.rt:192:28
 number4-requires : tie.Need-number4-requires
 number4-requires c κs = search needs
 
--- src/lib.rt:198:27
 cast-t20 : tie.Need-cast-t20
 cast-t20 c = search needs
 
--- src/lib.rt:177:1
 returns-2 : tie.Need-returns-2
 returns-2 c =
     file-good (c .before .before .before .before .before .before .before .before .before .before .before .before .args .file .now) (c .before .before .before .before .before .before .first-in .ensures .0) (c .before .before .before .before .before .count-days .ensures .0) (c .before .before .before .before .day-start .ensures) (c .before .before .before .count-events .ensures .0) (omega arith) (sym (c .before .before .before .before .before .before .before .before .opens .ensures) ∙ c .before .before .before .before .before .before .before .if2 .taken) (c .before .before .if3 .taken) (c .before .number2 .ensures .0) (c .number4 .ensures)
 
--- src/lib.rt:177:1
 returns-3 : tie.Need-returns-3
 returns-3 c =
     file-bad (c .before .before .before .before .before .before .before .before .before .before .args .file .now) (c .before .before .before .before .first-in .ensures .0) (c .before .before .before .count-days .ensures .0) (c .before .before .day-start .ensures) (c .before .count-events .ensures .0) (omega arith) (sym (c .before .before .before .before .before .before .opens .ensures) ∙ c .before .before .before .before .before .if2 .taken) (c .if3 .left)
 
--- src/lib.rt:177:1
 returns-4 : tie.Need-returns-4
 returns-4 c = file-foreign (c .before .before .before .before .before .args .file .now) (omega arith) (sym (c .before .opens .ensures) ∙ c .if2 .left)
 
