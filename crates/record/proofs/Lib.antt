@@ -12,3 +12,4 @@ pub mod WrittenAgain
 pub mod RefusedWhere
 pub mod Limits
 pub mod Laws
+pub mod Checks

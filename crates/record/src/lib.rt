@@ -197,7 +197,8 @@ pub fn read_file(file: &[u8]) -> Read
                 events,
             })
         } else {
-            Read::Refused(end as u32)
+            let at = end as u32;
+            Read::Refused(at)
         }
     } else {
         Read::Refused(0)

@@ -39,8 +39,8 @@ number2-requires c κs = search needs
 number4-requires : tie.Need-number4-requires
 number4-requires c κs = search needs
 
-cast-t20 : tie.Need-cast-t20
-cast-t20 c = search needs
+cast-at : tie.Need-cast-at
+cast-at c = search needs
 
 returns-2 : tie.Need-returns-2
 returns-2 c =
@@ -68,7 +68,7 @@ read-file-spec =
     add-end
     number2-requires
     number4-requires
-    cast-t20
+    cast-at
     returns-2
     returns-3
     returns-4)
