@@ -7,8 +7,10 @@ use native.Mathlib.Nat.{add-zero}
 use lib.ListN.{length, drop, getD, length-append, drop-of-length-le}
 use lib.Seq.{getD-drop, drop-drop}
 use borrow.Rule.Slice.PartMut.{putMid}
-use borrow.Author.Tests.{le-leb, lt-leb}
-use mathlib.Core.Bool.{and-false}
+use borrow.Author.Tests.{leb-true}
+use lib.Dec.{leb}
+use Rattle.lists.proofs.Bools.{both}
+use mathlib.Core.Bool.{true, false, _&&_}
 use Rattle.record.specs.declared.Shape.{Shape}
 use Rattle.record.specs.declared.Read.the-variants.{File, Refused}
 use Rattle.record.specs.declared.Loaded.the-variants.{File as LoadedFile, NoRoom, Refused as RefusedLoad}
@@ -114,6 +116,11 @@ pub load-refused : (file : List ℕ) (marks readings : ℕ) {at : ℕ} → readF
 unfolding loading
 load-refused file marks readings r = rw r
 
+pub room-is : (days marks readings : ℕ) → (leb days marks && leb (96 * days) readings) ≡ true → (days ≤ marks) × (96 * days ≤ readings)
+room-is days marks readings t =
+    let k = both (leb days marks) (leb (96 * days) readings) t in
+    (leb-true days marks (k .0), leb-true (96 * days) readings (k .1))
+
 -- how long the table of an accepted file is
 module _ (file : List ℕ) {shape : Shape} (r : readFile file ≡ File shape) where
   pub days-held : shape .days ≡ daysIn file
@@ -129,14 +136,10 @@ module _ (file : List ℕ) {shape : Shape} (r : readFile file ≡ File shape) wh
   readings-held = readings-length (daysIn file) (firstIn file) (drop 8 file) ∙ (rw days-held)
 
   module _ (marks readings : ℕ) where
-    pub marks-too-few : marks < shape .days → NoRoom ≡ loading file marks readings
+    pub no-room : (leb (shape .days) marks && leb (96 * shape .days) readings) ≡ false → NoRoom ≡ loading file marks readings
     unfolding loading
-    marks-too-few h = rw (r, marks-held, lt-leb (shape .days) marks h)
+    no-room t = rw (r, marks-held, readings-held, t)
 
-    pub readings-too-few : readings < 96 * shape .days → NoRoom ≡ loading file marks readings
+    pub room-enough : (leb (shape .days) marks && leb (96 * shape .days) readings) ≡ true → LoadedFile shape ≡ loading file marks readings
     unfolding loading
-    readings-too-few h = rw (r, readings-held, lt-leb (96 * shape .days) readings h, and-false)
-
-    pub room-enough : shape .days ≤ marks → 96 * shape .days ≤ readings → LoadedFile shape ≡ loading file marks readings
-    unfolding loading
-    room-enough h g = rw (r, marks-held, readings-held, le-leb (shape .days) marks h, le-leb (96 * shape .days) readings g)
+    room-enough t = rw (r, marks-held, readings-held, t)

@@ -1,9 +1,9 @@
 -- The record file on bytes: the three records as 01 lays them down, and files on both sides of each line.
-use Prim.Native.Nat.{ℕ, zero, suc}
+use Prim.Native.Nat.{ℕ}
 use mathlib.Core.Path.{_≡_}
 use mathlib.Core.List.{List, [], _∷_, _++_}
 use lib.ListN.{take, replicate}
-use Rattle.record.specs.Layout.{pfRecord, dyRecord, dyRecords, evRecord, evRecords, Event}
+use Rattle.record.specs.Layout.{pfRecord, dyRecord, evRecord, evRecords, Event}
 use Rattle.record.specs.Reader.{readFile}
 use Rattle.record.specs.declared.Read.{Read}
 use Rattle.record.specs.declared.Read.the-variants.{File, Refused}

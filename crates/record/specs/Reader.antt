@@ -153,11 +153,13 @@ shapeOf c =
       events = length (c .events);
     }
 
--- the request at a place, counted from 0: the file's P with the EV there
+-- "A request: participation start P; event day D; and three places s, e, n": the file's P, and an EV
+abbrev pub requestOf : ℕ → Event → Request
+requestOf participation v = record { participation = participation; event = v .day; s = v .s; e = v .e; n = v .n }
+
+-- the request at a place, counted from 0
 unfoldable pub requestAt : List ℕ → ℕ → Request
-requestAt file place =
-    let v = eventOf (drop (eventStart file place) file) in
-    record { participation = numberAt 2 2 file; event = v .day; s = v .s; e = v .e; n = v .n }
+requestAt file place = requestOf (numberAt 2 2 file) (eventOf (drop (eventStart file place) file))
 
 -- refusal 12: "no event at that place"
 abbrev pub eventAtPlace : Read → List ℕ → ℕ → EventAt

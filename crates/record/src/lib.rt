@@ -1,9 +1,11 @@
 // The record file of document 01, "Record file, listing, host entry": which files are as laid down, and what they say.
 ghost use mathlib.Core.Path.{_≡_};
 ghost use Prim.Native.Nat.{_+_, _*_, _≤_, _<_};
+ghost use mathlib.Core.Bool.{_&&_};
 ghost use mathlib.Core.List.{_++_};
 ghost use lib.ListN.{length, drop, getD};
-ghost use Rattle.record.specs.Reader.{numberAt, opensWith, isRecord, isDY, isEV, isDYof, daysFrom, eventsFrom, firstIn, daysIn, readFile, numbers, tableIn, eventAtPlace, loading, bufferAfter};
+ghost use lib.Dec.{leb};
+ghost use Rattle.record.specs.Reader.{numberAt, opensWith, isRecord, isDY, isEV, isDYof, daysFrom, eventsFrom, firstIn, daysIn, readFile, numbers, tableIn, eventOf, requestOf, eventAtPlace, loading, bufferAfter};
 use method::Request;
 
 // What a whole file holds: P, the portfolio number, the first day, and how many days and events.
@@ -205,6 +207,20 @@ pub fn read_file(file: &[u8]) -> Read
     }
 }
 
+// The request that an EV makes.
+fn request_of(file: &[u8], at: usize, participation: u32) -> Request
+    requires { ⌜ at + 8 ≤ length (now file) ⌝ }
+    ensures { λ r. ⌜ r ≡ requestOf participation (eventOf (drop at (now (file .entry)))) ⌝ }
+{
+    Request {
+        participation,
+        event: number2(file, at + 2),
+        s: byte(file, at + 4),
+        e: byte(file, at + 5),
+        n: byte(file, at + 6),
+    }
+}
+
 // The event at a place, counted from 0, as a request.
 pub fn event_at(file: &[u8], place: usize) -> EventAt
     ensures { λ r. ⌜ r ≡ eventAtPlace (readFile (now (file .entry))) (now (file .entry)) place ⌝ }
@@ -214,13 +230,7 @@ pub fn event_at(file: &[u8], place: usize) -> EventAt
         Read::File(shape) => {
             if place < shape.events as usize {
                 let at = day_start(shape.days) + SHORT_RECORD * place;
-                EventAt::Event(Request {
-                    participation: shape.participation,
-                    event: number2(file, at + 2),
-                    s: byte(file, at + 4),
-                    e: byte(file, at + 5),
-                    n: byte(file, at + 6),
-                })
+                EventAt::Event(request_of(file, at, shape.participation))
             } else {
                 EventAt::NoEvent
             }
@@ -270,6 +280,14 @@ fn load_readings(file: &[u8], days: u32, readings: &mut [u32])
     }
 }
 
+// Whether buffers of these lengths have room for the marks and the readings of so many days.
+fn has_room(days: u32, marks: usize, readings: usize) -> bool
+    requires { ⌜ days ≤ 128 ⌝ }
+    ensures { λ r. ⌜ r ≡ (leb days marks && leb (96 * days) readings) ⌝ }
+{
+    (days as usize <= marks) & (QUARTERS * (days as usize) <= readings)
+}
+
 // Puts a file's table into lent buffers: marks and readings stand first, the rest is kept. A refused file, or buffers that the table does not
 // fit, change nothing.
 pub fn load(file: &[u8], marks: &mut [u8], readings: &mut [u32]) -> Loaded
@@ -281,15 +299,13 @@ pub fn load(file: &[u8], marks: &mut [u8], readings: &mut [u32]) -> Loaded
         Read::Refused(at) => Loaded::Refused(at),
         Read::File(shape) => {
             let days = shape.days;
-            if marks.len() < days as usize {
-                return Loaded::NoRoom;
+            if has_room(days, marks.len(), readings.len()) {
+                load_marks(file, days, marks);
+                load_readings(file, days, readings);
+                Loaded::File(shape)
+            } else {
+                Loaded::NoRoom
             }
-            if readings.len() < QUARTERS * (days as usize) {
-                return Loaded::NoRoom;
-            }
-            load_marks(file, days, marks);
-            load_readings(file, days, readings);
-            Loaded::File(shape)
         }
     }
 }
