@@ -1,0 +1,31 @@
+-- The checks on bytes: each computes.
+use mathlib.Core.Path.{refl}
+use Rattle.method.specs.Table.{size, offset}
+use Rattle.record.specs.Layout.{bytes, pfRecord, readingBytes, dyRecord, evRecord, evRecords}
+use Rattle.record.specs.Reader.{numberAt, opensWith, isRecord, isPF, isDY, isEV, run, isDYof, daysFrom, eventsFrom, firstIn, daysIn, dayStart, eventStart, eventsIn, goodEnd, shapeIn, readFile}
+use Rattle.record.specs.Checks.{pf, ev, flat, Checks}
+
+pub checks : Checks
+unfolding size offset bytes pfRecord readingBytes dyRecord evRecord evRecords numberAt opensWith isRecord isPF isDY isEV run isDYof daysFrom eventsFrom firstIn daysIn dayStart eventStart eventsIn goodEnd shapeIn readFile pf ev flat
+checks =
+    record {
+      pf-bytes = refl;
+      ev-bytes = refl;
+      dy-bytes = refl;
+      empty = refl;
+      cut = refl;
+      foreign = refl;
+      alone = refl;
+      one-event = refl;
+      cut-event = refl;
+      not-zero = refl;
+      second-pf = refl;
+      all-events = refl;
+      event-65 = refl;
+      two-days = refl;
+      cut-day = refl;
+      gap = refl;
+      late-day = refl;
+      last-day = refl;
+      no-turn = refl;
+    }

@@ -1,0 +1,15 @@
+pub mod Numbers
+pub mod Bytes
+pub mod Records
+pub mod Runs
+pub mod Files
+pub mod Events
+pub mod Filling
+pub mod Loading
+pub mod Back
+pub mod ReadsBack
+pub mod WrittenAgain
+pub mod RefusedWhere
+pub mod Limits
+pub mod Laws
+pub mod Checks

@@ -1,0 +1,145 @@
+-- Days and readings that are loaded one after the other: one more, and none left.
+use Prim.Native.Nat.{ℕ, zero, suc, _+_, _-_, _*_, _<_, _≤_}
+use mathlib.Core.Path.{_≡_, refl, sym, _∙_, ap}
+use mathlib.Core.List.{List, [], _∷_, _++_, append-nil}
+use native.Mathlib.Omega.{arith}
+use native.Mathlib.Nat.{add-zero}
+use lib.ListN.{length, drop, getD, length-append, drop-of-length-le}
+use lib.Seq.{getD-drop, drop-drop}
+use borrow.Rule.Slice.PartMut.{putMid}
+use borrow.Author.Tests.{leb-true}
+use lib.Dec.{leb}
+use Rattle.lists.proofs.Bools.{both}
+use mathlib.Core.Bool.{true, false, _&&_}
+use Rattle.record.specs.declared.Shape.{Shape}
+use Rattle.record.specs.declared.Read.the-variants.{File, Refused}
+use Rattle.record.specs.declared.Loaded.the-variants.{File as LoadedFile, NoRoom, Refused as RefusedLoad}
+use Rattle.record.specs.Reader.{numberAt, dyLength, firstIn, daysIn, marksFrom, numbers, readingsFrom, shapeIn, tableIn, readFile, loading}
+use Rattle.record.proofs.Numbers.{number-drop}
+use Rattle.record.proofs.Records.{size-is, dy-length}
+use Rattle.record.proofs.Files.{shape-fits}
+use Rattle.record.proofs.Filling.{Filling, filling-part, filled}
+
+module _ (file : List ℕ) (at next : ℕ) where
+  pub numbers-more : (k count : ℕ) → k < count → next ≡ at + 4
+      → numbers (count - k) (drop at file) ≡ numberAt 4 at file ∷ numbers (count - (k + 1)) (drop next file)
+  unfolding numbers
+  numbers-more k count h e =
+      let fewer : count - k ≡ suc (count - (k + 1)) = omega arith in
+      rw (fewer, number-drop 4 at 0 file, add-zero at, drop-drop 4 at file, e)
+
+  module _ (k h first : ℕ) (more : k < h) (e : next ≡ at + 390) where
+    pub marks-more : marksFrom (h - k) (first + k) (drop at file)
+        ≡ getD file (at + 4) 0 ∷ marksFrom (h - (k + 1)) (first + (k + 1)) (drop next file)
+    unfolding marksFrom
+    marks-more =
+        let fewer : h - k ≡ suc (h - (k + 1)) = omega arith in
+        let later : suc (first + k) ≡ first + (k + 1) = omega arith in
+        rw (fewer, getD-drop at file 4 0, dy-length (first + k), drop-drop 390 at file, later, e)
+
+    pub readings-more : readingsFrom (h - k) (first + k) (drop at file)
+        ≡ numbers 96 (drop (at + 6) file) ++ readingsFrom (h - (k + 1)) (first + (k + 1)) (drop next file)
+    unfolding readingsFrom
+    readings-more =
+        let fewer : h - k ≡ suc (h - (k + 1)) = omega arith in
+        let later : suc (first + k) ≡ first + (k + 1) = omega arith in
+        rw (fewer, size-is (first + k), drop-drop 6 at file, drop-drop 390 at file, later, e)
+
+module _ (k h : ℕ) (all : h ≤ k) where
+  none : h - k ≡ 0
+  none = omega arith
+
+  pub numbers-none : (left : List ℕ) → numbers (h - k) left ≡ []
+  unfolding numbers
+  numbers-none left = rw none
+
+  pub marks-none : (d : ℕ) (left : List ℕ) → marksFrom (h - k) d left ≡ []
+  unfolding marksFrom
+  marks-none d left = rw none
+
+  pub readings-none : (d : ℕ) (left : List ℕ) → readingsFrom (h - k) d left ≡ []
+  unfolding readingsFrom
+  readings-none d left = rw none
+
+pub numbers-length : (count : ℕ) (left : List ℕ) → length (numbers count left) ≡ count
+unfolding numbers
+numbers-length zero left = refl
+numbers-length (suc count) left = ap suc (numbers-length count (drop 4 left))
+
+pub marks-length : (h d : ℕ) (left : List ℕ) → length (marksFrom h d left) ≡ h
+unfolding marksFrom
+marks-length zero d left = refl
+marks-length (suc h) d left = ap suc (marks-length h (suc d) (drop (dyLength d) left))
+
+pub readings-length : (h d : ℕ) (left : List ℕ) → length (readingsFrom h d left) ≡ 96 * h
+unfolding readingsFrom
+readings-length zero d left = refl
+readings-length (suc h) d left = rw (length-append, numbers-length, readings-length h, size-is) (omega arith)
+
+-- a whole day is loaded
+pub day-loaded : (file before now : List ℕ) (start at q : ℕ) → 96 ≤ q → Filling before (numbers 96 (drop start file)) now (numbers (96 - q) (drop at file)) q
+    → length before ≡ 96 → now ≡ numbers 96 (drop start file)
+day-loaded file before now start at q all f size =
+    let over : length before ≤ q = omega arith in
+    filled f (numbers-none q 96 all (drop at file)) ∙ (rw (drop-of-length-le before over) (append-nil (numbers 96 (drop start file))))
+
+-- one more day is put behind those that are loaded
+pub day-put : (file : List ℕ) {before whole now part : List ℕ} (k days first : ℕ) {start : ℕ}
+    → Filling before whole now (readingsFrom (days - k) (first + k) (drop (8 + 390 * k) file)) (96 * k) → k < days → 96 * k + 96 ≤ length now
+    → start ≡ 8 + 390 * k → part ≡ numbers 96 (drop (start + 6) file)
+    → Filling before whole (putMid (96 * k) (96 * k + 96 - 96 * k) now part)
+    (readingsFrom (days - (k + 1)) (first + (k + 1)) (drop (8 + 390 * (k + 1)) file)) (96 * (k + 1))
+day-put file {before} {whole} {now} {part} k days first {start} f more room s p =
+    let next : 96 * (k + 1) ≡ 96 * k + 96 = omega arith in
+    let far : 8 + 390 * (k + 1) ≡ 8 + 390 * k + 390 = omega arith in
+    let size : length part ≡ 96 * k + 96 - 96 * k = ap length p ∙ numbers-length 96 (drop (start + 6) file) ∙ omega arith in
+    rw next
+    (filling-part f part (readingsFrom (days - (k + 1)) (first + (k + 1)) (drop (8 + 390 * (k + 1)) file)) (96 * k + 96) (omega arith) room size
+    (rw (p, s) (readings-more file (8 + 390 * k) (8 + 390 * (k + 1)) k days first more far)))
+
+-- all days are loaded
+module _ (file before now : List ℕ) (days k at : ℕ) (below : k ≤ days) (all : days ≤ k) (d : days ≡ daysIn file) where
+  counted : k ≡ days
+  counted = omega arith
+
+  pub marks-loaded : Filling before (marksFrom days (firstIn file) (drop 8 file)) now (marksFrom (days - k) (firstIn file + k) (drop at file)) k
+      → now ≡ tableIn file .marks ++ drop days before
+  unfolding tableIn
+  marks-loaded q = rw (← counted) (filled q (marks-none k days all (firstIn file + k) (drop at file)) ∙ (rw (d) refl))
+
+  pub readings-loaded : Filling before (readingsFrom days (firstIn file) (drop 8 file)) now (readingsFrom (days - k) (firstIn file + k) (drop at file)) (96 * k)
+      → now ≡ tableIn file .readings ++ drop (96 * days) before
+  unfolding tableIn
+  readings-loaded q = rw (← counted) (filled q (readings-none k days all (firstIn file + k) (drop at file)) ∙ (rw (d) refl))
+
+pub load-refused : (file : List ℕ) (marks readings : ℕ) {at : ℕ} → readFile file ≡ Refused at → RefusedLoad at ≡ loading file marks readings
+unfolding loading
+load-refused file marks readings r = rw r
+
+pub room-is : (days marks readings : ℕ) → (leb days marks && leb (96 * days) readings) ≡ true → (days ≤ marks) × (96 * days ≤ readings)
+room-is days marks readings t =
+    let k = both (leb days marks) (leb (96 * days) readings) t in
+    (leb-true days marks (k .0), leb-true (96 * days) readings (k .1))
+
+-- how long the table of an accepted file is
+module _ (file : List ℕ) {shape : Shape} (r : readFile file ≡ File shape) where
+  pub days-held : shape .days ≡ daysIn file
+  unfolding shapeIn
+  days-held = rw (shape-fits file shape r .is-shape)
+
+  pub marks-held : length (tableIn file .marks) ≡ shape .days
+  unfolding tableIn
+  marks-held = marks-length (daysIn file) (firstIn file) (drop 8 file) ∙ sym days-held
+
+  pub readings-held : length (tableIn file .readings) ≡ 96 * shape .days
+  unfolding tableIn
+  readings-held = readings-length (daysIn file) (firstIn file) (drop 8 file) ∙ (rw days-held)
+
+  module _ (marks readings : ℕ) where
+    pub no-room : (leb (shape .days) marks && leb (96 * shape .days) readings) ≡ false → NoRoom ≡ loading file marks readings
+    unfolding loading
+    no-room t = rw (r, marks-held, readings-held, t)
+
+    pub room-enough : (leb (shape .days) marks && leb (96 * shape .days) readings) ≡ true → LoadedFile shape ≡ loading file marks readings
+    unfolding loading
+    room-enough t = rw (r, marks-held, readings-held, t)

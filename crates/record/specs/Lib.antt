@@ -1,0 +1,4 @@
+pub mod Layout
+pub mod Reader
+pub mod Laws
+pub mod Checks
