@@ -8,7 +8,7 @@ use borrow.Author.Tests.{le-leb, lt-leb, eq-eqb, ne-eqb, eqb-true}
 use lib.ListN.{length, drop}
 use lib.Dec.{eqb}
 use Rattle.method.specs.Table.{offset}
-use Rattle.record.specs.Layout.{ascii}
+use Rattle.lists.specs.Ascii.{ascii}
 use Rattle.record.specs.declared.Shape.{Shape}
 use Rattle.record.specs.declared.Read.the-variants.{File, Refused}
 use Rattle.record.specs.Reader.{numberAt, opensWith, isPF, isDY, isEV, isDYof, dyLength, daysFrom, eventsFrom, firstIn, daysIn}

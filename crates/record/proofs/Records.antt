@@ -10,7 +10,7 @@ use lib.Seq.{getD-drop}
 use lib.Dec.{eqb, leb}
 use Rattle.lists.proofs.Bools.{both}
 use Rattle.method.specs.Table.{size}
-use Rattle.record.specs.Layout.{ascii}
+use Rattle.lists.specs.Ascii.{ascii}
 use Rattle.record.specs.Reader.{opensWith, numberAt, isRecord, isDY, isEV, isDYof, dyLength, dyDay}
 use Rattle.record.proofs.Numbers.{number-drop}
 

@@ -12,7 +12,7 @@ use lib.ListN.{length, drop, length-drop}
 use lib.Seq.{drop-drop}
 use lib.Dec.{leb, eqb}
 use Rattle.lists.proofs.Bools.{both}
-use Rattle.record.specs.Layout.{ascii}
+use Rattle.lists.specs.Ascii.{ascii}
 use Rattle.record.specs.declared.Read.the-variants.{File, Refused}
 use Rattle.record.specs.Reader.{opensWith, isPF, isEV, isDYof, dyLength, run, daysFrom, eventsFrom, firstIn, daysIn, eventStart, eventsIn}
 use Rattle.record.specs.Reader.{goodEnd, shapeIn, readFile}

@@ -10,7 +10,8 @@ use lib.Seq.{drop-cons, drop-drop, take-at, drop-at}
 use lib.Dec.{eqb, leb}
 use Rattle.lists.proofs.Bools.{both}
 use Rattle.method.specs.Table.{size}
-use Rattle.record.specs.Layout.{Below, ascii, bytes, pfRecord, readingBytes, dyRecord, evRecord, dyRecords, evRecords, fileOf}
+use Rattle.record.specs.Layout.{Below, bytes, pfRecord, readingBytes, dyRecord, evRecord, dyRecords, evRecords, fileOf}
+use Rattle.lists.specs.Ascii.{ascii}
 use Rattle.record.specs.declared.Shape.{Shape}
 use Rattle.record.specs.declared.Read.the-variants.{File}
 use Rattle.record.specs.Reader.{numberAt, opensWith, isRecord, isPF, isDY, isEV, isDYof, dyLength, dyDay, run, daysFrom, eventsFrom, firstIn, daysIn}

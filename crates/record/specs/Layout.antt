@@ -1,19 +1,13 @@
 -- 01, "Record file, listing, host entry": the record file by what writing it yields.
 use Prim.Native.Nat.{ℕ, zero, suc, _+_, _/_, _%_, _≤_, _<_, _^_}
-use Prim.Native.Char.{code}
-use Prim.Native.String.{String, [] as empty, _∷_ as _then_}
 use mathlib.Core.Path.{_≡_}
 use mathlib.Core.List.{List, [], _∷_, _++_}
 use mathlib.Core.Bool.{Bool, true, _&&_}
 use lib.ListN.{length, getD, take, drop}
 use lib.Dec.{ltb}
 use Rattle.lists.specs.Lists.{all}
+use Rattle.lists.specs.Ascii.{ascii}
 use Rattle.method.specs.Table.{Table, heldDays, size, offset}
-
--- the characters of a text as bytes
-abbrev pub ascii : String → List ℕ
-ascii empty = []
-ascii (c then text) = code c ∷ ascii text
 
 -- "numbers are little-endian": a number as `width` bytes, the lowest first
 unfoldable pub bytes : ℕ → ℕ → List ℕ

@@ -7,7 +7,8 @@ use lib.ListN.{length, getD, drop}
 use lib.Dec.{leb, ltb, eqb}
 use Rattle.method.specs.declared.Request.{Request}
 use Rattle.method.specs.Table.{Table, heldDays, size, offset}
-use Rattle.record.specs.Layout.{ascii, Event, Contents}
+use Rattle.record.specs.Layout.{Event, Contents}
+use Rattle.lists.specs.Ascii.{ascii}
 use Rattle.record.specs.declared.Shape.{Shape}
 use Rattle.record.specs.declared.Read.{Read}
 use Rattle.record.specs.declared.Read.the-variants.{File, Refused}

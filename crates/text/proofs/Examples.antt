@@ -3,7 +3,8 @@ use Prim.Native.Nat.{_-_, _^_}
 use mathlib.Core.Path.{_≡_, refl}
 use mathlib.Core.List.{_++_}
 use lib.IntN.{negsuc}
-use Rattle.text.specs.Text.{ascii, digits, dec, decimal, put}
+use Rattle.text.specs.Text.{digits, dec, decimal, put}
+use Rattle.lists.specs.Ascii.{ascii}
 
 header : ascii "portfolio " ++ dec 77 ++ ascii " from " ++ dec 6900 ≡ ascii "portfolio 77 from 6900"
 unfolding dec digits
