@@ -112,6 +112,10 @@ module _ (file before now : List ℕ) (days k at : ℕ) (below : k ≤ days) (al
   unfolding tableIn
   readings-loaded q = rw (← counted) (filled q (readings-none k days all (firstIn file + k) (drop at file)) ∙ (rw (d) refl))
 
+-- the rest of a buffer starts where the values end
+pub rest-kept : {now : List ℕ} (values before : List ℕ) {n : ℕ} → length values ≡ n → now ≡ values ++ drop n before → now ≡ values ++ drop (length values) before
+rest-kept values before e h = rw e h
+
 pub load-refused : (file : List ℕ) (marks readings : ℕ) {at : ℕ} → readFile file ≡ Refused at → RefusedLoad at ≡ loading file marks readings
 unfolding loading
 load-refused file marks readings r = rw r

@@ -53,7 +53,9 @@ returns c =
 
 returns-2 : tie.Need-returns-2 Inv-loop μ-loop
 unfolding eventsFrom
-returns-2 c = let q = c .before .loop .inv in (counted-full (λ i. isEV) (λ i. 8) q (omega arith), omega arith, omega arith)
+returns-2 c =
+    let q = c .before .loop .inv in
+    (counted-full (λ i. isEV) (λ i. 8) q (omega arith), omega arith, omega arith)
 
 pub count-events-spec : {M : Type 1} → statement M
 count-events-spec =

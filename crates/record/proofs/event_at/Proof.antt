@@ -20,7 +20,9 @@ cast-if1 : tie.Need-cast-if1
 cast-if1 c = search needs
 
 day-start-requires : tie.Need-day-start-requires
-day-start-requires c κs = let q = shape-fits (c .before .before .before .before .before .before .before .args .file .now) _ (sym (c .before .before .before .before .before .read-file .ensures) ∙ c .before .before .before .shape .given .1) in omega arith
+day-start-requires c κs =
+    let q = shape-fits (c .before .before .before .before .before .before .before .args .file .now) _ (sym (c .before .before .before .before .before .read-file .ensures) ∙ c .before .before .before .shape .given .1) in
+    omega arith
 
 mul-at : tie.Need-mul-at
 mul-at c = search needs
@@ -29,7 +31,9 @@ add-at : tie.Need-add-at
 add-at c = search needs
 
 request-of-requires : tie.Need-request-of-requires
-request-of-requires c κs = let q = shape-fits (c .before .before .before .before .before .before .before .before .args .file .now) _ (sym (c .before .before .before .before .before .before .read-file .ensures) ∙ c .before .before .before .before .shape .given .1) in omega arith
+request-of-requires c κs =
+    let q = shape-fits (c .before .before .before .before .before .before .before .before .args .file .now) _ (sym (c .before .before .before .before .before .before .read-file .ensures) ∙ c .before .before .before .before .shape .given .1) in
+    omega arith
 
 returns : tie.Need-returns
 returns c = event-refused _ _ (sym (c .before .before .before .read-file .ensures) ∙ c .before .at .given .1)

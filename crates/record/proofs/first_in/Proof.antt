@@ -15,10 +15,14 @@ add-number2 : tie.Need-add-number2
 add-number2 c = search needs
 
 number2-requires : tie.Need-number2-requires
-number2-requires c κs = let a = c .before .before .before .args in omega (arith, length-drop 8 (a .file .now), day-whole (drop 8 (a .file .now)) (sym (c .before .is-day .ensures) ∙ c .if1 .taken))
+number2-requires c κs =
+    let a = c .before .before .before .args in
+    omega (arith, length-drop 8 (a .file .now), day-whole (drop 8 (a .file .now)) (sym (c .before .is-day .ensures) ∙ c .if1 .taken))
 
 returns : tie.Need-returns
-returns c = let a = c .before .before .before .before .args in (c .number2 .ensures .0 ∙ first-named (a .file .now) (sym (c .before .before .is-day .ensures) ∙ c .before .if1 .taken), c .number2 .ensures .1)
+returns c =
+    let a = c .before .before .before .before .args in
+    (c .number2 .ensures .0 ∙ first-named (a .file .now) (sym (c .before .before .is-day .ensures) ∙ c .before .if1 .taken), c .number2 .ensures .1)
 
 returns-2 : tie.Need-returns-2
 returns-2 c = (first-none _ (sym (c .before .is-day .ensures) ∙ c .if1 .left), omega arith)

@@ -14,10 +14,14 @@ add-number2 : tie.Need-add-number2
 add-number2 c = search needs
 
 number2-requires : tie.Need-number2-requires
-number2-requires c κs = let a = c .before .before .before .args in omega (arith, length-drop (a .at) (a .file .now), day-whole (drop (a .at) (a .file .now)) (sym (c .before .is-day .ensures) ∙ c .if1 .taken))
+number2-requires c κs =
+    let a = c .before .before .before .args in
+    omega (arith, length-drop (a .at) (a .file .now), day-whole (drop (a .at) (a .file .now)) (sym (c .before .is-day .ensures) ∙ c .if1 .taken))
 
 returns : tie.Need-returns
-returns c = let a = c .before .before .before .before .args in rw (c .number2 .ensures .0) (day-at (a .file .now) (a .at) (a .day) (sym (c .before .before .is-day .ensures) ∙ c .before .if1 .taken))
+returns c =
+    let a = c .before .before .before .before .args in
+    rw (c .number2 .ensures .0) (day-at (a .file .now) (a .at) (a .day) (sym (c .before .before .is-day .ensures) ∙ c .before .if1 .taken))
 
 returns-2 : tie.Need-returns-2
 returns-2 c = day-not _ _ (sym (c .before .is-day .ensures) ∙ c .if1 .left)

@@ -2,8 +2,9 @@
 use mathlib.Core.Path.{refl, sym, _∙_}
 use native.Mathlib.Omega.{arith}
 use lib.ListN.{length}
+use Rattle.record.specs.Reader.{tableIn}
 use Rattle.record.proofs.Files.{shape-fits}
-use Rattle.record.proofs.Loading.{load-refused, days-held, marks-held, readings-held, room-is, no-room, room-enough}
+use Rattle.record.proofs.Loading.{load-refused, days-held, marks-held, readings-held, room-is, rest-kept, no-room, room-enough}
 use borrow.Author.Needs.{needs}
 use Rattle.record.proofs.load.Statement.{statement}
 use Rattle.record.proofs.load.Tie as tie
@@ -18,7 +19,9 @@ enum-known-shape : tie.Need-enum-known-shape
 enum-known-shape c = search needs
 
 has-room-requires : tie.Need-has-room-requires
-has-room-requires c κs = let q = shape-fits (c .before .before .before .before .before .before .before .args .file .now) _ (sym (c .before .before .before .read-file .ensures) ∙ c .before .shape .given .1) in omega arith
+has-room-requires c κs =
+    let q = shape-fits (c .before .before .before .before .before .before .before .args .file .now) _ (sym (c .before .before .before .read-file .ensures) ∙ c .before .shape .given .1) in
+    omega arith
 
 load-marks-requires : tie.Need-load-marks-requires
 load-marks-requires c κs =
@@ -52,7 +55,7 @@ returns-2 c =
     let a = c .before .before .before .before .before .before .before .before .before .before .before .before .before .before .before .before .before .args in
     let r = sym (c .before .before .before .before .before .before .before .before .before .before .before .before .before .read-file .ensures) ∙ c .before .before .before .before .before .before .before .before .before .before .before .shape .given .1 in (
       room-enough (a .file .now) r (length (a .marks .now)) (length (a .readings .now)) (sym (c .before .before .before .before .before .before .before .before .before .has-room .ensures) ∙ c .before .before .before .before .before .before .before .before .if1 .taken),
-      (rw (marks-held (a .file .now) r) (c .before .before .before .before .before .before .load-marks .ensures), rw (readings-held (a .file .now) r) (c .before .before .load-readings .ensures)),
+      (rest-kept (tableIn (a .file .now) .marks) (a .marks .now) (marks-held (a .file .now) r) (c .before .before .before .before .before .before .load-marks .ensures), rest-kept (tableIn (a .file .now) .readings) (a .readings .now) (readings-held (a .file .now) r) (c .before .before .load-readings .ensures)),
     )
 
 returns-3 : tie.Need-returns-3
