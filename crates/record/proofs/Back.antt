@@ -15,7 +15,8 @@ use Rattle.record.specs.Layout.{Below, bytes, readingBytes, dyRecord, Ev
 use Rattle.record.specs.Reader.{numberAt, opensWith, isRecord, isDY, isEV, isDYof, dyLength, dyDay, run}
 use Rattle.record.specs.Reader.{marksFrom, numbers, readingsFrom, eventOf, eventList}
 use Rattle.record.proofs.Bytes.{below-drop, below-take, numbers-bytes}
-use Rattle.record.proofs.Records.{size-is, dy-length, day-record, day-not}
+use Rattle.method.proofs.Tables.{size-is}
+use Rattle.record.proofs.Records.{dy-length, day-record, day-not}
 use Rattle.record.proofs.Runs.{run-more, run-stops}
 
 reading-length : (xs : List ℕ) → length (readingBytes xs) ≡ 4 * length xs

@@ -15,7 +15,7 @@ use Rattle.record.specs.Reader.{numberAt, opensWith, isPF, isDY, isEV, i
 use Rattle.record.specs.Reader.{dayStart, eventStart, eventsIn, goodEnd, shapeIn, readFile}
 use Rattle.record.specs.Laws.{Accepted}
 use Rattle.record.proofs.Numbers.{number-drop}
-use Rattle.record.proofs.Records.{size-is}
+use Rattle.method.proofs.Tables.{offset-is}
 use Rattle.record.proofs.Runs.{run-most}
 
 pub first-named : (file : List ℕ) → isDY (drop 8 file) ≡ true → numberAt 2 10 file ≡ firstIn file
@@ -25,11 +25,6 @@ first-named file t = rw (t, number-drop 2 8 2 file)
 pub first-none : (file : List ℕ) → isDY (drop 8 file) ≡ false → 0 ≡ firstIn file
 unfolding firstIn
 first-none file t = rw t
-
-pub offset-is : (first k : ℕ) → offset first k ≡ 96 * k
-unfolding offset
-offset-is first zero = refl
-offset-is first (suc k) = omega (arith, size-is first, offset-is (suc first) k)
 
 -- where the k-th DY starts, for code
 pub day-start-is : (first k : ℕ) → dayStart first k ≡ 8 + 390 * k

@@ -20,7 +20,8 @@ use Rattle.record.specs.Laws.{Accepted}
 use Rattle.record.proofs.Bytes.{below-drop, below-append, below-cons, below-none, bytes-below, number-below, reading-bytes-below, numbers-below}
 use Rattle.record.proofs.Records.{dy-length}
 use Rattle.record.proofs.Runs.{run-more}
-use Rattle.record.proofs.Files.{offset-is, shape-fits}
+use Rattle.method.proofs.Tables.{offset-is}
+use Rattle.record.proofs.Files.{shape-fits}
 use Rattle.record.proofs.Loading.{marks-length, readings-length}
 use Rattle.record.proofs.RefusedWhere.{each}
 

@@ -16,7 +16,8 @@ use Rattle.record.specs.declared.Read.the-variants.{File, Refused}
 use Rattle.record.specs.declared.Loaded.the-variants.{File as LoadedFile, NoRoom, Refused as RefusedLoad}
 use Rattle.record.specs.Reader.{numberAt, dyLength, firstIn, daysIn, marksFrom, numbers, readingsFrom, shapeIn, tableIn, readFile, loading}
 use Rattle.record.proofs.Numbers.{number-drop}
-use Rattle.record.proofs.Records.{size-is, dy-length}
+use Rattle.method.proofs.Tables.{size-is}
+use Rattle.record.proofs.Records.{dy-length}
 use Rattle.record.proofs.Files.{shape-fits}
 use Rattle.record.proofs.Filling.{Filling, filling-part, filled}
 

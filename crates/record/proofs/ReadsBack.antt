@@ -14,7 +14,8 @@ use Rattle.record.specs.Reader.{numberAt, opensWith, isPF, isDY, dyDay, 
 use Rattle.record.specs.Reader.{shapeIn, readFile, tableIn, contentsIn, shapeOf}
 use Rattle.record.proofs.Numbers.{number-drop}
 use Rattle.record.proofs.Bytes.{number-bytes}
-use Rattle.record.proofs.Files.{offset-is, event-start-is}
+use Rattle.method.proofs.Tables.{offset-is}
+use Rattle.record.proofs.Files.{event-start-is}
 use Rattle.record.proofs.Back.{day-is, day-day, days-length, first-long, days-back, marks-back, readings-back, events-back, event-list-back, events-length, no-day-left}
 
 first-of : (d : ℕ) (ms rs : List ℕ) (es : List Event) → (length ms ≡ 0 → d ≡ 0) → d + length ms ≤ 256 ^ 2 → length rs ≡ 96 * length ms

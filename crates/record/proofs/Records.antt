@@ -11,12 +11,9 @@ use lib.Dec.{eqb, leb}
 use Rattle.lists.proofs.Bools.{both}
 use Rattle.method.specs.Table.{size}
 use Rattle.lists.specs.Ascii.{ascii}
+use Rattle.method.proofs.Tables.{size-is}
 use Rattle.record.specs.Reader.{opensWith, numberAt, isRecord, isDY, isEV, isDYof, dyLength, dyDay}
 use Rattle.record.proofs.Numbers.{number-drop}
-
-pub size-is : (day : ℕ) → size day ≡ 96
-unfolding size
-size-is day = refl
 
 pub dy-length : (day : ℕ) → dyLength day ≡ 390
 dy-length day = rw (size-is day)

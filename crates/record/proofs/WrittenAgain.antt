@@ -19,7 +19,8 @@ use Rattle.record.specs.Reader.{eventStart, eventsIn, shapeIn, readFile,
 use Rattle.record.specs.Laws.{Accepted}
 use Rattle.record.proofs.Numbers.{number-drop}
 use Rattle.record.proofs.Bytes.{below-drop, bytes-number, bytes-numbers}
-use Rattle.record.proofs.Records.{size-is, day-record, event-record, day-whole, event-whole}
+use Rattle.method.proofs.Tables.{size-is}
+use Rattle.record.proofs.Records.{day-record, event-record, day-whole, event-whole}
 use Rattle.record.proofs.Runs.{run-more, run-stops, run-full}
 use Rattle.record.proofs.Files.{shape-fits, event-start-is}
 use Rattle.record.proofs.Loading.{numbers-length}

@@ -4,7 +4,8 @@ use mathlib.Core.Path.{sym, _∙_}
 use lib.ListN.{drop}
 use native.Mathlib.Omega.{arith}
 use Rattle.record.specs.Reader.{isDYof, dyLength, daysFrom}
-use Rattle.record.proofs.Records.{size-is, day-whole, day-of-is}
+use Rattle.method.proofs.Tables.{size-is}
+use Rattle.record.proofs.Records.{day-whole, day-of-is}
 use Rattle.record.proofs.Runs.{Counted, counted-none, counted-more, counted-stops, counted-full}
 use Rattle.record.proofs.count_days.Statement.{statement}
 use Rattle.record.proofs.count_days.Tie as tie
