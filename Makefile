@@ -1,5 +1,5 @@
 # The project's commands. `make help` lists them.
-.PHONY: help check test fmt changed clean
+.PHONY: help check test bench search fmt changed clean
 
 help: ## list the targets
 	@sed -n 's/^\([a-z]*\):.*## /\1\t/p' $(MAKEFILE_LIST) | expand -t 10
@@ -9,6 +9,14 @@ check: ## prove every crate that changed, and run the programs
 
 test: ## the gate: everything from nothing; the last line is 'N passed, 0 failed'
 	@tests/gate
+
+bench: ## the call's speed against plain C, in one run
+	rt staticlib host
+	cd tests/compare && cargo run --release --offline --quiet --bin bench
+
+search: ## compare a million more generated calls with the reference (FIRST=seed to start elsewhere)
+	rt staticlib host
+	cd tests/compare && cargo run --release --offline --quiet --bin search -- $(or $(FIRST),5000000)
 
 fmt: ## lay out every source and proof file
 	rt fmt
