@@ -1,4 +1,4 @@
-//! The proved call, through the archive's C entry, beside the reference.
+//! The proved call, through the archive's C entry, and the plain C version, beside the reference.
 
 use reference::{Answer, Request, Table};
 
@@ -8,47 +8,90 @@ pub const UNTOUCHED: u32 = 0xA5A5_A5A5;
 /// How many numbers are told of a result.
 pub const TOLD: usize = 9;
 
-extern "C" {
-    fn hp_baseline_table(
-        first: u32,
-        marks: *const u8,
-        days: usize,
-        readings: *const u32,
-        count: usize,
-        participation: u32,
-        event: u32,
-        s: u32,
-        e: u32,
-        n: u32,
-        out: *mut u32,
-        room: usize,
-        told: *mut i64,
-        told_room: usize,
-    ) -> u32;
+/// What the plain C version tells of a result.
+#[repr(C)]
+#[derive(Default)]
+pub struct PlainAnswer {
+    pub days: [u32; 5],
+    pub count: u32,
+    pub reach: u32,
+    pub denominator: u32,
+    pub adjustment: i64,
+    pub carried: [u64; 2],
+    pub carries: u32,
 }
 
-/// 0 or the refusal number; `out` and `told` as the header says.
+/// Declares C functions over a table and a request that end in the parameters given.
+macro_rules! over_a_table {
+    ($($name:ident($($last:ident: $kind:ty),*);)*) => {
+        extern "C" {
+            $(fn $name(
+                first: u32,
+                marks: *const u8,
+                days: usize,
+                readings: *const u32,
+                count: usize,
+                p: u32,
+                d: u32,
+                s: u32,
+                e: u32,
+                n: u32,
+                out: *mut u32,
+                room: usize,
+                $($last: $kind),*
+            ) -> u32;)*
+        }
+    };
+}
+
+over_a_table! {
+    hp_baseline_table(told: *mut i64, told_room: usize);
+    plain_baseline_gcc(answer: *mut PlainAnswer);
+}
+#[cfg(clang)]
+over_a_table! {
+    plain_baseline_clang(answer: *mut PlainAnswer);
+}
+
+/// Calls such a function with a table, a request and an output, each pointer with its own length.
+macro_rules! call {
+    ($name:ident, $table:expr, $request:expr, $out:expr, $($last:expr),*) => {{
+        let (table, request, out) = ($table, $request, $out);
+        // SAFETY: every pointer is lent with its own length, and no two overlap.
+        unsafe {
+            $name(
+                table.first,
+                table.marks.as_ptr(),
+                table.marks.len(),
+                table.readings.as_ptr(),
+                table.readings.len(),
+                request.p,
+                request.d,
+                request.s,
+                request.e,
+                request.n,
+                out.as_mut_ptr(),
+                out.len(),
+                $($last),*
+            )
+        }
+    }};
+}
+
+/// 0 or the refusal number; `out` and `told` as the contract says.
 pub fn proved(table: &Table, request: &Request, out: &mut [u32], told: &mut [i64]) -> u32 {
-    let Request { p, d, s, e, n } = *request;
-    // SAFETY: every pointer is lent with its own length, and no two overlap.
-    unsafe {
-        hp_baseline_table(
-            table.first,
-            table.marks.as_ptr(),
-            table.marks.len(),
-            table.readings.as_ptr(),
-            table.readings.len(),
-            p,
-            d,
-            s,
-            e,
-            n,
-            out.as_mut_ptr(),
-            out.len(),
-            told.as_mut_ptr(),
-            told.len(),
-        )
-    }
+    call!(hp_baseline_table, table, request, out, told.as_mut_ptr(), told.len())
+}
+
+/// The plain C version as gcc builds it.
+pub fn plain_gcc(table: &Table, request: &Request, out: &mut [u32], answer: &mut PlainAnswer) -> u32 {
+    call!(plain_baseline_gcc, table, request, out, answer)
+}
+
+/// The plain C version as clang builds it.
+#[cfg(clang)]
+pub fn plain_clang(table: &Table, request: &Request, out: &mut [u32], answer: &mut PlainAnswer) -> u32 {
+    call!(plain_baseline_clang, table, request, out, answer)
 }
 
 /// An answer, or a refusal's number and what it carries.

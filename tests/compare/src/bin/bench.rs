@@ -1,97 +1,10 @@
 //! bench: the proved call against the same rules in plain C at -O3, on the same tables, in one run. Prints nanoseconds a call (the median of
 //! the rounds, which take turns) and the ratio to each plain build. Every buffer is touched before the clock starts.
 
-use compare::{proved, TOLD, UNTOUCHED};
+use compare::{proved, PlainAnswer, TOLD, UNTOUCHED};
 use reference::{Request, Table};
 use std::hint::black_box;
 use std::time::Instant;
-
-#[repr(C)]
-#[derive(Default)]
-struct PlainAnswer {
-    days: [u32; 5],
-    count: u32,
-    reach: u32,
-    denominator: u32,
-    adjustment: i64,
-    carried: [u64; 2],
-    carries: u32,
-}
-
-type Plain = unsafe extern "C" fn(
-    u32,
-    *const u8,
-    usize,
-    *const u32,
-    usize,
-    u32,
-    u32,
-    u32,
-    u32,
-    u32,
-    *mut u32,
-    usize,
-    *mut PlainAnswer,
-) -> u32;
-
-extern "C" {
-    fn plain_baseline_gcc(
-        first: u32,
-        marks: *const u8,
-        days: usize,
-        readings: *const u32,
-        count: usize,
-        p: u32,
-        d: u32,
-        s: u32,
-        e: u32,
-        n: u32,
-        out: *mut u32,
-        room: usize,
-        answer: *mut PlainAnswer,
-    ) -> u32;
-    #[cfg(clang)]
-    fn plain_baseline_clang(
-        first: u32,
-        marks: *const u8,
-        days: usize,
-        readings: *const u32,
-        count: usize,
-        p: u32,
-        d: u32,
-        s: u32,
-        e: u32,
-        n: u32,
-        out: *mut u32,
-        room: usize,
-        answer: *mut PlainAnswer,
-    ) -> u32;
-}
-
-fn plain(call: Plain, table: &Table, request: &Request, out: &mut [u32]) -> u32 {
-    let mut answer = PlainAnswer::default();
-    let Request { p, d, s, e, n } = *request;
-    // SAFETY: every pointer is lent with its own length, and no two overlap.
-    let number = unsafe {
-        call(
-            table.first,
-            table.marks.as_ptr(),
-            table.marks.len(),
-            table.readings.as_ptr(),
-            table.readings.len(),
-            p,
-            d,
-            s,
-            e,
-            n,
-            out.as_mut_ptr(),
-            out.len(),
-            &mut answer,
-        )
-    };
-    black_box(&answer);
-    number
-}
 
 /// So many days up to Wednesday 28 August 2024, with a load that varies by day and quarter and an event day now and then.
 fn table(days: u32) -> Table {
@@ -137,12 +50,14 @@ fn report(name: &str, table: &Table, request: &Request) {
     let number = proved(table, request, ours, &mut told);
     let mut ways: Vec<Box<dyn FnMut() -> u32 + '_>> = vec![
         Box::new(|| proved(black_box(table), black_box(request), ours, &mut told)),
-        Box::new(|| plain(plain_baseline_gcc, black_box(table), black_box(request), first)),
+        Box::new(|| compare::plain_gcc(black_box(table), black_box(request), first, black_box(&mut PlainAnswer::default()))),
     ];
     #[cfg(clang)]
     {
         names.push("clang -O3");
-        ways.push(Box::new(|| plain(plain_baseline_clang, black_box(table), black_box(request), second)));
+        ways.push(Box::new(|| {
+            compare::plain_clang(black_box(table), black_box(request), second, black_box(&mut PlainAnswer::default()))
+        }));
     }
     #[cfg(not(clang))]
     let _ = second;
