@@ -1,3 +1,4 @@
+-- `host::nine_answered` meets its contract: each number is stored as it is.
 use native.Mathlib.Omega.{arith}
 use Prim.Native.Nat.{_<_, _^_}
 use lib.Signed.{mag}
@@ -7,63 +8,46 @@ use Rattle.host.proofs.Telling.{back, back-pos}
 use borrow.Author.Needs.{needs}
 use Rattle.host.proofs.nine_answered.Statement.{statement}
 use Rattle.host.proofs.nine_answered.Tie as tie
-use Rattle.host.proofs.nine_answered.Reads as reads
-use Rattle.host.proofs.nine_answered.Lts as lts
-use Rattle.host.proofs.signed.Reads as signed-reads
 
--- src/lib.rt:111:9
 signed-requires : tie.Need-signed-requires
 signed-requires c κs = search needs
 
--- src/lib.rt:112:16
 array-read-signed : tie.Need-array-read-signed
 array-read-signed c = search needs
 
--- src/lib.rt:112:9
 signed-requires-2 : tie.Need-signed-requires-2
 signed-requires-2 c κs = search needs
 
--- src/lib.rt:113:16
 array-read-signed-2 : tie.Need-array-read-signed-2
 array-read-signed-2 c = search needs
 
--- src/lib.rt:113:9
 signed-requires-3 : tie.Need-signed-requires-3
 signed-requires-3 c κs = search needs
 
--- src/lib.rt:114:16
 array-read-signed-3 : tie.Need-array-read-signed-3
 array-read-signed-3 c = search needs
 
--- src/lib.rt:114:9
 signed-requires-4 : tie.Need-signed-requires-4
 signed-requires-4 c κs = search needs
 
--- src/lib.rt:115:16
 array-read-signed-4 : tie.Need-array-read-signed-4
 array-read-signed-4 c = search needs
 
--- src/lib.rt:115:9
 signed-requires-5 : tie.Need-signed-requires-5
 signed-requires-5 c κs = search needs
 
--- src/lib.rt:116:16
 array-read-signed-5 : tie.Need-array-read-signed-5
 array-read-signed-5 c = search needs
 
--- src/lib.rt:116:9
 signed-requires-6 : tie.Need-signed-requires-6
 signed-requires-6 c κs = search needs
 
--- src/lib.rt:117:9
 signed-requires-7 : tie.Need-signed-requires-7
 signed-requires-7 c κs = search needs
 
--- src/lib.rt:118:9
 signed-requires-8 : tie.Need-signed-requires-8
 signed-requires-8 c κs = search needs
 
--- src/lib.rt:106:1
 small : (c : tie.After-struct-told) → mag (c .before .before .before .before .before .before .before .before .before .before .args .answer .adjustment) < 2 ^ 63
 small c = omega (arith, c .struct-told .given)
 

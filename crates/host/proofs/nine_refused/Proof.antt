@@ -1,31 +1,22 @@
+-- `host::nine_refused` meets its contract: each number is stored as it is.
 use Rattle.host.specs.Host.{nineRefused}
 use Rattle.host.proofs.Telling.{back-pos}
 use borrow.Author.Needs.{needs}
 use Rattle.host.proofs.nine_refused.Statement.{statement}
 use Rattle.host.proofs.nine_refused.Tie as tie
-use Rattle.host.proofs.nine_refused.Reads as reads
-use Rattle.host.proofs.nine_refused.Lts as lts
-use Rattle.host.proofs.first_carried.Reads as first-carried-reads
-use Rattle.host.proofs.second_carried.Reads as second-carried-reads
-use Rattle.host.proofs.signed.Reads as signed-reads
 
--- src/lib.rt:127:24
 first-carried-requires : tie.Need-first-carried-requires
 first-carried-requires c κs = search needs
 
--- src/lib.rt:127:9
 signed-requires : tie.Need-signed-requires
 signed-requires c κs = search needs
 
--- src/lib.rt:128:25
 second-carried-requires : tie.Need-second-carried-requires
 second-carried-requires c κs = search needs
 
--- src/lib.rt:128:9
 signed-requires-2 : tie.Need-signed-requires-2
 signed-requires-2 c κs = search needs
 
--- src/lib.rt:124:1
 returns : tie.Need-returns
 unfolding nineRefused
 returns c =

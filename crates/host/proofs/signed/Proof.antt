@@ -1,3 +1,4 @@
+-- `host::signed` meets its contract: a number of 32 bits is the same number among those of 64 bits with a sign.
 use Prim.Native.Nat.{_<_, _^_}
 use native.Mathlib.Omega.{arith}
 use mir.Syntax.{w64}
@@ -5,14 +6,10 @@ use mir.ValLaws.{toZ-pos}
 use borrow.Author.Needs.{needs}
 use Rattle.host.proofs.signed.Statement.{statement}
 use Rattle.host.proofs.signed.Tie as tie
-use Rattle.host.proofs.signed.Reads as reads
-use Rattle.host.proofs.signed.Lts as lts
 
--- src/lib.rt:102:5
 cast-result : tie.Need-cast-result
 cast-result c = search needs
 
--- src/lib.rt:99:1
 returns : tie.Need-returns
 returns c = let h : c .args .x < 2 ^ 63 = omega arith in toZ-pos w64 (c .args .x) h
 

@@ -1,54 +1,39 @@
+-- `host::tell` meets its contract, by the two laws of what is told.
 use Rattle.host.proofs.Telling.{tells, tells-nothing}
 use borrow.Author.Needs.{needs}
 use Rattle.host.proofs.tell.Statement.{statement}
 use Rattle.host.proofs.tell.Tie as tie
-use Rattle.host.proofs.tell.Reads as reads
-use Rattle.host.proofs.tell.Lts as lts
-use Rattle.host.proofs.nine_answered.Reads as nine-answered-reads
-use Rattle.host.proofs.nine_refused.Reads as nine-refused-reads
-use Rattle.host.proofs.tell_nine.Reads as tell-nine-reads
 
--- src/lib.rt:137:9
 returns : tie.Need-returns
 returns c = tells-nothing (c .before .args .answer) (c .before .args .told .now) (c .if1 .taken)
 
--- src/lib.rt:141:38
 enum-told : tie.Need-enum-told
 enum-told c = search needs
 
--- src/lib.rt:141:44
 nine-answered-requires : tie.Need-nine-answered-requires
 nine-answered-requires c κs = search needs
 
--- src/lib.rt:141:28
 tell-nine-requires : tie.Need-tell-nine-requires
 tell-nine-requires c κs = search needs
 
--- src/lib.rt:142:24
 enum-known-given : tie.Need-enum-known-given
 enum-known-given c = search needs
 
--- src/lib.rt:142:52
 nine-refused-requires : tie.Need-nine-refused-requires
 nine-refused-requires c κs = search needs
 
--- src/lib.rt:142:36
 tell-nine-requires-2 : tie.Need-tell-nine-requires-2
 tell-nine-requires-2 c κs = search needs
 
--- src/lib.rt:133:1
 same-length : tie.Need-same-length
 same-length c = search needs
 
--- src/lib.rt:133:1
 returns-2 : tie.Need-returns-2
 returns-2 c = tells (c .before .before .before .before .before .before .before .args .answer) (c .before .before .before .before .before .before .before .args .told .now) (c .before .before .before .before .before .before .if1 .left) (c .before .before .before .before .enum-told .given .1) (c .before .before .nine-answered .ensures) (c .before .tell-nine .ensures)
 
--- src/lib.rt:133:1
 same-length-2 : tie.Need-same-length-2
 same-length-2 c = search needs
 
--- src/lib.rt:133:1
 returns-3 : tie.Need-returns-3
 returns-3 c = tells (c .before .before .before .before .before .before .before .before .args .answer) (c .before .before .before .before .before .before .before .before .args .told .now) (c .before .before .before .before .before .before .before .if1 .left) (c .before .before .before .before .before .given .given .1) (c .before .before .nine-refused .ensures) (c .before .tell-nine2 .ensures)
 

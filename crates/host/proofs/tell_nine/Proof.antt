@@ -11,8 +11,6 @@ use Rattle.host.proofs.Telling.{back}
 use lib.Seq.{paste, paste-suc, take-all}
 use Rattle.host.proofs.tell_nine.Statement.{statement}
 use Rattle.host.proofs.tell_nine.Tie as tie
-use Rattle.host.proofs.tell_nine.Reads as reads
-use Rattle.host.proofs.tell_nine.Lts as lts
 
 abbrev Inv-loop : tie.InvT-loop
 Inv-loop told₀ nine i₀ told i = (i ≤ 9) × (length told ≡ length told₀) × (told ≡ paste told₀ 0 nine i)
