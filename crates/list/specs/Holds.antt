@@ -1,0 +1,13 @@
+-- What the program's buffers hold while it prints a file's events.
+use Prim.Native.Nat.{ℕ, _<_}
+use mathlib.Core.Path.{_≡_}
+use mathlib.Core.List.{List}
+use Rattle.record.specs.declared.Shape.{Shape}
+use Rattle.record.specs.declared.Read.the-variants.{File}
+use Rattle.record.specs.Reader.{readFile, tableIn}
+
+-- the file is as laid down, and the first day, marks and readings are those of its table
+pub record Holds (file : List ℕ) (shape : Shape) (marks readings : List ℕ) : Type 0 where
+  pub accepted : readFile file ≡ File shape
+  pub its-marks : marks ≡ tableIn file .marks
+  pub its-readings : readings ≡ tableIn file .readings

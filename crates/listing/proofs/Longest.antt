@@ -1,0 +1,121 @@
+-- The longest file that is as laid down has 50,440 bytes, and no byte past them is looked at: of a longer file its first 50,441 bytes read as
+-- the whole does.
+use Prim.Native.Nat.{ℕ, zero, suc, _+_, _-_, _*_, _≤_, _<_}
+use mathlib.Core.Path.{_≡_, refl, sym, _∙_}
+use mathlib.Core.Bool.{Bool}
+use mathlib.Core.List.{List, [], _∷_}
+use mathlib.Core.Logic.{⊎-elim}
+use native.Mathlib.Omega.{arith}
+use native.Mathlib.Nat.{sub-zero, zero-sub, suc-sub-suc, suc-mul}
+use lib.ListN.{length, take, drop, length-take}
+use lib.Seq.{getD-take, take-nil}
+use lib.Dec.{leb}
+use borrow.Author.Tests.{le-leb, lt-leb, ne-eqb}
+use Rattle.lists.proofs.Bools.{lt-or-le}
+use Rattle.lists.specs.Ascii.{ascii}
+use Rattle.record.specs.Reader.{numberAt, opensWith, isRecord, isPF, isDY, isEV, run, isDYof, daysFrom, eventsFrom, firstIn, daysIn, dyLength}
+use Rattle.record.specs.Reader.{eventStart, eventsIn, goodEnd, readFile}
+use Rattle.record.proofs.Records.{dy-length, day-record, event-record}
+use Rattle.record.proofs.Runs.{run-most}
+use Rattle.record.proofs.Files.{event-start-is}
+
+-- 8 bytes, 128 days of 390, and 64 events of 8
+abbrev pub longest : ℕ
+longest = 8 + 128 * 390 + 64 * 8
+
+drop-take : {A : Type 0} (k n : ℕ) (l : List A) → drop k (take n l) ≡ take (n - k) (drop k l)
+drop-take zero n l = rw sub-zero
+drop-take (suc k) zero l = rw zero-sub
+drop-take (suc k) (suc n) [] = rw take-nil
+drop-take (suc k) (suc n) (x ∷ l) = rw suc-sub-suc (drop-take k n l)
+
+-- ---- tests and numbers of a record look at no byte past it
+number-cut : (width at n : ℕ) (l : List ℕ) → at + width ≤ n → numberAt width at (take n l) ≡ numberAt width at l
+unfolding numberAt
+number-cut zero at n l h = refl
+number-cut (suc width) at n l h = rw (getD-take n l at 0 (omega arith), number-cut width (suc at) n l (omega arith))
+
+opens-cut : (mark : List ℕ) (n : ℕ) (l : List ℕ) → 2 ≤ n → opensWith mark (take n l) ≡ opensWith mark l
+unfolding opensWith
+opens-cut mark n l h = rw (getD-take n l 0 0 (omega arith), getD-take n l 1 0 (omega arith))
+
+leb-cut : (k n : ℕ) (l : List ℕ) → k ≤ n → leb k (length (take n l)) ≡ leb k (length l)
+leb-cut k n l h =
+    ⊎-elim (λ (o : length l < k). lt-leb k (length (take n l)) (rw length-take (omega arith)) ∙ sym (lt-leb k (length l) o))
+    (λ (o : k ≤ length l). le-leb k (length (take n l)) (rw length-take (omega arith)) ∙ sym (le-leb k (length l) o)) (lt-or-le (length l) k)
+
+record-cut : (size : ℕ) (mark : List ℕ) (blank n : ℕ) (l : List ℕ) → 2 ≤ n → size ≤ n → blank < n
+    → isRecord size mark blank (take n l) ≡ isRecord size mark blank l
+unfolding isRecord
+record-cut size mark blank n l two h o = rw (leb-cut size n l h, opens-cut mark n l two, getD-take n l blank 0 o)
+
+day-cut : (n : ℕ) (l : List ℕ) → 390 ≤ n → isDY (take n l) ≡ isDY l
+day-cut n l h = rw (day-record (take n l), day-record l) (record-cut 390 (ascii "DY") 5 n l (omega arith) h (omega arith))
+
+day-of-cut : (day n : ℕ) (l : List ℕ) → 390 ≤ n → isDYof day (take n l) ≡ isDYof day l
+unfolding isDYof
+day-of-cut day n l h = rw (day-cut n l h, number-cut 2 2 n l (omega arith))
+
+event-cut : (n : ℕ) (l : List ℕ) → 8 ≤ n → isEV (take n l) ≡ isEV l
+event-cut n l h = rw (event-record (take n l), event-record l) (record-cut 8 (ascii "EV") 7 n l (omega arith) h (omega arith))
+
+-- ---- nor does a run of records, each of `each` bytes
+module _ (good : ℕ → List ℕ → Bool) (recordLength : ℕ → ℕ) (each : ℕ) (same : (i : ℕ) → recordLength i ≡ each)
+    (seen : (i n : ℕ) (l : List ℕ) → each ≤ n → good i (take n l) ≡ good i l) where
+  run-cut : (most i n : ℕ) (l : List ℕ) → most * each ≤ n → run good recordLength most i (take n l) ≡ run good recordLength most i l
+  unfolding run
+  run-cut zero i n l h = refl
+  run-cut (suc most) i n l h =
+      let size : suc most * each ≡ most * each + each = suc-mul most each in
+      rw (seen i n l (omega arith), same i, drop-take each n l, run-cut most (suc i) (n - each) (drop each l) (omega arith))
+
+days-most : (file : List ℕ) → daysIn file ≤ 128
+unfolding daysIn daysFrom
+days-most file = run-most isDYof dyLength 128 (firstIn file) (drop 8 file)
+
+events-most : (file : List ℕ) → eventsIn file ≤ 64
+unfolding eventsIn eventsFrom
+events-most file = run-most (λ i. isEV) (λ i. 8) 64 0 (drop (eventStart file 0) file)
+
+end-most : (file : List ℕ) → goodEnd file ≤ longest
+unfolding goodEnd
+end-most file = omega (arith, event-start-is file (eventsIn file), days-most file, events-most file)
+
+-- ---- nor does the file
+module _ (n : ℕ) (file : List ℕ) (enough : longest < n) where
+  first-cut : firstIn (take n file) ≡ firstIn file
+  unfolding firstIn
+  first-cut = rw (drop-take 8 n file, day-cut (n - 8) (drop 8 file) (omega arith), number-cut 2 2 (n - 8) (drop 8 file) (omega arith))
+
+  days-cut : daysIn (take n file) ≡ daysIn file
+  unfolding daysIn daysFrom
+  days-cut =
+      rw (first-cut, drop-take 8 n file)
+      (run-cut isDYof dyLength 390 dy-length day-of-cut 128 (firstIn file) (n - 8) (drop 8 file) (omega arith))
+
+  start-cut : (i : ℕ) → eventStart (take n file) i ≡ eventStart file i
+  unfolding eventStart
+  start-cut i = rw (first-cut, days-cut)
+
+  events-cut : eventsIn (take n file) ≡ eventsIn file
+  unfolding eventsIn eventsFrom
+  events-cut =
+      let start : eventStart file 0 ≤ 8 + 128 * 390 = omega (arith, event-start-is file 0, days-most file) in
+      rw (start-cut 0, drop-take (eventStart file 0) n file)
+      (run-cut (λ i. isEV) (λ i. 8) 8 (λ i. refl) (λ i. event-cut) 64 0 (n - eventStart file 0) (drop (eventStart file 0) file) (omega arith))
+
+  end-cut : goodEnd (take n file) ≡ goodEnd file
+  unfolding goodEnd
+  end-cut = rw events-cut (start-cut (eventsIn file))
+
+  pub read-cut : longest < length file → readFile (take n file) ≡ readFile file
+  unfolding readFile isPF
+  read-cut h =
+      let size : longest < length (take n file) = rw length-take (omega arith) in
+      rw (
+        leb-cut 8 n file (omega arith),
+        opens-cut (ascii "PF") n file (omega arith),
+        end-cut,
+        ne-eqb (goodEnd file) (length (take n file)) (λ e. omega (arith, end-most file)),
+        ne-eqb (goodEnd file) (length file) (λ e. omega (arith, end-most file)),
+      )

@@ -1,0 +1,29 @@
+-- `listing::put_answer` meets its contract: the event line, and the quarter lines.
+use mir.Syntax.{w64}
+use mir.ValLaws.{toZ-ofZ}
+use borrow.Author.Needs.{needs}
+use Rattle.listing.specs.Lines.{linesText}
+use Rattle.listing.proofs.Writing.{then}
+use Rattle.listing.proofs.put_answer.Statement.{statement}
+use Rattle.listing.proofs.put_answer.Tie as tie
+
+put-event-line-requires : tie.Need-put-event-line-requires
+put-event-line-requires c κs = search needs
+
+put-quarters-requires : tie.Need-put-quarters-requires
+put-quarters-requires c κs = search needs
+
+same-length : tie.Need-same-length
+same-length c = search needs
+
+returns : tie.Need-returns
+unfolding linesText
+returns c =
+    let l = c .before .before .before .before .before .before in
+    let a = l .before .before .before .before .before .before .args .answer in
+    let back = toZ-ofZ w64 (a .adjustment) (record { sfits = l .before .struct-told .given .1 .1 .1 .0 .1 }) in
+    then (rw back at (l .put-event-line .ensures .0)) (c .before .before .put-quarters .ensures .0)
+
+pub put-answer-spec : {M : Type 1} → statement M
+put-answer-spec =
+    tie.close (tie.spec put-event-line-requires put-quarters-requires same-length returns)
