@@ -29,7 +29,7 @@ use Rattle.method.specs.Method.{outcome}
 use Rattle.method.specs.HighXofY.{highXofY}
 use Rattle.method.specs.Verdict.{Reply, Answer as Numbers, refused, answered, tableRefusals, requestRefusals, closing, methodology}
 use Rattle.method.specs.Verdict.{verdict, written}
-use Rattle.readings.proofs.Laws.{adjustment-holds, adjustment-least, adjustment-most, window-most}
+use Rattle.window.proofs.Laws.{adjustment-holds, adjustment-least, adjustment-most, window-most}
 use Rattle.choose.specs.declared.Chosen.{Chosen}
 use Rattle.choose.specs.declared.Choice.{Choice}
 use Rattle.choose.specs.declared.Directory.{Directory}

@@ -15,7 +15,7 @@ use Rattle.lists.proofs.Bools.{both}
 use Rattle.method.specs.Table.{Table, Day, present, goodReading, isExtract, held, history, offset, size, dayOf}
 use Rattle.method.specs.Adjustment.{A, B, S}
 use Rattle.method.specs.HighXofY.{complete}
-use Rattle.readings.proofs.Laws.{all-in-range, day-most, whole, B-by-days}
+use Rattle.window.proofs.Laws.{all-in-range, day-most, whole, B-by-days}
 use Rattle.baseline.specs.Part.{hasDay}
 use Rattle.baseline.specs.Sums.{withDays, quarterSum, twelveSums}
 use Rattle.baseline.specs.Ready.{isWhole}

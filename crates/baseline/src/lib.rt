@@ -70,13 +70,13 @@ fn finish(
 {
     let yesterday = day_part(first, marks, readings, request.event - 1);
     let today = day_part(first, marks, readings, request.event);
-    let end = readings::adjustment_end(request, yesterday, today);
+    let end = window::adjustment_end(request, yesterday, today);
     if end == 0 {
         return refuse(Refusal::NoAdjustmentWindow(chosen.reach));
     }
     let days = chosen.days;
     let count = chosen.count as usize;
-    let own = readings::window_sum(end, yesterday, today);
+    let own = window::window_sum(end, yesterday, today);
     let adjustment = numerators::adjustment(first, readings, days, count, end, own);
     let start = (request.s - 96) as usize;
     let length = (request.e - request.s) as usize;

@@ -86,7 +86,7 @@ fn sum_windows(first: u32, readings: &[u32], days: [u32; 5], count: usize, end: 
         let at = table::offset(first, days[k]);
         let next = at + 96;
         let day = &readings[at..next];
-        total = std::num::wrapping_add_u64(total, readings::window_sum(end, day, day));
+        total = std::num::wrapping_add_u64(total, window::window_sum(end, day, day));
         k += 1;
     }
     total

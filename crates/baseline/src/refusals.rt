@@ -15,7 +15,7 @@ pub(crate) fn of_table(first: u32, marks: &[u8], readings: &[u32]) -> Tested
     ensures { λ r. ⌜ r ≡ tested (tableRefusals (tableOf first (now (marks .entry)) (now (readings .entry)))) ⌝ }
 {
     if table::is_extract(first, marks, readings) {
-        let mark = readings::first_bad_mark(marks);
+        let mark = marks::first_bad_mark(marks);
         if mark < marks.len() {
             return Tested::Failed(Refusal::BadMark(mark as u32));
         }

@@ -10,8 +10,8 @@ use Rattle.lists.specs.Lists.{all, sumOf}
 use Rattle.method.specs.declared.Request.{Request}
 use Rattle.method.specs.Table.{Day, present, eventBit, outageBit}
 use Rattle.method.specs.HighXofY.{complete, eligible, spare, eventSum}
-use Rattle.readings.specs.Sums.{Summed}
-use Rattle.readings.proofs.Exact.{exact}
+use Rattle.sums.specs.Sums.{Summed}
+use Rattle.sums.proofs.Exact.{exact}
 use Rattle.ranking.specs.Words.{word}
 use Rattle.choose.specs.declared.Directory.{Directory}
 use Rattle.choose.specs.declared.Judged.{Judged}

@@ -173,7 +173,7 @@ fn event_sum(request: Request, part: &[u32]) -> u64
 {
     let start = less(request.s, 96) as usize;
     let end = start + less(request.e, request.s) as usize;
-    readings::sum_between(part, start, end)
+    sums::sum_between(part, start, end)
 }
 
 // What a relevant day's mark and readings make of it.
@@ -181,12 +181,12 @@ fn judge(request: Request, mark: u8, part: &[u32], back: u32) -> Judged
     requires { ⌜ (1 ≤ back) × (back ≤ 45) × (back ≤ request .event) × (length (now part) ≤ 96) ⌝ }
     ensures { λ r. ⌜ r ≡ judged request (request .event - back, room mark (now (part .entry))) ⌝ }
 {
-    if readings::is_out(mark) {
+    if marks::is_out(mark) {
         return Judged::Neither;
     }
     if readings::complete(part) {
         let word = ranking::word(event_sum(request, part), 46 - back);
-        if readings::is_event(mark) {
+        if marks::is_event(mark) {
             Judged::Spare(word)
         } else {
             Judged::Eligible(word)

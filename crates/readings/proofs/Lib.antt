@@ -1,4 +1,0 @@
-pub mod Exact
-pub mod Marks
-pub mod Windows
-pub mod Laws

@@ -1,0 +1,15 @@
+-- The sum of few numbers of 32 bits is exact, and so is the sum of two such sums.
+use Prim.Native.Nat.{ℕ, _+_, _*_, _%_, _^_, _≤_}
+use mathlib.Core.Path.{_≡_}
+use mathlib.Core.List.{List}
+use native.Mathlib.Omega.{arith}
+use lib.ListN.{length}
+use Rattle.lists.specs.Lists.{sumOf}
+use Rattle.sums.specs.Sums.{Summed}
+
+pub exact : {xs : List ℕ} {r : ℕ} → Summed xs r → length xs ≤ 2 ^ 31 → r ≡ sumOf xs
+exact {xs} {r} s few = omega arith
+
+pub exact-both : {xs ys : List ℕ} {x y : ℕ} → Summed xs x → Summed ys y → length xs ≤ 2 ^ 30 → length ys ≤ 2 ^ 30
+    → (x + y) % 2 ^ 64 ≡ sumOf xs + sumOf ys
+exact-both {xs} {ys} {x} {y} s t few less = omega arith
