@@ -19,8 +19,8 @@ use Rattle.method.specs.Method.{Method, dated, wholeReach, seen, eligibles, spa
 use Rattle.method.specs.HighXofY.{highXofY}
 use Rattle.method.proofs.LookBack.{daysBefore-is}
 use Rattle.method.proofs.Histories.{is-held, held-first, held-last}
-use Rattle.choose.specs.declared.Directory.{Directory}
-use Rattle.choose.specs.Rooms.{partAt, roomDay, heldRooms, roomHistory}
+use Rattle.rooms.specs.declared.Directory.{Directory}
+use Rattle.rooms.specs.Rooms.{partAt, roomDay, heldRooms, roomHistory}
 use Rattle.choose.specs.Choice.{choiceOf}
 use Rattle.choose.specs.Look.{nearest}
 use Rattle.choose.proofs.Days.{seen-nearest}

@@ -32,9 +32,9 @@ use Rattle.method.specs.Verdict.{verdict, written}
 use Rattle.window.proofs.Laws.{adjustment-holds, adjustment-least, adjustment-most, window-most}
 use Rattle.choose.specs.declared.Chosen.{Chosen}
 use Rattle.choose.specs.declared.Choice.{Choice}
-use Rattle.choose.specs.declared.Directory.{Directory}
+use Rattle.rooms.specs.declared.Directory.{Directory}
 use Rattle.choose.specs.Choice.{choiceOf}
-use Rattle.choose.specs.Rooms.{roomHistory}
+use Rattle.rooms.specs.Rooms.{roomHistory}
 use Rattle.baseline.specs.Directory.{directoryOf}
 use Rattle.baseline.proofs.Rooms.{choice-same}
 use Rattle.baseline.specs.declared.Answer.{Answer}

@@ -6,7 +6,7 @@ use lib.ListN.{getD}
 use lib.Dec.{leb}
 use Rattle.method.specs.Table.{Table, offset}
 use Rattle.method.specs.Adjustment.{places}
-use Rattle.choose.specs.declared.Directory.{Directory}
+use Rattle.rooms.specs.declared.Directory.{Directory}
 
 -- the days before the event that the table holds, at most 45
 abbrev pub heldIn : Table → ℕ → ℕ

@@ -7,7 +7,7 @@ ghost use Rattle.method.specs.Table.{isExtract, held, history, offset};
 ghost use Rattle.baseline.specs.Answer.{tableOf};
 ghost use Rattle.baseline.specs.Directory.{directoryOf};
 ghost use Rattle.baseline.specs.Part.{hasDay};
-use choose::Directory;
+use rooms::Directory;
 
 // 31 December 2099
 const LAST_DAY: usize = 36524;

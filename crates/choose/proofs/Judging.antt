@@ -4,7 +4,6 @@ use mathlib.Core.Path.{_≡_, refl, sym, ap, _∙_}
 use mathlib.Core.Bool.{Bool, true, false, cond, not, _&&_}
 use mathlib.Core.List.{List, []}
 use native.Mathlib.Omega.{arith}
-use lib.Dec.{leb}
 use lib.ListN.{length, take, drop, getD, length-take, length-drop}
 use Rattle.lists.specs.Lists.{all, sumOf}
 use Rattle.method.specs.declared.Request.{Request}
@@ -13,20 +12,11 @@ use Rattle.method.specs.HighXofY.{complete, eligible, spare, eventSum}
 use Rattle.sums.specs.Sums.{Summed}
 use Rattle.sums.proofs.Exact.{exact}
 use Rattle.ranking.specs.Words.{word}
-use Rattle.choose.specs.declared.Directory.{Directory}
+use Rattle.rooms.specs.declared.Directory.{Directory}
 use Rattle.choose.specs.declared.Judged.{Judged}
 use Rattle.choose.specs.declared.Judged.the-variants.{Eligible, Spare, Neither}
-use Rattle.choose.specs.Rooms.{partAt, roomDay}
+use Rattle.rooms.specs.Rooms.{partAt, roomDay}
 use Rattle.choose.specs.Look.{room, roomsOf, judged}
-
--- a part has at most 96 readings
-pub part-few : (readings : List ℕ) (at : ℕ) → length (partAt readings at) ≤ 96
-unfolding partAt
-part-few readings at = go (leb (at + 96) (length readings))
-  where
-    go : (b : Bool) → length (cond b (take 96 (drop at readings)) []) ≤ 96
-    go true = rw length-take (omega arith)
-    go false = omega arith
 
 -- the room of the day so far back
 pub room-back : (r : Request) (rooms : Directory) (readings : List ℕ) (back : ℕ) → back ≤ r .event

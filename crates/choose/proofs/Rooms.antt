@@ -19,8 +19,8 @@ use Rattle.method.proofs.Histories.{held-first}
 use Rattle.method.proofs.Stable.{window-of-seen, outcome-same}
 use Rattle.method.proofs.HighXofY.{lawful}
 use Rattle.ranking.proofs.Numbers.{same-test}
-use Rattle.choose.specs.declared.Directory.{Directory}
-use Rattle.choose.specs.Rooms.{heldRooms, roomDay, roomHistory}
+use Rattle.rooms.specs.declared.Directory.{Directory}
+use Rattle.rooms.specs.Rooms.{heldRooms, roomDay, roomHistory}
 use Rattle.choose.specs.Choice.{choiceOf}
 use Rattle.choose.specs.Look.{nearest, roomsOf}
 use Rattle.choose.proofs.Days.{seen-nearest}

@@ -25,10 +25,10 @@ use Rattle.method.proofs.Histories.{is-held}
 use Rattle.ranking.specs.Words.{insertAll}
 use Rattle.ranking.proofs.Sorting.{length-sorted, all-sorted}
 use Rattle.ranking.proofs.Rank.{lookedBack, first-of-row, window-ranked}
-use Rattle.choose.specs.declared.Directory.{Directory}
+use Rattle.rooms.specs.declared.Directory.{Directory}
 use Rattle.choose.specs.declared.Found.{Found}
 use Rattle.choose.specs.declared.Choosing.the-variants.{Short, Few, Days}
-use Rattle.choose.specs.Rooms.{heldRooms, roomHistory}
+use Rattle.rooms.specs.Rooms.{heldRooms, roomHistory}
 use Rattle.choose.specs.Choice.{choiceOf, noDays, inFive}
 use Rattle.choose.specs.Look.{nearest, roomsOf, eligibleOf, spareOf, rowOf, Enough, dayOf, ranked, amongFew}
 use Rattle.choose.proofs.Days.{seen-nearest, nearest-back, all-keep}

@@ -17,10 +17,10 @@ use Rattle.ranking.specs.Words.{word, sortDown, padded, insertAll}
 use Rattle.choose.specs.declared.Judged.{Judged}
 use Rattle.choose.specs.declared.Judged.the-variants.{Eligible, Spare, Neither}
 use Rattle.choose.specs.declared.Found.{Found}
-use Rattle.choose.specs.declared.Directory.{Directory}
+use Rattle.rooms.specs.declared.Directory.{Directory}
 use Rattle.choose.specs.declared.Choosing.the-variants.{Short, Few, Days}
 use Rattle.choose.specs.declared.Choice.{Choice}
-use Rattle.choose.specs.Rooms.{roomDay}
+use Rattle.rooms.specs.Rooms.{roomDay}
 use Rattle.choose.specs.Choice.{inFive, noDays}
 
 -- what a mark and readings say of a day

@@ -8,18 +8,12 @@ ghost use Rattle.calendar.specs.Holidays.{group as groupOf};
 ghost use Rattle.method.specs.Relevant.{groupNumber, relevant as isRelevant};
 ghost use Rattle.method.specs.Method.{wholeReach};
 ghost use Rattle.method.specs.HighXofY.{Y, N, eventSum, highXofY};
-ghost use Rattle.choose.specs.Rooms.{partAt, roomHistory};
+ghost use Rattle.rooms.specs.Rooms.{roomHistory};
 ghost use Rattle.choose.specs.Choice.{choiceOf, noDays, inFive};
 ghost use Rattle.choose.specs.Look.{room, roomsOf, mayBe, judged, nearest, ifRelevant, Further, Adds, Enough, dayOf, ranked, amongFew};
 use calendar::Group;
 use method::Request;
-
-// Where the days from D-45 to D stand in lent readings, and their marks: entry i is day D - i. So many days before D are held.
-pub struct Directory {
-    pub at: [u32; 46],
-    pub marks: [u8; 46],
-    pub held: u32,
-}
+use rooms::Directory;
 
 // The chosen days in rank order, the first `count` of the five, and the reach.
 pub struct Chosen {
@@ -153,19 +147,6 @@ fn whole_reach(request: Request, group: Group) -> u32
     0
 }
 
-// The 96 readings that start at a place; none where they run past the end.
-fn part_at<'a>(readings: &'a [u32], at: u32) -> &'a [u32]
-    ensures { λ r. ⌜ now r ≡ partAt (now (readings .entry)) at ⌝ }
-{
-    let start = at as usize;
-    let end = start + 96;
-    if end <= readings.len() {
-        &readings[start..end]
-    } else {
-        &readings[..0]
-    }
-}
-
 // The sum of a day's readings over the event's own quarters.
 fn event_sum(request: Request, part: &[u32]) -> u64
     requires { ⌜ length (now part) ≤ 96 ⌝ }
@@ -253,7 +234,7 @@ fn look(request: Request, group: Group, rooms: Directory, readings: &[u32], held
         }
         back += 1;
         let place = back as usize;
-        let part = part_at(readings, rooms.at[place]);
+        let part = rooms::part_at(readings, rooms.at[place]);
         let next = with_day(request, group, back, rooms.marks[place], part, found);
         found = next;
     }

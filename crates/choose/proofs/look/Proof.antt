@@ -6,7 +6,8 @@ use borrow.Author.Needs.{needs}
 use lib.ListN.{getD}
 use Rattle.calendar.specs.Holidays.{group as groupOf}
 use Rattle.choose.specs.Look.{room, roomsOf}
-use Rattle.choose.proofs.Judging.{part-few, room-back}
+use Rattle.rooms.proofs.Parts.{part-few}
+use Rattle.choose.proofs.Judging.{room-back}
 use Rattle.choose.proofs.Looking.{Back, back-start, back-further, back-more, back-full, back-end}
 use Rattle.choose.proofs.look.Statement.{statement}
 use Rattle.choose.proofs.look.Tie as tie
@@ -54,7 +55,7 @@ with-day-requires c κs =
     let l = c .before .before .before .before .before .before .loop in (
       s .pre .0,
       back-further (l .inv) (c .before .before .before .before .before .loop-test .taken) (s .pre .1) (s .pre .2),
-      rw (c .before .part-at .ensures) (part-few (s .args .readings .now) (getD (s .args .t3 .at) (l .back + 1) 0)),
+      rw (c .before .part-at .ensures .list) (part-few (s .args .readings .now) (getD (s .args .t3 .at) (l .back + 1) 0)),
     )
 
 loop-less : tie.Need-loop-less Inv-loop μ-loop
@@ -65,7 +66,7 @@ loop-again c =
     let s = c .before .before .before .before .before .before .before .before .before .before in
     let a = s .args in
     let l = c .before .before .before .before .before .before .before .loop in
-    let part = ap (room (getD (a .t3 .marks) (l .back + 1) 0)) (c .before .before .part-at .ensures) in
+    let part = ap (room (getD (a .t3 .marks) (l .back + 1) 0)) (c .before .before .part-at .ensures .list) in
     let here = room-back (a .request) (a .t3) (a .readings .now) (l .back + 1) (omega arith) in
     back-more (l .inv) (c .before .before .before .before .before .before .loop-test .taken) (s .pre .2) (c .before .before .before .before .if1 .left) (rw (part ∙ here) at (c .with-day .ensures))
 

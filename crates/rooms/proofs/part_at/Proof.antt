@@ -1,13 +1,11 @@
--- `choose::part_at` meets its contract.
+-- `rooms::part_at` meets its contract.
 use Prim.Native.Nat.{_+_, _-_}
-use mathlib.Core.Path.{_≡_}
+use mathlib.Core.Path.{_≡_, refl}
 use native.Mathlib.Omega.{arith}
 use borrow.Author.Needs.{needs}
-use borrow.Author.Tests.{le-leb, lt-leb}
-use lib.ListN.{length}
-use Rattle.choose.specs.Rooms.{partAt}
-use Rattle.choose.proofs.part_at.Statement.{statement}
-use Rattle.choose.proofs.part_at.Tie as tie
+use Rattle.rooms.proofs.Parts.{part-inside, part-past}
+use Rattle.rooms.proofs.part_at.Statement.{statement}
+use Rattle.rooms.proofs.part_at.Tie as tie
 
 add-end : tie.Need-add-end
 add-end c = search needs
@@ -28,16 +26,13 @@ slice-aggregate-result : tie.Need-slice-aggregate-result
 slice-aggregate-result c = search needs
 
 returns : tie.Need-returns
-unfolding partAt
 returns c =
     let a = c .before .before .args in
     let e : a .at + 96 - a .at ≡ 96 = omega arith in
-    rw (e, le-leb (a .at + 96) (length (a .readings .now)) (c .before .if1 .taken))
+    part-inside refl (c .before .if1 .taken) (rw e) (omega arith)
 
 returns-2 : tie.Need-returns-2
-unfolding partAt
-returns-2 c =
-    let a = c .before .before .args in rw (lt-leb (a .at + 96) (length (a .readings .now)) (c .before .if1 .left))
+returns-2 c = part-past refl (c .before .if1 .left) refl (omega arith)
 
 pub part-at-spec : {M : Type 1} → statement M
 part-at-spec =
