@@ -16,7 +16,9 @@ use Rattle.method.specs.declared.Refusal.{Refusal}
 use Rattle.method.specs.Verdict.{number, carries}
 use Rattle.listing.specs.Lines.{Field, space, newline, spaced, lineText}
 use Rattle.listing.specs.Listing.{numbers, refusedLine, eventLine, refusalLine}
-use Rattle.listing.specs.Writes.{room, Writes, Begins, Tells}
+use Rattle.telling.specs.declared.Told.{Told}
+use Rattle.telling.proofs.Telling.{Tells}
+use Rattle.listing.specs.Writes.{room, Writes, Begins}
 
 pub refused-is : (offset : ℕ) → ascii "file refused " ++ dec offset ++ (newline ∷ []) ≡ lineText (refusedLine offset)
 unfolding lineText spaced refusedLine
@@ -69,8 +71,8 @@ refusal-is r w n carried e f =
     rw (line-is (dec (r .event)) (dec (r .s) ∷ dec (r .e) ∷ []) (ascii "refused" ∷ dec n ∷ []) (numbers carried), e, f)
 
 -- how many numbers a refusal carries
-pub carried-length : {w : Refusal} {n : ℕ} {two : List ℕ} {count : ℕ} → Tells w n two count → length (take count two) ≡ count
-carried-length {w} {n} {two} {count} t = length-take-le count two (omega arith)
+pub carried-length : {w : Refusal} {told : Told} → Tells w told → length (take (told .count) (told .carried)) ≡ told .count
+carried-length {w} {told} t = length-take-le (told .count) (told .carried) (omega (arith, t .size, t .most))
 
 -- a text at the start, and a buffer that is too short for any
 pub too-short : (d t : List ℕ) → length d < room → Begins d t 0 d

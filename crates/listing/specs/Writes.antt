@@ -7,8 +7,6 @@ use lib.ListN.{length, take, drop}
 use lib.Dec.{leb}
 use Rattle.text.specs.Text.{put}
 use Rattle.method.specs.declared.Request.{Request}
-use Rattle.method.specs.declared.Refusal.{Refusal}
-use Rattle.method.specs.Verdict.{number, carries}
 use Rattle.baseline.specs.declared.Answer.{Answer}
 use Rattle.listing.specs.Lines.{Line}
 use Rattle.listing.specs.Listing.{eventLine, quarterLines}
@@ -27,13 +25,6 @@ room = 4096
 pub record Begins (d t : List ℕ) (r : ℕ) (d′ : List ℕ) : Type 0 where
   pub size : r ≡ cond (leb room (length d)) (length t) 0
   pub holds : d′ ≡ cond (leb room (length d)) (t ++ drop (length t) d) d
-
--- the number of a refusal, and what it carries as the first `count` of two numbers
-pub record Tells (w : Refusal) (n : ℕ) (two : List ℕ) (count : ℕ) : Type 0 where
-  pub numbered : n ≡ number w
-  pub carried : take count two ≡ carries w
-  pub size : length two ≡ 2
-  pub most : count ≤ 2
 
 -- the lines of what a call gives back, answered, with the numerators of the event's quarters
 abbrev pub answerLines : Request → Answer → List ℕ → List Line

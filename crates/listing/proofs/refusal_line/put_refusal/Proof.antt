@@ -3,6 +3,7 @@ use mathlib.Core.Path.{sym}
 use native.Mathlib.Omega.{arith}
 use borrow.Author.Needs.{needs}
 use Rattle.lists.specs.Ascii.{ascii}
+use Rattle.telling.proofs.Telling.{tells}
 use Rattle.listing.proofs.Writing.{then, named}
 use Rattle.listing.proofs.Lines.{spaced-word-and, carried-length, refusal-is}
 use Rattle.listing.proofs.refusal_line.put_refusal.Statement.{statement}
@@ -21,19 +22,20 @@ put-field-requires : tie.Need-put-field-requires
 put-field-requires c κs = search needs
 
 array-share-prefix-carried : tie.Need-array-share-prefix-carried
-array-share-prefix-carried c = search needs
+array-share-prefix-carried c =
+    let told = tells (c .before .before .before .before .before .before .before .before .before .before .before .tell .ensures) in omega (arith, told .size, told .most)
 
 slice-aggregate-put-numbers : tie.Need-slice-aggregate-put-numbers
 slice-aggregate-put-numbers c =
-    sym (carried-length (c .before .before .before .before .before .before .before .before .before .before .before .before .tell .ensures))
+    sym (carried-length (tells (c .before .before .before .before .before .before .before .before .before .before .before .before .tell .ensures)))
 
 put-numbers-requires : tie.Need-put-numbers-requires
 put-numbers-requires c κs =
-    omega (arith, carried-length (c .before .before .before .before .before .before .before .before .before .before .before .before .tell .ensures))
+    let told = tells (c .before .before .before .before .before .before .before .before .before .before .before .before .tell .ensures) in omega (arith, told .most, carried-length told)
 
 put-newline-requires : tie.Need-put-newline-requires
 put-newline-requires c κs =
-    omega (arith, carried-length (c .before .before .before .before .before .before .before .before .before .before .before .before .before .before .before .before .tell .ensures))
+    let told = tells (c .before .before .before .before .before .before .before .before .before .before .before .before .before .before .before .before .tell .ensures) in omega (arith, told .most, carried-length told)
 
 same-length : tie.Need-same-length
 same-length c = search needs
@@ -41,7 +43,7 @@ same-length c = search needs
 returns : tie.Need-returns
 returns c =
     let l = c .before .before .before .before .before .before .before .before .before .before .before in
-    let told = l .before .before .before .before .before .before .before .before .tell .ensures in
+    let told = tells (l .before .before .before .before .before .before .before .before .tell .ensures) in
     let a = l .before .before .before .before .before .before .before .before .before .before .args in
     let line = refusal-is (a .request) (a .refusal) _ _ (told .numbered) (told .carried) in
     let front = then (l .before .before .before .before .before .put-three .ensures .0) (named (spaced-word-and (ascii "refused") _) (l .put-field .ensures .0)) in
