@@ -16,8 +16,8 @@ use Rattle.method.specs.declared.Refusal.{Refusal}
 use Rattle.method.specs.Verdict.{number, carries}
 use Rattle.listing.specs.Lines.{Field, space, newline, spaced, lineText}
 use Rattle.listing.specs.Listing.{numbers, refusedLine, eventLine, refusalLine}
-use Rattle.telling.specs.declared.Told.{Told}
-use Rattle.telling.proofs.Telling.{Tells}
+use Rattle.carried.specs.declared.Told.{Told}
+use Rattle.carried.proofs.Carried.{Tells}
 use Rattle.listing.specs.Writes.{room, Writes, Begins}
 
 pub refused-is : (offset : ℕ) → ascii "file refused " ++ dec offset ++ (newline ∷ []) ≡ lineText (refusedLine offset)

@@ -12,7 +12,7 @@ pub(crate) fn put_refusal(out: &mut [u8], request: Request, refusal: Refusal) ->
     requires { ⌜ 100 ≤ length (now out) ⌝ }
     ensures { λ r. ⌜ Writes (now (out .entry)) 0 (lineText (refusalLine request refusal)) r (now (out .exit)) ⌝ }
 {
-    let told = telling::tell(refusal);
+    let told = carried::tell(refusal);
     let carried = told.carried;
     let count = told.count;
     let third = pieces::put_three(out, 0, request.event, request.s, request.e);

@@ -4,7 +4,7 @@ use Prim.Native.Nat.{_<_, _^_}
 use lib.Signed.{mag}
 use Rattle.method.specs.Adjustment.{places}
 use Rattle.host.specs.Host.{nineAnswered}
-use Rattle.host.proofs.Telling.{back, back-pos}
+use Rattle.host.proofs.Carried.{back, back-pos}
 use borrow.Author.Needs.{needs}
 use Rattle.host.proofs.nine_answered.Statement.{statement}
 use Rattle.host.proofs.nine_answered.Tie as tie

@@ -1,6 +1,6 @@
 -- `host::nine_refused` meets its contract: each number is stored as it is.
 use Rattle.host.specs.Host.{nineRefused}
-use Rattle.host.proofs.Telling.{back-pos}
+use Rattle.host.proofs.Carried.{back-pos}
 use borrow.Author.Needs.{needs}
 use Rattle.host.proofs.nine_refused.Statement.{statement}
 use Rattle.host.proofs.nine_refused.Tie as tie

@@ -1,5 +1,5 @@
 -- `host::tell` meets its contract, by the two laws of what is told.
-use Rattle.host.proofs.Telling.{tells, tells-nothing}
+use Rattle.host.proofs.Carried.{tells, tells-nothing}
 use borrow.Author.Needs.{needs}
 use Rattle.host.proofs.tell.Statement.{statement}
 use Rattle.host.proofs.tell.Tie as tie

@@ -7,7 +7,7 @@ use borrow.Author.Needs.{needs}
 use lib.ListN.{length, getD, length-set}
 use lib.IntN.{pos}
 use native.Mathlib.Numerals.{add-one}
-use Rattle.host.proofs.Telling.{back}
+use Rattle.host.proofs.Carried.{back}
 use lib.Seq.{paste, paste-suc, take-all}
 use Rattle.host.proofs.tell_nine.Statement.{statement}
 use Rattle.host.proofs.tell_nine.Tie as tie

@@ -3,7 +3,7 @@ use mathlib.Core.Path.{sym}
 use native.Mathlib.Omega.{arith}
 use borrow.Author.Needs.{needs}
 use Rattle.lists.specs.Ascii.{ascii}
-use Rattle.telling.proofs.Telling.{tells}
+use Rattle.carried.proofs.Carried.{tells}
 use Rattle.listing.proofs.Writing.{then, named}
 use Rattle.listing.proofs.Lines.{spaced-word-and, carried-length, refusal-is}
 use Rattle.listing.proofs.refusal_line.put_refusal.Statement.{statement}

@@ -4,7 +4,7 @@ use mathlib.Core.List.{List, [], _∷_}
 use lib.ListN.{length, getD}
 use Rattle.method.specs.declared.Refusal.{Refusal}
 use Rattle.method.specs.Verdict.{number, carries}
-use Rattle.telling.specs.declared.Told.{Told}
+use Rattle.carried.specs.declared.Told.{Told}
 
 -- the number at a place of what a refusal carries; 0 where it carries none there
 abbrev pub carriedAt : Refusal → ℕ → ℕ

@@ -1,6 +1,6 @@
 // What is told of a refusal: the paper's number, and the numbers that it carries (document 01, "Refusal numbers").
 ghost use mathlib.Core.Path.{_≡_};
-ghost use Rattle.telling.specs.Told.{toldOf};
+ghost use Rattle.carried.specs.Told.{toldOf};
 use method::Refusal;
 
 // A refusal's number, and the numbers that it carries, the first `count` of two; nought past them.

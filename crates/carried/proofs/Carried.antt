@@ -7,8 +7,8 @@ use Rattle.method.specs.declared.Refusal.{Refusal}
 use Rattle.method.specs.declared.Refusal.the-variants.{BadFile, NoEvent, BadTable, BadMark, BadReading, BadRequest, NotHeld}
 use Rattle.method.specs.declared.Refusal.the-variants.{NotYetParticipating, NoRoom, MarginTooShort, TooFew, NoAdjustmentWindow}
 use Rattle.method.specs.Verdict.{number, carries}
-use Rattle.telling.specs.declared.Told.{Told}
-use Rattle.telling.specs.Told.{toldOf}
+use Rattle.carried.specs.declared.Told.{Told}
+use Rattle.carried.specs.Told.{toldOf}
 
 -- the number of a refusal, and what it carries as the first `count` of two numbers
 pub record Tells (w : Refusal) (told : Told) : Type 0 where

@@ -1,8 +1,8 @@
--- `telling::tell` meets its contract, refusal by refusal.
+-- `carried::tell` meets its contract, refusal by refusal.
 use borrow.Author.Needs.{needs}
-use Rattle.telling.specs.Told.{toldOf}
-use Rattle.telling.proofs.tell.Statement.{statement}
-use Rattle.telling.proofs.tell.Tie as tie
+use Rattle.carried.specs.Told.{toldOf}
+use Rattle.carried.proofs.tell.Statement.{statement}
+use Rattle.carried.proofs.tell.Tie as tie
 
 enum-known-refusal : tie.Need-enum-known-refusal
 enum-known-refusal c = search needs
