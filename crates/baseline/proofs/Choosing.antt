@@ -23,7 +23,7 @@ use Rattle.method.proofs.HighXofY.{lawful}
 use Rattle.method.proofs.Stable.{yesterday-held}
 use Rattle.method.proofs.Seen.{window-seen, seen-before}
 use Rattle.method.specs.Verdict.{closing}
-use Rattle.ranking.proofs.Sorting.{length-sorted}
+use Rattle.method.proofs.Sort.{length-sorted}
 use Rattle.choose.specs.declared.Chosen.{Chosen}
 use Rattle.choose.specs.declared.Choosing.the-variants.{Short, Few, Days}
 use Rattle.choose.specs.declared.Choice.{Choice}

@@ -23,7 +23,7 @@ use Rattle.method.proofs.Window.{window-full, full-size, size-below}
 use Rattle.method.proofs.Short.{full-enough}
 use Rattle.method.proofs.Histories.{is-held}
 use Rattle.ranking.specs.Words.{insertAll}
-use Rattle.ranking.proofs.Sorting.{length-sorted, all-sorted}
+use Rattle.method.proofs.Sort.{length-sorted, all-sorted}
 use Rattle.ranking.proofs.Rank.{lookedBack, first-of-row, window-ranked}
 use Rattle.rooms.specs.declared.Directory.{Directory}
 use Rattle.choose.specs.declared.Found.{Found}

@@ -15,7 +15,7 @@ use Rattle.method.specs.Relevant.{relevant, relevantDays, lookBack}
 use Rattle.method.specs.HighXofY.{highXofY, higher, Y, N}
 use Rattle.method.specs.Lawful.{Lawful, Falling}
 use Rattle.method.proofs.Falling.{falling-keep}
-use Rattle.method.proofs.Sort.{member-sort}
+use Rattle.method.proofs.Sort.{member-sorted}
 use Rattle.method.proofs.LookBack.{lookBack-is, lookBack-fall}
 
 fewer : (g : Group) → N g < Y g
@@ -52,6 +52,6 @@ module _ (group : ℕ → Group) (r : Request) where
         falling = relevant-fall;
         before = λ d e. lookBack-is (r .event) d .0 (relevant-lookBack d e) .0;
         fills = fewer (group (r .event));
-        only = λ days d e. sym (member-sort (higher r) (λ p. p .0) d days) ∙ e;
+        only = λ days d e. sym (member-sorted (higher r) (λ p. p .0) d days) ∙ e;
         needs = none-taken (group (r .event));
       }

@@ -19,7 +19,8 @@ use Rattle.ranking.specs.Words.{word, above, insertDown, sortDown, padde
 use Rattle.lists.proofs.All.{all-take}
 use Rattle.lists.proofs.Bools.{both, lt-or-le}
 use Rattle.lists.proofs.Maps.{map-take}
-use Rattle.ranking.proofs.Sorting.{same-sorted, length-sorted, all-inserted, all-sorted, map-sorted}
+use Rattle.method.proofs.Sort.{same-sorted, length-sorted, all-inserted, all-sorted}
+use Rattle.ranking.proofs.Sorting.{map-sorted}
 use Rattle.ranking.proofs.Insertion.{into-none, goes-here, goes-later, smaller-first, none-above, before-noughts, behind-all}
 use Rattle.ranking.proofs.OneByOne.{insert-none, insert-next}
 use Rattle.ranking.proofs.Numbers.{sums-then-nearness, later-is-nearer, day-back, part-small}
