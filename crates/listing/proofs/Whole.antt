@@ -1,11 +1,12 @@
 -- The whole listing: its first line and then the text of each event in order, each from its own place of the file.
 use Prim.Native.Nat.{ℕ, zero, suc, _≤_, _<_}
-use mathlib.Core.Path.{_≡_, refl, sym, ap, _∙_}
+use mathlib.Core.Path.{_≡_, refl, ap, _∙_}
 use mathlib.Core.Bool.{Bool, true, false, cond}
 use mathlib.Core.List.{List, [], _∷_, _++_, append-assoc}
 use native.Mathlib.Omega.{arith}
 use lib.ListN.{length, take, drop, length-append, length-drop}
 use lib.Dec.{leb}
+use Rattle.lists.proofs.Unique.{unique}
 use Rattle.record.specs.declared.Read.{Read}
 use Rattle.record.specs.declared.Read.the-variants.{File, Refused}
 use Rattle.record.specs.Reader.{readFile, tableIn, requestAt}
@@ -40,7 +41,7 @@ listing-is file = printed (readFile file) file
 
 -- ---- one result
 pub begins-unique : {d t : List ℕ} {r r′ : ℕ} {e e′ : List ℕ} → Begins d t r e → Begins d t r′ e′ → (r ≡ r′) × (e ≡ e′)
-begins-unique p q = (p .size ∙ sym (q .size), p .holds ∙ sym (q .holds))
+begins-unique p q = (unique (p .size) (q .size), unique (p .holds) (q .holds))
 
 -- the text is within the buffer
 pub begins-within : {d t : List ℕ} {r : ℕ} {e : List ℕ} → Begins d t r e → length e ≡ length d → r ≤ length e

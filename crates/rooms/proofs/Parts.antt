@@ -8,6 +8,7 @@ use borrow.Author.Tests.{le-leb, lt-leb}
 use lib.Dec.{leb}
 use lib.ListN.{length, take, drop, length-take}
 use Rattle.rooms.specs.Rooms.{partAt, partStart, Part}
+use Rattle.lists.proofs.Unique.{unique}
 
 -- it has at most 96 readings
 pub part-few : (readings : List ℕ) (at : ℕ) → length (partAt readings at) ≤ 96
@@ -28,3 +29,9 @@ module _ {readings : List ℕ} {at : ℕ} {whole : ℕ × ℕ} {part : List ℕ}
   unfolding partAt partStart
   part-past h l b =
       let e = lt-leb (at + 96) (length readings) h in record { list = rw e l; block = block; byte = rw e (omega arith) }
+
+-- no two parts meet the contract
+pub part-unique : {readings : List ℕ} {at : ℕ} {whole : ℕ × ℕ} {part part′ : List ℕ} {stands stands′ : ℕ × ℕ} → Part readings at whole part stands
+    → Part readings at whole part′ stands′
+    → (part ≡ part′) × (stands .0 ≡ stands′ .0) × (stands .1 ≡ stands′ .1)
+part-unique p q = (unique (p .list) (q .list), unique (p .block) (q .block), unique (p .byte) (q .byte))

@@ -10,6 +10,7 @@ use lib.Seq.{length-take-le, take-at, drop-at, take-take, drop-drop}
 use borrow.Author.Tests.{le-leb, lt-leb}
 use Rattle.lists.proofs.Bools.{lt-or-le}
 use Rattle.text.specs.Text.{put, next, Puts, PutsBoth}
+use Rattle.lists.proofs.Unique.{unique}
 
 module _ (d : List ℕ) (at : ℕ) (t : List ℕ) where
   pub put-whole : at + length t ≤ length d → put d at t ≡ take at d ++ t ++ drop (at + length t) d
@@ -119,3 +120,11 @@ module _ {d : List ℕ} {at r : ℕ} {a e : List ℕ} where
   -- both or neither is one text
   pub as-one : {b : List ℕ} → PutsBoth d at a b r e → at + length a ≤ length d → Puts d at (a ++ b) r e
   as-one {b} p h = record { next = p .next ∙ next-next d at a b h; holds = p .holds }
+
+-- no two results and buffers meet the contracts
+pub puts-unique : {d : List ℕ} {at : ℕ} {t : List ℕ} {r r′ : ℕ} {e e′ : List ℕ} → Puts d at t r e → Puts d at t r′ e′ → (r ≡ r′) × (e ≡ e′)
+puts-unique p q = (unique (p .next) (q .next), unique (p .holds) (q .holds))
+
+pub both-unique : {d : List ℕ} {at : ℕ} {a b : List ℕ} {r r′ : ℕ} {e e′ : List ℕ} → PutsBoth d at a b r e → PutsBoth d at a b r′ e′
+    → (r ≡ r′) × (e ≡ e′)
+both-unique p q = (unique (p .next) (q .next), unique (p .holds) (q .holds))
