@@ -4,7 +4,6 @@ use mathlib.Core.Path.{_≡_, refl, sym, ap, _∙_}
 use mathlib.Core.Bool.{Bool, true, false, cond}
 use mathlib.Core.List.{List, [], _∷_, _++_, map, map-append}
 use mathlib.Core.Logic.{⊎-elim}
-use native.Mathlib.Nat.{zero-add, sub-zero, suc-sub-suc, zero-sub, suc-add}
 use native.Mathlib.Omega.{arith}
 use borrow.Author.Tests.{le-leb, lt-leb, lt-ltb}
 use Rattle.lists.specs.Lists.{keep, all, member}
@@ -16,33 +15,10 @@ use Rattle.method.specs.Table.{Day, History, held}
 use Rattle.method.specs.Relevant.{daysBefore, relevant, relevantDays}
 use Rattle.method.specs.Method.{seen}
 use Rattle.method.specs.HighXofY.{highXofY}
-use Rattle.method.proofs.LookBack.{daysBefore-is}
+use Rattle.method.proofs.LookBack.{daysBefore-is, none-before, days-then, one-before}
 use Rattle.method.proofs.Histories.{is-held, held-last}
 use Rattle.ranking.proofs.Rank.{lookedBack}
 use Rattle.choose.specs.Look.{nearest, ifRelevant}
-
-none-before : (k : ℕ) → daysBefore k 0 ≡ []
-unfolding daysBefore
-none-before zero = refl
-none-before (suc k) = refl
-
--- so many days, and then the days before those
-pub days-then : (i k d : ℕ) → daysBefore (i + k) d ≡ daysBefore i d ++ daysBefore k (d - i)
-unfolding daysBefore
-days-then zero k d = rw (zero-add, sub-zero)
-days-then (suc i) k zero = none-before (suc i + k) ∙ sym (ap (daysBefore k) (zero-sub (suc i)) ∙ none-before k)
-days-then (suc i) k (suc d) = rw (suc-add, suc-sub-suc) (ap (λ (l : List ℕ). d ∷ l) (days-then i k d))
-
--- there are no more days than the event day's number
-pub days-least : (k d : ℕ) → daysBefore k d ≡ daysBefore (min k d) d
-unfolding daysBefore
-days-least zero d = let e : min 0 d ≡ 0 = omega arith in rw e
-days-least (suc k) zero = sym (none-before (min (suc k) 0))
-days-least (suc k) (suc d) = let e : min (suc k) (suc d) ≡ suc (min k d) = omega arith in rw e (ap (λ (l : List ℕ). d ∷ l) (days-least k d))
-
-pub one-before : (d : ℕ) → daysBefore 1 (suc d) ≡ d ∷ []
-unfolding daysBefore
-one-before d = refl
 
 module _ (group : ℕ → Group) (r : Request) (day : ℕ → Day) where
   pub nearest-then : (i k : ℕ)

@@ -1,22 +1,22 @@
--- What the mark and the readings of a day make of it, and its word.
-use Prim.Native.Nat.{ℕ, _+_, _-_, _*_, _%_, _^_, _≤_}
-use mathlib.Core.Path.{_≡_, refl, sym, ap, _∙_}
-use mathlib.Core.Bool.{Bool, true, false, cond, not, _&&_}
-use mathlib.Core.List.{List, []}
+-- What is judged of the day so far back is what the dated day is.
+use Prim.Native.Nat.{ℕ, _+_, _-_, _*_, _^_, _≤_, _<_}
+use mathlib.Core.Path.{_≡_}
+use mathlib.Core.List.{List}
 use native.Mathlib.Omega.{arith}
+use lib.Dec.{leb}
 use lib.ListN.{length, take, drop, getD, length-take, length-drop}
-use Rattle.lists.specs.Lists.{all, sumOf}
+use borrow.Author.Tests.{le-leb}
+use Rattle.lists.proofs.All.{all-of, all-take, all-drop}
+use Rattle.lists.proofs.Sums.{sum-most}
 use Rattle.method.specs.declared.Request.{Request}
-use Rattle.method.specs.Table.{Day, present, eventBit, outageBit}
-use Rattle.method.specs.HighXofY.{complete, eligible, spare, eventSum}
-use Rattle.sums.specs.Sums.{Summed}
-use Rattle.sums.proofs.Exact.{exact}
+use Rattle.method.specs.HighXofY.{eligible, spare, eventSum}
 use Rattle.ranking.specs.Words.{word}
 use Rattle.rooms.specs.declared.Directory.{Directory}
-use Rattle.choose.specs.declared.Judged.{Judged}
-use Rattle.choose.specs.declared.Judged.the-variants.{Eligible, Spare, Neither}
 use Rattle.rooms.specs.Rooms.{partAt, roomDay}
-use Rattle.choose.specs.Look.{room, roomsOf, judged}
+use Rattle.judging.specs.declared.Judged.{Judged}
+use Rattle.judging.specs.declared.Judged.the-variants.{Eligible, Spare, Neither}
+use Rattle.judging.specs.Judging.{room, wordAt, judgedAt}
+use Rattle.choose.specs.Look.{roomsOf, judged}
 
 -- the room of the day so far back
 pub room-back : (r : Request) (rooms : Directory) (readings : List ℕ) (back : ℕ) → back ≤ r .event
@@ -24,54 +24,20 @@ pub room-back : (r : Request) (rooms : Directory) (readings : List ℕ) (back : 
 unfolding roomDay
 room-back r rooms readings back h = let e : r .event - (r .event - back) ≡ back = omega arith in rw e
 
-few-summed : (n m : ℕ) (part : List ℕ) (x : ℕ) → length part ≤ 96 → Summed (take n (drop m part)) x
-    → (x ≡ sumOf (take n (drop m part))) × (x ≤ 412316860320)
-few-summed n m part x h s =
-    let l : length (take n (drop m part)) ≤ 96 = rw (length-take, length-drop) (omega arith) in
-    let e = exact s (omega arith) in
-    (e, omega (arith, s .bound))
+module _ (r : Request) (back mark : ℕ) (part : List ℕ) (some : 1 ≤ back) (most : back ≤ 45) (within : back ≤ r .event) (few : length part ≤ 96)
+    (small : (i : ℕ) → getD part i 0 < 2 ^ 32) where
+  sum-few : eventSum r (room mark part) ≤ 4294967295 * 96
+  unfolding eventSum
+  sum-few =
+      let each = all-of (λ x. leb x 4294967295) 0 part (λ i. le-leb (getD part i 0) 4294967295 (omega (arith, small i))) in
+      let l : length (take (r .e - r .s) (drop (r .s - 96) part)) ≤ 96 = rw (length-take, length-drop) (omega arith) in
+      sum-most 4294967295 (take (r .e - r .s) (drop (r .s - 96) part)) 96 l
+      (all-take (λ x. leb x 4294967295) (r .e - r .s) (drop (r .s - 96) part) (all-drop (λ x. leb x 4294967295) (r .s - 96) part each))
 
-pub event-exact : (r : Request) (part : List ℕ) (start count x : ℕ) → length part ≤ 96 → start ≡ r .s - 96 → count ≡ r .e - r .s
-    → Summed (take (start + count - start) (drop start part)) x → (x ≡ eventSum r (room 0 part)) × (x ≤ 412316860320)
-unfolding eventSum
-event-exact r part start count x h e f s =
-    let k : start + count - start ≡ r .e - r .s = omega arith in
-    few-summed (r .e - r .s) (r .s - 96) part x h (rw (k, e) at s)
+  same-word : wordAt r back (room mark part) ≡ word r (r .event - back, room mark part)
+  unfolding wordAt word
+  same-word = omega (arith, sum-few)
 
-module _ (r : Request) (back mark : ℕ) (part : List ℕ) where
-  day : ℕ × Day
-  day = (r .event - back, room mark part)
-
-  by-tests : (a b c : Bool) → Judged
-  by-tests a b c = cond (a && not b && not c) (Eligible (word r day)) (cond (a && b && not c) (Spare (word r day)) Neither)
-
-  judged-by : judged r day ≡ by-tests (all present part) (eventBit mark) (outageBit mark)
-  unfolding judged eligible spare complete day by-tests
-  judged-by = refl
-
-  pub judged-out : outageBit mark ≡ true → Neither ≡ judged r (r .event - back, room mark part)
-  unfolding day by-tests
-  judged-out t = sym (judged-by ∙ ap (by-tests (all present part) (eventBit mark)) t ∙ go (all present part) (eventBit mark))
-    where
-      go : (a b : Bool) → by-tests a b true ≡ Neither
-      go true true = refl
-      go true false = refl
-      go false b = refl
-
-  pub judged-lacking : all present part ≡ false → Neither ≡ judged r (r .event - back, room mark part)
-  unfolding day by-tests
-  judged-lacking t = sym (judged-by ∙ ap (λ (a : Bool). by-tests a (eventBit mark) (outageBit mark)) t)
-
-  module _ {sum w : ℕ} (few : 1 ≤ back) (most : back ≤ 45) (within : back ≤ r .event) (s : sum ≡ eventSum r (room 0 part))
-      (small : sum ≤ 412316860320) (is : w ≡ (64 * sum + (46 - back)) % 2 ^ 64) (full : all present part ≡ true) (on : outageBit mark ≡ false) where
-    the-word : w ≡ word r (r .event - back, room mark part)
-    unfolding word eventSum
-    the-word = omega arith
-
-    pub judged-as-spare : eventBit mark ≡ true → Spare w ≡ judged r (r .event - back, room mark part)
-    unfolding day by-tests
-    judged-as-spare t = ap Spare the-word ∙ sym (judged-by ∙ rw (full, t, on))
-
-    pub judged-as-eligible : eventBit mark ≡ false → Eligible w ≡ judged r (r .event - back, room mark part)
-    unfolding day by-tests
-    judged-as-eligible t = ap Eligible the-word ∙ sym (judged-by ∙ rw (full, t, on))
+  pub same-judged : judgedAt r back (room mark part) ≡ judged r (r .event - back, room mark part)
+  unfolding judgedAt judged
+  same-judged = rw same-word

@@ -16,11 +16,11 @@ use Rattle.method.specs.HighXofY.{complete, eligible, spare, sortBy}
 use Rattle.calendar.specs.declared.Group.{Group}
 use Rattle.ranking.specs.Words.{word, insertDown, sortDown, padded}
 use Rattle.ranking.proofs.Rank.{insert-sorts}
-use Rattle.choose.specs.declared.Judged.the-variants.{Eligible, Spare, Neither}
+use Rattle.judging.specs.declared.Judged.the-variants.{Eligible, Spare, Neither}
 use Rattle.choose.specs.declared.Found.{Found}
 use Rattle.choose.specs.Look.{judged, nearest, ifRelevant, eligibleOf, spareOf, rowOf, oldestOf, Looked, Further, Adds, Enough}
 use Rattle.choose.proofs.Days.{nearest-none, nearest-one, nearest-more}
-use Rattle.choose.proofs.Reaching.{leastOf-snoc}
+use Rattle.relevance.proofs.Reaching.{leastOf-snoc}
 
 -- What a judgement says of a day
 

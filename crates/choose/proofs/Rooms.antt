@@ -18,13 +18,13 @@ use Rattle.method.proofs.LookBack.{daysBefore-is}
 use Rattle.method.proofs.Histories.{held-first}
 use Rattle.method.proofs.Stable.{window-of-seen, outcome-same}
 use Rattle.method.proofs.HighXofY.{lawful}
-use Rattle.ranking.proofs.Numbers.{same-test}
+use Rattle.lists.proofs.Bools.{same-test}
 use Rattle.rooms.specs.declared.Directory.{Directory}
 use Rattle.rooms.specs.Rooms.{heldRooms, roomDay, roomHistory}
 use Rattle.choose.specs.Choice.{choiceOf}
 use Rattle.choose.specs.Look.{nearest, roomsOf}
 use Rattle.choose.proofs.Days.{seen-nearest}
-use Rattle.choose.proofs.Reaching.{short-of-reach, reach-most}
+use Rattle.relevance.proofs.Reaching.{short-of-reach, reach-most}
 use Rattle.choose.proofs.WholeChoice.{seen-rooms}
 
 -- two histories that show the same days, and both or neither of which begins after a relevant day

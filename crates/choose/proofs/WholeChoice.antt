@@ -32,7 +32,7 @@ use Rattle.rooms.specs.Rooms.{heldRooms, roomHistory}
 use Rattle.choose.specs.Choice.{choiceOf, noDays, inFive}
 use Rattle.choose.specs.Look.{nearest, roomsOf, eligibleOf, spareOf, rowOf, Enough, dayOf, ranked, amongFew}
 use Rattle.choose.proofs.Days.{seen-nearest, nearest-back, all-keep}
-use Rattle.choose.proofs.Reaching.{short-of-reach}
+use Rattle.relevance.proofs.Reaching.{short-of-reach}
 
 -- Y and N are small, and N is below Y
 

@@ -1,21 +1,20 @@
 -- What the private functions of the look back give.
 use Prim.Native.Nat.{ℕ, _+_, _-_, _%_, _≤_, _<_, min}
 use mathlib.Core.Path.{_≡_}
-use mathlib.Core.Bool.{Bool, true, cond}
+use mathlib.Core.Bool.{cond}
 use mathlib.Core.List.{List, [], _∷_, _++_, map}
 use lib.ListN.{length, take}
-use lib.Dec.{ltb, eqb}
+use lib.Dec.{ltb}
 use Rattle.lists.specs.Lists.{keep, leastOf}
 use Rattle.calendar.specs.declared.Group.{Group}
-use Rattle.calendar.specs.declared.Group.the-variants.{Weekday, Saturday, HolidayGroup}
 use Rattle.method.specs.declared.Request.{Request}
 use Rattle.method.specs.Table.{Day}
 use Rattle.method.specs.Method.{dated}
 use Rattle.method.specs.Relevant.{daysBefore, relevant}
 use Rattle.method.specs.HighXofY.{eligible, spare}
 use Rattle.ranking.specs.Words.{word, sortDown, padded, insertAll}
-use Rattle.choose.specs.declared.Judged.{Judged}
-use Rattle.choose.specs.declared.Judged.the-variants.{Eligible, Spare, Neither}
+use Rattle.judging.specs.declared.Judged.{Judged}
+use Rattle.judging.specs.declared.Judged.the-variants.{Eligible, Spare, Neither}
 use Rattle.choose.specs.declared.Found.{Found}
 use Rattle.rooms.specs.declared.Directory.{Directory}
 use Rattle.choose.specs.declared.Choosing.the-variants.{Short, Few, Days}
@@ -23,20 +22,11 @@ use Rattle.choose.specs.declared.Choice.{Choice}
 use Rattle.rooms.specs.Rooms.{roomDay}
 use Rattle.choose.specs.Choice.{inFive, noDays}
 
--- what a mark and readings say of a day
-abbrev pub room : ℕ → List ℕ → Day
-room mark readings = record { mark = mark; readings = readings }
-
 -- what is held of a day, in the rooms of a directory
 abbrev pub roomsOf : Request → Directory → List ℕ → ℕ → Day
 roomsOf r rooms readings d = roomDay rooms readings (r .event - d)
 
--- by its day of the week alone a day may be of a group
-abbrev pub mayBe : Group → ℕ → Bool
-mayBe Weekday weekday = ltb 1 weekday
-mayBe Saturday weekday = eqb weekday 0
-mayBe HolidayGroup weekday = true
-
+-- what a dated day is, with its word
 unfoldable pub judged : Request → ℕ × Day → Judged
 judged r p = cond (eligible (p .1)) (Eligible (word r p)) (cond (spare (p .1)) (Spare (word r p)) Neither)
 

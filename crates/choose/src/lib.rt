@@ -5,13 +5,14 @@ ghost use mathlib.Core.List.{map};
 ghost use Prim.Native.Nat.{_-_, _%_, _≤_, _<_, min};
 ghost use lib.ListN.{length, take};
 ghost use Rattle.calendar.specs.Holidays.{group as groupOf};
-ghost use Rattle.method.specs.Relevant.{groupNumber, relevant as isRelevant};
 ghost use Rattle.method.specs.Method.{wholeReach};
-ghost use Rattle.method.specs.HighXofY.{Y, N, eventSum, highXofY};
+ghost use Rattle.method.specs.HighXofY.{Y, N, highXofY};
 ghost use Rattle.rooms.specs.Rooms.{roomHistory};
+ghost use Rattle.judging.specs.Judging.{room};
 ghost use Rattle.choose.specs.Choice.{choiceOf, noDays, inFive};
-ghost use Rattle.choose.specs.Look.{room, roomsOf, mayBe, judged, nearest, ifRelevant, Further, Adds, Enough, dayOf, ranked, amongFew};
+ghost use Rattle.choose.specs.Look.{roomsOf, nearest, ifRelevant, Further, Adds, Enough, dayOf, ranked, amongFew};
 use calendar::Group;
+use judging::Judged;
 use method::Request;
 use rooms::Directory;
 
@@ -33,13 +34,6 @@ pub enum Choosing {
 pub struct Choice {
     pub choosing: Choosing,
     pub chosen: Chosen,
-}
-
-// What the readings and marks of a relevant day make of it, with its word.
-enum Judged {
-    Eligible(u64),
-    Spare(u64),
-    Neither,
 }
 
 // What was found looking back: the words of eligible days, how many there are, how far back the last of them lies, and the same of spare
@@ -91,92 +85,6 @@ fn fill(group: Group) -> u32
     }
 }
 
-// A group's number.
-fn number(of: Group) -> u32
-    ensures { λ r. ⌜ r ≡ groupNumber of ⌝ }
-{
-    match of {
-        Group::Weekday => 0,
-        Group::Saturday => 1,
-        Group::HolidayGroup => 2,
-    }
-}
-
-// By its day of the week a day may be of the group. It spares the calendar most of the days of a Saturday's look back.
-fn may_be(group: Group, day: u32) -> bool
-    ensures { λ r. ⌜ r ≡ mayBe group (day % 7) ⌝ }
-{
-    match group {
-        Group::Weekday => 1 < day % 7,
-        Group::Saturday => day % 7 == 0,
-        Group::HolidayGroup => true,
-    }
-}
-
-// Whether a day before the event is relevant, where it lies in the look back.
-fn relevant(request: Request, group: Group, day: u32) -> bool
-    requires { ⌜ (group ≡ groupOf (request .event)) × (day < request .event) ⌝ }
-    ensures { λ r. ⌜ r ≡ isRelevant groupOf request day ⌝ }
-{
-    if day < request.participation {
-        return false;
-    }
-    if (number(group) == 0) & (day + 1 == request.event) {
-        return false;
-    }
-    if may_be(group, day) {
-        number(calendar::group_of(day)) == number(group)
-    } else {
-        false
-    }
-}
-
-// How far back the oldest relevant day lies; 0 where none is relevant. It is looked for from the farthest day on.
-fn whole_reach(request: Request, group: Group) -> u32
-    requires { ⌜ group ≡ groupOf (request .event) ⌝ }
-    ensures { λ r. ⌜ r ≡ wholeReach (highXofY groupOf request) ⌝ }
-{
-    let event = request.event;
-    let mut back = lesser(LOOK_BACK, event);
-    while 0 < back {
-        if relevant(request, group, event - back) {
-            return back;
-        }
-        back -= 1;
-    }
-    0
-}
-
-// The sum of a day's readings over the event's own quarters.
-fn event_sum(request: Request, part: &[u32]) -> u64
-    requires { ⌜ length (now part) ≤ 96 ⌝ }
-    ensures { λ r. ⌜ (r ≡ eventSum request (room 0 (now (part .entry)))) × (r ≤ 412316860320) ⌝ }
-{
-    let start = less(request.s, 96) as usize;
-    let end = start + less(request.e, request.s) as usize;
-    sums::sum_between(part, start, end)
-}
-
-// What a relevant day's mark and readings make of it.
-fn judge(request: Request, mark: u8, part: &[u32], back: u32) -> Judged
-    requires { ⌜ (1 ≤ back) × (back ≤ 45) × (back ≤ request .event) × (length (now part) ≤ 96) ⌝ }
-    ensures { λ r. ⌜ r ≡ judged request (request .event - back, room mark (now (part .entry))) ⌝ }
-{
-    if marks::is_out(mark) {
-        return Judged::Neither;
-    }
-    if readings::complete(part) {
-        let word = ranking::word(event_sum(request, part), 46 - back);
-        if marks::is_event(mark) {
-            Judged::Spare(word)
-        } else {
-            Judged::Eligible(word)
-        }
-    } else {
-        Judged::Neither
-    }
-}
-
 // What was found once one more day is looked at, `back` days before the event.
 fn with_day(
     request: Request,
@@ -189,10 +97,10 @@ fn with_day(
     requires { ⌜ (group ≡ groupOf (request .event)) × Further request back found × (length (now part) ≤ 96) ⌝ }
     ensures { λ r. ⌜ Adds request back (ifRelevant groupOf request (request .event - back, room mark (now (part .entry)))) found r ⌝ }
 {
-    if relevant(request, group, request.event - back) {
+    if relevance::relevant(request, group, request.event - back) {
         let eligible = found.eligible;
         let spare = found.spare;
-        match judge(request, mark, part, back) {
+        match judging::judge(request, mark, part, back) {
             Judged::Eligible(word) => Found {
                 eligible: ranking::insert(eligible, word),
                 count: found.count + 1,
@@ -293,10 +201,10 @@ fn first_of(event: u32, row: [u64; 10], count: u32, reach: u32) -> Choice
 
 // The choice where the eligible days do not fill the window: spare days are put in up to N, and the reach is that of all relevant days.
 fn choose_among_few(request: Request, group: Group, found: Found, held: u32) -> Choice
-    requires { ⌜ (group ≡ groupOf (request .event)) × (found .count < 10) × (found .spares ≤ 45) ⌝ }
+    requires { ⌜ (found .count < 10) × (found .spares ≤ 45) ⌝ }
     ensures { λ r. ⌜ r ≡ amongFew request (N group) found held (wholeReach (highXofY groupOf request)) ⌝ }
 {
-    let reach = whole_reach(request, group);
+    let reach = relevance::whole_reach(request);
     if held < reach {
         return refused(Choosing::Short(reach));
     }

@@ -42,6 +42,11 @@ module _ {A : Type 0} (p : A → Bool) where
   all-at d e (x ∷ xs) t (suc i) = all-at d e xs (both (p x) (all p xs) t .1) i
 
   -- one element of which `p` does not hold is enough
+  pub all-of : (d : A) (xs : List A) → ((i : ℕ) → p (getD xs i d) ≡ true) → all p xs ≡ true
+  unfolding all
+  all-of d [] w = refl
+  all-of d (x ∷ xs) w = rw (w 0) (all-of d xs (λ i. w (suc i)))
+
   pub all-lacks : (d : A) → p d ≡ true → (xs : List A) (a n j : ℕ) → a ≤ j → j < a + n → p (getD xs j d) ≡ false
       → all p (take n (drop a xs)) ≡ false
   all-lacks d e xs a n j low high f =

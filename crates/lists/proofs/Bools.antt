@@ -1,10 +1,10 @@
 -- What a conjunction or a disjunction says, and the two cases of a test and of an order.
 use Prim.Native.Nat.{ℕ, _<_, _≤_}
-use mathlib.Core.Path.{_≡_, refl}
+use mathlib.Core.Path.{_≡_, refl, sym, _∙_}
 use mathlib.Core.Bool.{Bool, true, false, _&&_, _||_, false≢true}
 use mathlib.Core.Logic.{_⊎_, inl, inr, ⊎-elim}
 use native.Mathlib.Omega.{arith}
-use borrow.Author.Tests.{ltb-true, ltb-false}
+use borrow.Author.Tests.{ltb-true, ltb-false, lt-ltb, le-ltb}
 use lib.Dec.{ltb}
 
 pub bool-cases : (b : Bool) → (b ≡ true) ⊎ (b ≡ false)
@@ -43,3 +43,8 @@ or-none-right false b e = e
 
 pub lt-or-le : (a b : ℕ) → (a < b) ⊎ (b ≤ a)
 lt-or-le a b = ⊎-elim (λ t. inl (ltb-true a b t)) (λ f. inr (ltb-false a b f)) (bool-cases (ltb a b))
+
+-- two orders that go together are the same test
+pub same-test : (a b c d : ℕ) → (a < b → c < d) → (b ≤ a → d ≤ c) → ltb a b ≡ ltb c d
+same-test a b c d f g =
+    ⊎-elim (λ h. lt-ltb a b h ∙ sym (lt-ltb c d (f h))) (λ h. le-ltb a b h ∙ sym (le-ltb c d (g h))) (lt-or-le a b)

@@ -1,8 +1,10 @@
 -- The look-back: which days lie in it, and that they stand nearest first. General over the number of days.
-use mathlib.Core.Path.{_≡_, refl}
+use mathlib.Core.Path.{_≡_, refl, sym, ap, _∙_}
 use mathlib.Core.Logic.{_↔_, ⊎-elim}
 use mathlib.Core.Bool.{true}
-use Prim.Native.Nat.{ℕ, zero, suc, _+_, _≤_, _<_}
+use mathlib.Core.List.{List, [], _∷_, _++_}
+use Prim.Native.Nat.{ℕ, zero, suc, _+_, _-_, _≤_, _<_, min}
+use native.Mathlib.Nat.{zero-add, sub-zero, suc-sub-suc, zero-sub, suc-add}
 use native.Mathlib.Omega.{arith}
 use lib.Dec.{eqb}
 use borrow.Author.Tests.{eqb-false}
@@ -41,3 +43,26 @@ daysBefore-fall (suc k) (suc event) = next (λ x m. inside k event x m .0) (days
 
 pub lookBack-fall : (event : ℕ) → Falling (lookBack event)
 lookBack-fall event = daysBefore-fall _ event
+
+pub none-before : (k : ℕ) → daysBefore k 0 ≡ []
+unfolding daysBefore
+none-before zero = refl
+none-before (suc k) = refl
+
+-- so many days, and then the days before those
+pub days-then : (i k d : ℕ) → daysBefore (i + k) d ≡ daysBefore i d ++ daysBefore k (d - i)
+unfolding daysBefore
+days-then zero k d = rw (zero-add, sub-zero)
+days-then (suc i) k zero = none-before (suc i + k) ∙ sym (ap (daysBefore k) (zero-sub (suc i)) ∙ none-before k)
+days-then (suc i) k (suc d) = rw (suc-add, suc-sub-suc) (ap (λ (l : List ℕ). d ∷ l) (days-then i k d))
+
+-- there are no more days than the event day's number
+pub days-least : (k d : ℕ) → daysBefore k d ≡ daysBefore (min k d) d
+unfolding daysBefore
+days-least zero d = let e : min 0 d ≡ 0 = omega arith in rw e
+days-least (suc k) zero = sym (none-before (min (suc k) 0))
+days-least (suc k) (suc d) = let e : min (suc k) (suc d) ≡ suc (min k d) = omega arith in rw e (ap (λ (l : List ℕ). d ∷ l) (days-least k d))
+
+pub one-before : (d : ℕ) → daysBefore 1 (suc d) ≡ d ∷ []
+unfolding daysBefore
+one-before d = refl

@@ -12,12 +12,7 @@ use lib.Dec.{leb, ltb, eqb}
 use borrow.Author.Tests.{leb-true, lt-ltb, le-ltb, eq-eqb, ne-eqb}
 use Rattle.lists.specs.Lists.{all, sumOf}
 use Rattle.method.specs.Table.{present, goodReading, missing}
-use Rattle.lists.proofs.Bools.{both, lt-or-le}
-
--- two orders that go together are the same test
-pub same-test : (a b c d : ℕ) → (a < b → c < d) → (b ≤ a → d ≤ c) → ltb a b ≡ ltb c d
-same-test a b c d f g =
-    ⊎-elim (λ h. lt-ltb a b h ∙ sym (lt-ltb c d (f h))) (λ h. le-ltb a b h ∙ sym (le-ltb c d (g h))) (lt-or-le a b)
+use Rattle.lists.proofs.Bools.{both, lt-or-le, same-test}
 
 pub sums-then-nearness : (s t m n : ℕ) → m < 64 → n < 64 → (ltb t s || (eqb s t && ltb n m)) ≡ ltb (64 * t + n) (64 * s + m)
 sums-then-nearness s t m n hm hn =

@@ -24,7 +24,7 @@ most-requires c κs = search needs
 
 choose-among-few-requires : tie.Need-choose-among-few-requires
 choose-among-few-requires c κs =
-    (c .before .before .before .before .before .before .group-of .ensures, omega (arith, c .before .before .most .ensures, window-few (c .before .before .before .before .before .before .group-of .result)), c .before .before .before .look .ensures .few)
+    (omega (arith, c .before .before .most .ensures, window-few (c .before .before .before .before .before .before .group-of .result)), c .before .before .before .look .ensures .few)
 
 fill-requires : tie.Need-fill-requires
 fill-requires c κs = search needs

@@ -5,7 +5,8 @@ use native.Mathlib.Omega.{arith}
 use borrow.Author.Needs.{needs}
 use lib.ListN.{getD}
 use Rattle.calendar.specs.Holidays.{group as groupOf}
-use Rattle.choose.specs.Look.{room, roomsOf}
+use Rattle.judging.specs.Judging.{room}
+use Rattle.choose.specs.Look.{roomsOf}
 use Rattle.rooms.proofs.Parts.{part-few}
 use Rattle.choose.proofs.Judging.{room-back}
 use Rattle.choose.proofs.Looking.{Back, back-start, back-further, back-more, back-full, back-end}

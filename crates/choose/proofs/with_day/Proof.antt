@@ -1,10 +1,13 @@
 -- `choose::with_day` meets its contract: one law a way out.
 use Prim.Native.Nat.{ℕ, _-_}
 use mathlib.Core.Path.{refl, sym, _∙_}
+use native.Mathlib.Omega.{arith}
 use borrow.Author.Needs.{needs}
 use Rattle.calendar.specs.Holidays.{group as groupOf}
 use Rattle.method.specs.Table.{Day}
-use Rattle.choose.specs.Look.{room}
+use Rattle.relevance.proofs.Relevance.{relevant-to}
+use Rattle.judging.specs.Judging.{room}
+use Rattle.choose.proofs.Judging.{same-judged}
 use Rattle.choose.proofs.Looking.{adds-none, adds-eligible, adds-spare, adds-neither}
 use Rattle.choose.proofs.with_day.Statement.{statement}
 use Rattle.choose.proofs.with_day.Tie as tie
@@ -44,31 +47,41 @@ returns c =
     let s = c .before .before .before .before .before .before .before .before .before .before .before .before in
     let a = s .args in
     let p : ℕ × Day = (a .request .event - a .back, room (a .mark) (a .part .now)) in
-    let sure = sym (c .before .before .before .before .before .before .before .before .before .relevant .ensures) ∙ c .before .before .before .before .before .before .before .before .if1 .taken in
-    adds-eligible groupOf p (s .pre .1) refl sure (sym (c .before .before .before .before .before .judge .ensures) ∙ c .before .before .before .word .given .1) (c .before .insert .ensures)
+    let own = relevant-to groupOf _ (a .request) (p .0) (s .pre .0) in
+    let sure = sym own ∙ sym (c .before .before .before .before .before .before .before .before .before .relevant .ensures) ∙ c .before .before .before .before .before .before .before .before .if1 .taken in
+    let next = s .pre .1 in
+    let same = same-judged (a .request) (a .back) (a .mark) (a .part .now) (next .some) (next .most) (next .within) (s .pre .2) (λ i. omega (arith, c .before .before .before .before .before .before .before .before .before .before .before .shared-slice-known .given i)) in
+    adds-eligible groupOf p next refl sure (sym same ∙ sym (c .before .before .before .before .before .judge .ensures) ∙ c .before .before .before .word .given .1) (c .before .insert .ensures)
 
 returns-2 : tie.Need-returns-2
 returns-2 c =
     let s = c .before .before .before .before .before .before .before .before .before .before .before .before in
     let a = s .args in
     let p : ℕ × Day = (a .request .event - a .back, room (a .mark) (a .part .now)) in
-    let sure = sym (c .before .before .before .before .before .before .before .before .before .relevant .ensures) ∙ c .before .before .before .before .before .before .before .before .if1 .taken in
-    adds-spare groupOf p (s .pre .1) refl sure (sym (c .before .before .before .before .before .judge .ensures) ∙ c .before .before .before .word2 .given .1) (c .before .insert2 .ensures)
+    let own = relevant-to groupOf _ (a .request) (p .0) (s .pre .0) in
+    let sure = sym own ∙ sym (c .before .before .before .before .before .before .before .before .before .relevant .ensures) ∙ c .before .before .before .before .before .before .before .before .if1 .taken in
+    let next = s .pre .1 in
+    let same = same-judged (a .request) (a .back) (a .mark) (a .part .now) (next .some) (next .most) (next .within) (s .pre .2) (λ i. omega (arith, c .before .before .before .before .before .before .before .before .before .before .before .shared-slice-known .given i)) in
+    adds-spare groupOf p next refl sure (sym same ∙ sym (c .before .before .before .before .before .judge .ensures) ∙ c .before .before .before .word2 .given .1) (c .before .insert2 .ensures)
 
 returns-3 : tie.Need-returns-3
 returns-3 c =
     let s = c .before .before .before .before .before .before .before .before .before in
     let a = s .args in
     let p : ℕ × Day = (a .request .event - a .back, room (a .mark) (a .part .now)) in
-    let sure = sym (c .before .before .before .before .before .before .relevant .ensures) ∙ c .before .before .before .before .before .if1 .taken in
-    adds-neither groupOf p (s .pre .1) refl sure (sym (c .before .before .judge .ensures) ∙ c .enum-told .given .1)
+    let own = relevant-to groupOf _ (a .request) (p .0) (s .pre .0) in
+    let sure = sym own ∙ sym (c .before .before .before .before .before .before .relevant .ensures) ∙ c .before .before .before .before .before .if1 .taken in
+    let next = s .pre .1 in
+    let same = same-judged (a .request) (a .back) (a .mark) (a .part .now) (next .some) (next .most) (next .within) (s .pre .2) (λ i. omega (arith, c .before .before .before .before .before .before .before .before .shared-slice-known .given i)) in
+    adds-neither groupOf p next refl sure (sym same ∙ sym (c .before .before .judge .ensures) ∙ c .enum-told .given .1)
 
 returns-4 : tie.Need-returns-4
 returns-4 c =
     let s = c .before .before .before .before in
     let a = s .args in
     let p : ℕ × Day = (a .request .event - a .back, room (a .mark) (a .part .now)) in
-    adds-none groupOf p (s .pre .1) refl (sym (c .before .relevant .ensures) ∙ c .if1 .left)
+    let own = relevant-to groupOf _ (a .request) (p .0) (s .pre .0) in
+    adds-none groupOf p (s .pre .1) refl (sym own ∙ sym (c .before .relevant .ensures) ∙ c .if1 .left)
 
 pub with-day-spec : {M : Type 1} → statement M
 with-day-spec =

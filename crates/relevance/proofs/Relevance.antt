@@ -10,21 +10,26 @@ use Rattle.calendar.specs.declared.Group.{Group}
 use Rattle.calendar.specs.declared.Group.the-variants.{Weekday, Saturday, HolidayGroup}
 use Rattle.method.specs.declared.Request.{Request}
 use Rattle.method.specs.Relevant.{sameGroup, relevant}
-use Rattle.choose.specs.Look.{mayBe}
+use Rattle.relevance.specs.Relevance.{mayBe, relevantTo}
 
-module _ (group : ℕ → Group) (r : Request) (d : ℕ) where
-  pub too-early : d < r .participation → false ≡ relevant group r d
-  unfolding relevant
+module _ (group : ℕ → Group) (own : Group) (r : Request) (d : ℕ) where
+  pub too-early : d < r .participation → false ≡ relevantTo group own r d
+  unfolding relevantTo
   too-early h = rw (lt-leb (r .participation) d h)
 
-  pub the-eve : (sameGroup (group (r .event)) Weekday && eqb (d + 1) (r .event)) ≡ true → false ≡ relevant group r d
-  unfolding relevant
+  pub the-eve : (sameGroup own Weekday && eqb (d + 1) (r .event)) ≡ true → false ≡ relevantTo group own r d
+  unfolding relevantTo
   the-eve t = rw (t, and-false)
 
-  pub by-group : r .participation ≤ d → (sameGroup (group (r .event)) Weekday && eqb (d + 1) (r .event)) ≡ false
-      → sameGroup (group d) (group (r .event)) ≡ relevant group r d
-  unfolding relevant
+  pub by-group : r .participation ≤ d → (sameGroup own Weekday && eqb (d + 1) (r .event)) ≡ false
+      → sameGroup (group d) own ≡ relevantTo group own r d
+  unfolding relevantTo
   by-group h t = rw (le-leb (r .participation) d h, t, and-true)
+
+-- for the event's own group it is the methodology's
+pub relevant-to : (group : ℕ → Group) (own : Group) (r : Request) (d : ℕ) → own ≡ group (r .event) → relevantTo group own r d ≡ relevant group r d
+unfolding relevantTo relevant
+relevant-to group own r d e = rw e
 
 -- a day that by its day of the week cannot be of a group is not of it
 pub may-not-be : (g : Group) (d : ℕ) → mayBe g (d % 7) ≡ false → sameGroup (group d) g ≡ false

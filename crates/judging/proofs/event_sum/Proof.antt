@@ -1,8 +1,8 @@
--- `choose::event_sum` meets its contract: a day's part has few readings, so the sum is exact.
+-- `judging::event_sum` meets its contract.
 use borrow.Author.Needs.{needs}
-use Rattle.choose.proofs.Judging.{event-exact}
-use Rattle.choose.proofs.event_sum.Statement.{statement}
-use Rattle.choose.proofs.event_sum.Tie as tie
+use Rattle.judging.proofs.Judging.{event-part}
+use Rattle.judging.proofs.event_sum.Statement.{statement}
+use Rattle.judging.proofs.event_sum.Tie as tie
 
 less-requires : tie.Need-less-requires
 less-requires c κs = search needs
@@ -25,8 +25,8 @@ sum-between-requires c κs = search needs
 returns : tie.Need-returns
 returns c =
     let a = c .before .before .before .before .args in
-    event-exact (a .request) (a .part .now) (c .before .before .less .result) (c .before .less2 .result) (c .sum-between .result)
-    (c .before .before .before .before .pre) (c .before .before .less .ensures) (c .before .less2 .ensures) (c .sum-between .ensures)
+    event-part (a .request) (a .part .now) (c .before .before .less .result) (c .before .less2 .result) (c .sum-between .result)
+    (c .before .before .less .ensures) (c .before .less2 .ensures) (c .sum-between .ensures)
 
 pub event-sum-spec : {M : Type 1} → statement M
 event-sum-spec =

@@ -1,41 +1,46 @@
--- `choose::whole_reach` meets its contract. The invariant: no relevant day lies farther back than `back`.
-use Prim.Native.Nat.{_≤_}
+-- `relevance::whole_reach` meets its contract. The invariant: no relevant day lies farther back than `back`.
+use Prim.Native.Nat.{_-_, _≤_}
 use mathlib.Core.Path.{_≡_, sym, ap, _∙_}
 use native.Mathlib.Omega.{arith}
 use borrow.Author.Needs.{needs}
 use Rattle.calendar.specs.Holidays.{group as groupOf}
 use Rattle.method.specs.Method.{wholeReach}
 use Rattle.method.specs.HighXofY.{highXofY}
-use Rattle.choose.proofs.Reaching.{reachWithin, reach-start, reach-pass, reach-here, reach-none}
-use Rattle.choose.proofs.whole_reach.Statement.{statement}
-use Rattle.choose.proofs.whole_reach.Tie as tie
+use Rattle.relevance.proofs.Relevance.{relevant-to}
+use Rattle.relevance.proofs.Reaching.{reachWithin, reach-start, reach-pass, reach-here, reach-none}
+use Rattle.relevance.proofs.whole_reach.Statement.{statement}
+use Rattle.relevance.proofs.whole_reach.Tie as tie
 
 abbrev Inv-loop : tie.InvT-loop
-Inv-loop request group event back₀ back =
+Inv-loop request event group back₀ back =
     (back ≤ request .event) × (wholeReach (highXofY groupOf request) ≡ reachWithin groupOf request back)
 
 abbrev μ-loop : tie.MeasureT-loop
-μ-loop request group event back₀ back = back
+μ-loop request event group back₀ back = back
+
+group-of-requires : tie.Need-group-of-requires Inv-loop μ-loop
+group-of-requires c κs = search needs
 
 lesser-requires : tie.Need-lesser-requires Inv-loop μ-loop
 lesser-requires c κs = search needs
 
 loop-holds : tie.Need-loop-holds Inv-loop μ-loop
 loop-holds c =
-    let a = c .before .args in
+    let a = c .before .before .args in
     (omega (arith, c .lesser .ensures), reach-start groupOf (a .request) ∙ ap (reachWithin groupOf (a .request)) (sym (c .lesser .ensures)))
 
 sub-relevant : tie.Need-sub-relevant Inv-loop μ-loop
 sub-relevant c = search needs
 
 relevant-requires : tie.Need-relevant-requires Inv-loop μ-loop
-relevant-requires c κs = (search needs, omega arith)
+relevant-requires c κs = search needs
 
 returns : tie.Need-returns Inv-loop μ-loop
 returns c =
-    let a = c .before .before .before .before .before .args in
+    let a = c .before .before .before .before .before .before .args in
     let l = c .before .before .before .loop in
-    sym (l .inv .1 ∙ reach-here groupOf (a .request) (l .back) (c .before .before .loop-test .taken) (l .inv .0) (sym (c .before .relevant .ensures) ∙ c .if1 .taken))
+    let own = relevant-to groupOf _ (a .request) (a .request .event - l .back) (c .before .before .before .before .before .group-of .ensures) in
+    sym (l .inv .1 ∙ reach-here groupOf (a .request) (l .back) (c .before .before .loop-test .taken) (l .inv .0) (sym own ∙ sym (c .before .relevant .ensures) ∙ c .if1 .taken))
 
 sub-back : tie.Need-sub-back Inv-loop μ-loop
 sub-back c = search needs
@@ -45,15 +50,16 @@ loop-less c = search needs
 
 loop-again : tie.Need-loop-again Inv-loop μ-loop
 loop-again c =
-    let a = c .before .before .before .before .before .args in
-    let l = c .before .before .before .loop in (
+    let a = c .before .before .before .before .before .before .args in
+    let l = c .before .before .before .loop in
+    let own = relevant-to groupOf _ (a .request) (a .request .event - l .back) (c .before .before .before .before .before .group-of .ensures) in (
       omega arith,
-      l .inv .1 ∙ reach-pass groupOf (a .request) (l .back) (c .before .before .loop-test .taken) (l .inv .0) (sym (c .before .relevant .ensures) ∙ c .if1 .left),
+      l .inv .1 ∙ reach-pass groupOf (a .request) (l .back) (c .before .before .loop-test .taken) (l .inv .0) (sym own ∙ sym (c .before .relevant .ensures) ∙ c .if1 .left),
     )
 
 returns-2 : tie.Need-returns-2 Inv-loop μ-loop
 returns-2 c =
-    let a = c .before .before .before .args in
+    let a = c .before .before .before .before .args in
     let e : c .before .loop .back ≡ 0 = omega arith in
     sym (c .before .loop .inv .1 ∙ ap (reachWithin groupOf (a .request)) e ∙ reach-none groupOf (a .request))
 
@@ -63,6 +69,7 @@ whole-reach-spec =
     (tie.spec
     Inv-loop
     μ-loop
+    group-of-requires
     lesser-requires
     loop-holds
     sub-relevant

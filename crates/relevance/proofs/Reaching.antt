@@ -8,16 +8,14 @@ use native.Mathlib.Omega.{arith}
 use lib.Dec.{ltb}
 use borrow.Author.Tests.{lt-ltb, le-ltb}
 use Rattle.lists.specs.Lists.{keep, any, member, leastOf}
-use Rattle.lists.proofs.Bools.{lt-or-le}
+use Rattle.lists.proofs.Bools.{lt-or-le, same-test}
 use Rattle.lists.proofs.Keep.{keep-append, kept-member, leastOf-top, leastOf-from}
 use Rattle.calendar.specs.declared.Group.{Group}
 use Rattle.method.specs.declared.Request.{Request}
 use Rattle.method.specs.Relevant.{daysBefore, relevant, relevantDays}
 use Rattle.method.specs.Method.{wholeReach}
 use Rattle.method.specs.HighXofY.{highXofY}
-use Rattle.method.proofs.LookBack.{daysBefore-is}
-use Rattle.ranking.proofs.Numbers.{same-test}
-use Rattle.choose.proofs.Days.{days-then, days-least, one-before}
+use Rattle.method.proofs.LookBack.{daysBefore-is, days-then, days-least, one-before}
 
 pub leastOf-snoc : (top : ℕ) (xs : List ℕ) (x : ℕ) → leastOf top (xs ++ (x ∷ [])) ≡ min (leastOf top xs) x
 unfolding leastOf

@@ -1,11 +1,11 @@
--- `choose::may_be` meets its contract: in each arm the group is known.
+-- `relevance::may_be` meets its contract: in each arm the group is known.
 use Prim.Native.Nat.{_%_}
 use mathlib.Core.Path.{sym, ap}
 use borrow.Author.Needs.{needs}
 use Rattle.calendar.specs.declared.Group.{Group}
-use Rattle.choose.specs.Look.{mayBe}
-use Rattle.choose.proofs.may_be.Statement.{statement}
-use Rattle.choose.proofs.may_be.Tie as tie
+use Rattle.relevance.specs.Relevance.{mayBe}
+use Rattle.relevance.proofs.may_be.Statement.{statement}
+use Rattle.relevance.proofs.may_be.Tie as tie
 
 enum-told : tie.Need-enum-told
 enum-told c = search needs

@@ -1,0 +1,2 @@
+pub mod Relevance
+pub mod Reaching

@@ -1,0 +1,76 @@
+// Which days are relevant to an event, and how far back they go (document 01, "Choosing the days"). The calendar alone decides: no reading and
+// no mark plays a part.
+ghost use mathlib.Core.Path.{_≡_};
+ghost use Prim.Native.Nat.{_%_, min};
+ghost use Rattle.calendar.specs.Holidays.{group as groupOf};
+ghost use Rattle.method.specs.Relevant.{groupNumber};
+ghost use Rattle.method.specs.Method.{wholeReach};
+ghost use Rattle.method.specs.HighXofY.{highXofY};
+ghost use Rattle.relevance.specs.Relevance.{mayBe, relevantTo};
+use calendar::Group;
+use method::Request;
+
+// How far back a day may lie.
+const LOOK_BACK: u32 = 45;
+
+// A group's number.
+fn number(of: Group) -> u32
+    ensures { λ r. ⌜ r ≡ groupNumber of ⌝ }
+{
+    match of {
+        Group::Weekday => 0,
+        Group::Saturday => 1,
+        Group::HolidayGroup => 2,
+    }
+}
+
+// By its day of the week a day may be of the group. It spares the calendar most of the days of a Saturday's look back.
+fn may_be(group: Group, day: u32) -> bool
+    ensures { λ r. ⌜ r ≡ mayBe group (day % 7) ⌝ }
+{
+    match group {
+        Group::Weekday => 1 < day % 7,
+        Group::Saturday => day % 7 == 0,
+        Group::HolidayGroup => true,
+    }
+}
+
+// Whether a day is relevant to an event of this group, wherever it lies.
+pub fn relevant(request: Request, group: Group, day: u32) -> bool
+    ensures { λ r. ⌜ r ≡ relevantTo groupOf group request day ⌝ }
+{
+    if day < request.participation {
+        return false;
+    }
+    if (number(group) == 0) & ((day as u64) + 1 == request.event as u64) {
+        return false;
+    }
+    if may_be(group, day) {
+        number(calendar::group_of(day)) == number(group)
+    } else {
+        false
+    }
+}
+
+// The lesser of two numbers.
+fn lesser(a: u32, b: u32) -> u32
+    ensures { λ r. ⌜ r ≡ min a b ⌝ }
+{
+    if a < b { a } else { b }
+}
+
+// How far back the oldest relevant day lies; 0 where none is relevant. It is looked for from the farthest day on.
+pub fn whole_reach(request: Request) -> u32
+    ensures { λ r. ⌜ r ≡ wholeReach (highXofY groupOf request) ⌝ }
+{
+    let event = request.event;
+    let group = calendar::group_of(event);
+    let mut back = lesser(LOOK_BACK, event);
+    while 0 < back {
+        if relevant(request, group, event - back) {
+            return back;
+        }
+        back -= 1;
+    }
+    0
+}
