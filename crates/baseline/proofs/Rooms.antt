@@ -24,7 +24,7 @@ use Rattle.rooms.specs.Rooms.{partAt, roomDay, heldRooms, roomHistory}
 use Rattle.choose.specs.Choice.{choiceOf}
 use Rattle.choose.specs.Look.{nearest}
 use Rattle.choose.proofs.Days.{seen-nearest}
-use Rattle.choose.proofs.Reaching.{reach-most, short-of-reach}
+use Rattle.relevance.proofs.Reaching.{reach-most, short-of-reach}
 use Rattle.baseline.specs.Answer.{tableOf}
 use Rattle.baseline.specs.Directory.{directoryOf}
 use Rattle.baseline.proofs.Extracts.{has-day, has-inside, ltb-same}

@@ -1,1 +1,3 @@
-pub mod Carried
+pub mod Numbers
+pub mod Calls
+pub mod Laws

@@ -1,7 +1,5 @@
 -- `host::hp_baseline_table` meets its contract, by those of the call, of what is told and of the number.
-use mathlib.Core.Path.{ap, _∙_}
-use Rattle.baseline.specs.declared.Answer.{Answer}
-use Rattle.host.specs.Host.{numberOf, toldTo}
+use Rattle.host.proofs.Calls.{table-call}
 use borrow.Author.Needs.{needs}
 use Rattle.host.proofs.hp_baseline_table.Statement.{statement}
 use Rattle.host.proofs.hp_baseline_table.Tie as tie
@@ -22,9 +20,7 @@ same-length-2 : tie.Need-same-length-2
 same-length-2 c = search needs
 
 returns : tie.Need-returns
-returns c =
-    let b = c .before .before .before .before .before .before .baseline .ensures in
-    record { result = c .number-of .ensures ∙ ap (λ (a : Answer). numberOf (a .given)) (b .answer); output = b .output; telling = c .before .before .tell .ensures ∙ ap (λ (a : Answer). toldTo a (c .before .before .before .before .before .before .before .before .before .before .before .args .told .now)) (b .answer) }
+returns c = table-call (c .number-of .ensures) (c .before .before .tell .ensures) (c .before .before .before .before .before .before .baseline .ensures)
 
 pub hp-baseline-table-spec : {M : Type 1} → statement M
 hp-baseline-table-spec =

@@ -1,13 +1,13 @@
--- `host::nine_answered` meets its contract: each number is stored as it is.
+-- `telling::nine_answered` meets its contract: each number is stored as it is.
 use native.Mathlib.Omega.{arith}
 use Prim.Native.Nat.{_<_, _^_}
 use lib.Signed.{mag}
 use Rattle.method.specs.Adjustment.{places}
-use Rattle.host.specs.Host.{nineAnswered}
-use Rattle.host.proofs.Carried.{back, back-pos}
+use Rattle.telling.specs.Telling.{nineAnswered}
+use Rattle.telling.proofs.Telling.{back, back-pos}
 use borrow.Author.Needs.{needs}
-use Rattle.host.proofs.nine_answered.Statement.{statement}
-use Rattle.host.proofs.nine_answered.Tie as tie
+use Rattle.telling.proofs.nine_answered.Statement.{statement}
+use Rattle.telling.proofs.nine_answered.Tie as tie
 
 signed-requires : tie.Need-signed-requires
 signed-requires c κs = search needs

@@ -1,4 +1,4 @@
--- `host::tell_nine` meets its contract. The invariant: the first `i` of the nine stand at the start, and the rest is kept.
+-- `telling::tell_nine` meets its contract. The invariant: the first `i` of the nine stand at the start, and the rest is kept.
 use Prim.Native.Nat.{_+_, _-_, _≤_, _<_}
 use mathlib.Core.Path.{_≡_, refl, _∙_}
 use native.Mathlib.Omega.{arith}
@@ -7,10 +7,10 @@ use borrow.Author.Needs.{needs}
 use lib.ListN.{length, getD, length-set}
 use lib.IntN.{pos}
 use native.Mathlib.Numerals.{add-one}
-use Rattle.host.proofs.Carried.{back}
+use Rattle.telling.proofs.Telling.{back}
 use lib.Seq.{paste, paste-suc, take-all}
-use Rattle.host.proofs.tell_nine.Statement.{statement}
-use Rattle.host.proofs.tell_nine.Tie as tie
+use Rattle.telling.proofs.tell_nine.Statement.{statement}
+use Rattle.telling.proofs.tell_nine.Tie as tie
 
 abbrev Inv-loop : tie.InvT-loop
 Inv-loop told₀ nine i₀ told i = (i ≤ 9) × (length told ≡ length told₀) × (told ≡ paste told₀ 0 nine i)

@@ -1,11 +1,11 @@
--- `host::signed` meets its contract: a number of 32 bits is the same number among those of 64 bits with a sign.
+-- `telling::signed` meets its contract: a number of 32 bits is the same number among those of 64 bits with a sign.
 use Prim.Native.Nat.{_<_, _^_}
 use native.Mathlib.Omega.{arith}
 use mir.Syntax.{w64}
 use mir.ValLaws.{toZ-pos}
 use borrow.Author.Needs.{needs}
-use Rattle.host.proofs.signed.Statement.{statement}
-use Rattle.host.proofs.signed.Tie as tie
+use Rattle.telling.proofs.signed.Statement.{statement}
+use Rattle.telling.proofs.signed.Tie as tie
 
 cast-result : tie.Need-cast-result
 cast-result c = search needs

@@ -1,8 +1,8 @@
--- `host::tell` meets its contract, by the two laws of what is told.
-use Rattle.host.proofs.Carried.{tells, tells-nothing}
+-- `telling::tell` meets its contract, by the two laws of what is told.
+use Rattle.telling.proofs.Telling.{tells, tells-nothing}
 use borrow.Author.Needs.{needs}
-use Rattle.host.proofs.tell.Statement.{statement}
-use Rattle.host.proofs.tell.Tie as tie
+use Rattle.telling.proofs.tell.Statement.{statement}
+use Rattle.telling.proofs.tell.Tie as tie
 
 returns : tie.Need-returns
 returns c = tells-nothing (c .before .args .answer) (c .before .args .told .now) (c .if1 .taken)

@@ -1,0 +1,4 @@
+pub mod Bytes
+pub mod Rooms
+pub mod Files
+pub mod Laws

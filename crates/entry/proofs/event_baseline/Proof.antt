@@ -1,0 +1,65 @@
+-- `entry::event_baseline` meets its contract: one law for each way out.
+use Rattle.entry.proofs.Files.{refuses, refused-there, none-there, event-there}
+use lib.ListN.{length}
+use borrow.Author.Needs.{needs}
+use Rattle.entry.proofs.event_baseline.Statement.{statement}
+use Rattle.entry.proofs.event_baseline.Tie as tie
+
+event-at-requires : tie.Need-event-at-requires
+event-at-requires c κs = search needs
+
+enum-known-at : tie.Need-enum-known-at
+enum-known-at c = search needs
+
+refuse-requires : tie.Need-refuse-requires
+refuse-requires c κs = search needs
+
+enum-told : tie.Need-enum-told
+enum-told c = search needs
+
+refuse-requires-2 : tie.Need-refuse-requires-2
+refuse-requires-2 c κs = search needs
+
+enum-known-request : tie.Need-enum-known-request
+enum-known-request c = search needs
+
+table-baseline-requires : tie.Need-table-baseline-requires
+table-baseline-requires c κs = search needs
+
+returns : tie.Need-returns
+returns c =
+    let a = c .before .before .before .before .before .before .before .before .before .args in
+    refuses (a .out .now) (c .refuse .ensures)
+    (refused-there (a .file .now) (a .place) (length (a .out .now)) (c .before .before .before .before .event-at .ensures) (c .before .before .at .given .1))
+
+returns-2 : tie.Need-returns-2
+returns-2 c =
+    let a = c .before .before .before .before .before .before .before .before .args in
+    refuses (a .out .now) (c .refuse2 .ensures)
+    (none-there (a .file .now) (a .place) (length (a .out .now)) (c .before .before .before .event-at .ensures) (c .before .enum-told .given .1))
+
+same-length : tie.Need-same-length
+same-length c = search needs
+
+returns-3 : tie.Need-returns-3
+returns-3 c =
+    let s = c .before .before .before .before .before .before .before .before .before .before .before .before in
+    let a = s .args in
+    rw (event-there (a .file .now) (a .place) (length (a .out .now)) (c .before .before .before .before .before .before .before .event-at .ensures) (c .before .before .before .before .before .request .given .1) (s .pre))
+    (c .before .before .table-baseline .ensures)
+
+pub event-baseline-spec : {M : Type 1} → statement M
+event-baseline-spec =
+    tie.close
+    (tie.spec
+    event-at-requires
+    enum-known-at
+    refuse-requires
+    enum-told
+    refuse-requires-2
+    enum-known-request
+    table-baseline-requires
+    returns
+    returns-2
+    same-length
+    returns-3)

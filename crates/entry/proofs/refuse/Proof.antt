@@ -1,0 +1,12 @@
+-- `entry::refuse` meets its contract.
+use mathlib.Core.Path.{refl}
+use Rattle.baseline.specs.Answer.{answerOf}
+use Rattle.entry.proofs.refuse.Statement.{statement}
+use Rattle.entry.proofs.refuse.Tie as tie
+
+returns : tie.Need-returns
+unfolding answerOf
+returns c = refl
+
+pub refuse-spec : {M : Type 1} → statement M
+refuse-spec = tie.close (tie.spec returns)
