@@ -1,13 +1,11 @@
 -- One law for each way out of the entry.
 use Prim.Native.Nat.{ℕ, _-_, _*_, _/_, _≤_, min}
 use mathlib.Core.Path.{_≡_, refl, sym, ap, _∙_}
-use mathlib.Core.Bool.{Bool, true, false, cond, _&&_}
 use mathlib.Core.List.{List, _++_}
 use native.Mathlib.Omega.{arith}
 use borrow.Author.Tests.{le-leb}
 use lib.ListN.{length, take, drop, length-append}
 use lib.Seq.{take-at}
-use lib.Dec.{leb}
 use Rattle.calendar.specs.Holidays.{group}
 use Rattle.method.specs.declared.Request.{Request}
 use Rattle.method.specs.declared.Refusal.{Refusal}
@@ -24,11 +22,12 @@ use Rattle.record.specs.declared.Read.the-variants.{File, Refused}
 use Rattle.record.specs.declared.EventAt.{EventAt}
 use Rattle.record.specs.declared.EventAt.the-variants.{Event, NoEvent as NoneThere, Refused as RefusedEvent}
 use Rattle.record.specs.declared.Loaded.{Loaded}
-use Rattle.record.specs.declared.Loaded.the-variants.{File as LoadedFile, NoRoom, Refused as RefusedLoad}
+use Rattle.record.specs.declared.Loaded.the-variants.{NoRoom, Refused as RefusedLoad}
 use Rattle.record.specs.Layout.{readingBytes}
-use Rattle.record.specs.Reader.{readFile, tableIn, shapeIn, eventAtPlace, loadedOf, loading, bufferAfter}
+use Rattle.record.specs.Reader.{readFile, tableIn, eventAtPlace, loadedOf, loading}
 use Rattle.record.proofs.Files.{shape-fits}
 use Rattle.record.proofs.Loading.{marks-held, readings-held}
+use Rattle.record.proofs.Buffers.{loaded-refused, InBuffers}
 use Rattle.entry.specs.Entry.{fileReply, bytesWritten, FileAnswers}
 use Rattle.entry.proofs.Rooms.{answered-size, answered-fits, room-same}
 
@@ -98,29 +97,6 @@ module _ (file : List ℕ) (place room : ℕ) {at : EventAt} (s : at ≡ eventAt
   event-there e f = rw (← s, e, f)
 
 -- ---- loading
-loaded-accepted : (read : Read) (table : Table) (m n : ℕ) {shape : Shape} → loadedOf read table m n ≡ LoadedFile shape → read ≡ File shape
-loaded-accepted (File s) table m n {shape} e = go (leb (heldDays table) m && leb (length (table .readings)) n) e
-  where
-    go : (x : Bool) → cond x (LoadedFile s) NoRoom ≡ LoadedFile shape → File s ≡ File shape
-    go true e = let same : s ≡ shape = cc in rw same
-    go false e = let z : _≡_ {A = ℕ} 0 1 = cc in absurd (omega arith)
-loaded-accepted (Refused at) table m n e = let z : _≡_ {A = ℕ} 0 1 = cc in absurd (omega arith)
-
-loaded-refused : (read : Read) (table : Table) (m n : ℕ) {at : ℕ} → loadedOf read table m n ≡ RefusedLoad at → read ≡ Refused at
-loaded-refused (File s) table m n {at} e = go (leb (heldDays table) m && leb (length (table .readings)) n) e
-  where
-    go : (x : Bool) → cond x (LoadedFile s) NoRoom ≡ RefusedLoad at → File s ≡ Refused at
-    go true e = let z : _≡_ {A = ℕ} 0 1 = cc in absurd (omega arith)
-    go false e = let z : _≡_ {A = ℕ} 0 1 = cc in absurd (omega arith)
-loaded-refused (Refused k) table m n {at} e = let same : k ≡ at = cc in rw same
-
--- the first places of the buffers are the file's table
-pub record InBuffers (file : List ℕ) (shape : Shape) (marks readings : List ℕ) : Type 0 where
-  pub few : shape .days ≤ 128
-  pub marks-size : length (take (shape .days) marks) ≡ shape .days
-  pub readings-size : length (take (96 * shape .days) readings) ≡ 96 * shape .days
-  pub its-table : tableOf (shape .first) (take (shape .days) marks) (take (96 * shape .days) readings) ≡ tableIn file
-
 module _ (file : List ℕ) {loaded : Loaded} (s : loaded ≡ loading file 128 12288) where
   pub refused-load : (place room : ℕ) {at : ℕ} → loaded ≡ RefusedLoad at → fileReply file place room ≡ refused (BadFile at)
   unfolding loading fileReply
@@ -140,25 +116,6 @@ module _ (file : List ℕ) {loaded : Loaded} (s : loaded ≡ loading file 128 12
           let x = rw (le-leb (heldDays (tableIn file)) 128 h, le-leb (length (tableIn file .readings)) 12288 k) at z in
           let no : _≡_ {A = ℕ} 0 1 = cc in absurd (omega arith)
 
-  pub in-buffers : {marks readings : List ℕ} (marks₀ readings₀ : List ℕ) {shape : Shape} → marks ≡ bufferAfter loaded (tableIn file .marks) marks₀
-      → readings ≡ bufferAfter loaded (tableIn file .readings) readings₀ → loaded ≡ LoadedFile shape → InBuffers file shape marks readings
-  unfolding loading shapeIn tableIn
-  in-buffers {marks} {readings} marks₀ readings₀ {shape} x y t =
-      record {
-        few = shape-fits file shape accepted .days;
-        marks-size = rw first-marks (marks-held file accepted);
-        readings-size = rw first-readings (readings-held file accepted);
-        its-table = rw (ap (λ (s : Shape). s .first) (shape-fits file shape accepted .is-shape), first-marks, first-readings);
-      }
-    where
-      accepted : readFile file ≡ File shape
-      accepted = loaded-accepted (readFile file) (tableIn file) 128 12288 (sym s ∙ t)
-
-      first-marks : take (shape .days) marks ≡ tableIn file .marks
-      first-marks =
-          rw (x, t) (take-at (tableIn file .marks) (drop (length (tableIn file .marks)) marks₀) (shape .days) (marks-held file accepted))
-
-      first-readings : take (96 * shape .days) readings ≡ tableIn file .readings
-      first-readings =
-          rw (y, t)
-          (take-at (tableIn file .readings) (drop (length (tableIn file .readings)) readings₀) (96 * shape .days) (readings-held file accepted))
+pub its-table : {file : List ℕ} {shape : Shape} {marks readings : List ℕ} → InBuffers file shape marks readings
+    → tableOf (shape .first) (take (shape .days) marks) (take (96 * shape .days) readings) ≡ tableIn file
+its-table q = rw (q .its-first, q .its-marks, q .its-readings)

@@ -6,6 +6,7 @@ pub mod Files
 pub mod Events
 pub mod Filling
 pub mod Loading
+pub mod Buffers
 pub mod Back
 pub mod ReadsBack
 pub mod WrittenAgain

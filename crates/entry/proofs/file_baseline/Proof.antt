@@ -2,8 +2,9 @@
 use mathlib.Core.Path.{sym}
 use native.Mathlib.Omega.{arith}
 use lib.ListN.{length}
-use Rattle.entry.proofs.Files.{refuses, refused-load, never-full, InBuffers, in-buffers}
+use Rattle.entry.proofs.Files.{refuses, refused-load, never-full, its-table}
 use borrow.Author.Needs.{needs}
+use Rattle.record.proofs.Buffers.{InBuffers, in-buffers}
 use Rattle.entry.proofs.file_baseline.Statement.{statement}
 use Rattle.entry.proofs.file_baseline.Tie as tie
 
@@ -13,7 +14,7 @@ its : (c : tie.After-loaded2) →
     InBuffers (c .before .before .before .before .before .before .before .before .before .args .file .now) (c .loaded2 .given .0 .0) (l .last .1 .0) (l .last .1 .1 .0))
 its c =
     let l = c .before .before .before .before .load in
-    in-buffers (c .before .before .before .before .before .before .before .before .before .args .file .now) (l .ensures .0) _ _ (l .ensures .1 .0) (l .ensures .1 .1) (c .loaded2 .given .1)
+    in-buffers (c .before .before .before .before .before .before .before .before .before .args .file .now) _ _ _ _ (l .ensures .0) (l .ensures .1 .0) (l .ensures .1 .1) (c .loaded2 .given .1)
 
 slice-aggregate-load : tie.Need-slice-aggregate-load
 slice-aggregate-load c = search needs
@@ -58,7 +59,7 @@ slice-aggregate-event-baseline-2 : tie.Need-slice-aggregate-event-baseline-2
 slice-aggregate-event-baseline-2 c = sym (its (c .before .before .before .before) .readings-size)
 
 event-baseline-requires : tie.Need-event-baseline-requires
-event-baseline-requires c κs = its (c .before .before .before .before .before) .its-table
+event-baseline-requires c κs = its-table (its (c .before .before .before .before .before))
 
 returns : tie.Need-returns
 returns c =

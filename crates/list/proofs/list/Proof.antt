@@ -2,7 +2,8 @@
 use mathlib.Core.Path.{sym}
 use native.Mathlib.Omega.{arith}
 use borrow.Author.Needs.{needs}
-use Rattle.list.proofs.Holding.{InBuffers, in-buffers}
+use Rattle.record.proofs.Buffers.{InBuffers, in-buffers}
+use Rattle.list.proofs.Holding.{holds}
 use Rattle.list.proofs.list.Statement.{statement}
 use Rattle.list.proofs.list.Tie as tie
 
@@ -12,7 +13,7 @@ its : (c : tie.After-loaded) →
     InBuffers (c .before .before .before .before .before .before .before .before .args .file .now) (c .loaded .given .0 .0) (l .last .1 .0) (l .last .1 .1 .0))
 its c =
     let l = c .before .before .before .before .load in
-    in-buffers _ _ _ _ (l .ensures .0) (l .ensures .1 .0) (l .ensures .1 .1) (c .loaded .given .1)
+    in-buffers _ _ _ _ _ (l .ensures .0) (l .ensures .1 .0) (l .ensures .1 .1) (c .loaded .given .1)
 
 slice-aggregate-load : tie.Need-slice-aggregate-load
 slice-aggregate-load c = search needs
@@ -48,7 +49,7 @@ slice-aggregate-print-events-2 : tie.Need-slice-aggregate-print-events-2
 slice-aggregate-print-events-2 c = sym (its (c .before .before .before .before .before .before) .readings-size)
 
 print-events-requires : tie.Need-print-events-requires
-print-events-requires c κs = its (c .before .before .before .before .before .before) .holds
+print-events-requires c κs = holds (its (c .before .before .before .before .before .before))
 
 enum-told : tie.Need-enum-told
 enum-told c = search needs
