@@ -4,7 +4,7 @@ ghost use Prim.Native.Nat.{_+_, _≤_, _<_};
 ghost use lib.ListN.{take};
 ghost use Rattle.lists.specs.Lists.{sumOf, member};
 ghost use Rattle.calendar.specs.Days.{lastDay, leap as leapOf, months, newYear, isDate, numbered, yearOf, dated};
-ghost use Rattle.calendar.specs.Holidays.{easter as easterOf, fixedHolidays, easterHolidays, holidays, isHoliday, group};
+ghost use Rattle.calendar.specs.Holidays.{easter as easterOf, fixedHolidays, easterHolidays, isHoliday, group};
 
 // A date of the Gregorian calendar, as written: year, month from 1, day from 1.
 pub struct Date {
@@ -159,39 +159,38 @@ pub fn easter(year: u32) -> u32
     new_year(year) + leap(year) + 93 + d + e
 }
 
-// `day` is one of the eight holidays of the year that have a fixed date.
+// `day` is one of the eight holidays of its year that have a fixed date: two before March, six after February.
 fn is_fixed_holiday(day: u32, year: u32) -> bool
-    requires { ⌜ (2000 ≤ year) × (year ≤ 2099) ⌝ }
+    requires { ⌜ (2000 ≤ year) × (year ≤ 2099) × (newYear year ≤ day) ⌝ }
     ensures { λ r. ⌜ r ≡ member day (fixedHolidays year) ⌝ }
 {
-    let first = new_year(year);
-    let later = first + leap(year);
-    (day == first)
-        | ((day == first + 5)
-            | ((day == later + 83)
-                | ((day == later + 120)
-                    | ((day == later + 226)
-                        | ((day == later + 300)
-                            | ((day == later + 358) | ((day == later + 359) | false)))))))
+    let passed = day - new_year(year);
+    if passed < 59 {
+        return (passed == 0) | (passed == 5);
+    }
+    let later = passed - leap(year);
+    (later == 83)
+        | ((later == 120) | ((later == 226) | ((later == 300) | ((later == 358) | (later == 359)))))
 }
 
-// `day` is one of the six holidays that are counted from Easter Sunday.
-fn is_easter_holiday(day: u32, year: u32, sunday: u32) -> bool
-    requires { ⌜ (2000 ≤ year) × (year ≤ 2099) × (sunday ≡ easterOf year) ⌝ }
+// `day` is one of the six holidays of its year that are counted from Easter Sunday. Easter is worked out only where they can lie, from 15
+// February to the end of June.
+fn is_easter_holiday(day: u32, year: u32) -> bool
+    requires { ⌜ (2000 ≤ year) × (year ≤ 2099) × (newYear year ≤ day) ⌝ }
     ensures { λ r. ⌜ r ≡ member day (easterHolidays year) ⌝ }
 {
+    let passed = day - new_year(year);
+    if passed < 45 {
+        return false;
+    }
+    if 178 < passed {
+        return false;
+    }
+    let sunday = easter(year);
     (day == sunday - 48)
         | ((day == sunday - 2)
             | ((day == sunday - 1)
-                | ((day == sunday) | ((day == sunday + 1) | ((day == sunday + 50) | false)))))
-}
-
-// `day` is one of the fourteen holidays of the year whose Easter Sunday is given.
-fn is_holiday_in(day: u32, year: u32, sunday: u32) -> bool
-    requires { ⌜ (2000 ≤ year) × (year ≤ 2099) × (sunday ≡ easterOf year) ⌝ }
-    ensures { λ r. ⌜ r ≡ member day (holidays year) ⌝ }
-{
-    is_fixed_holiday(day, year) | is_easter_holiday(day, year, sunday)
+                | ((day == sunday) | ((day == sunday + 1) | (day == sunday + 50)))))
 }
 
 // `day` is a holiday. No holiday is known past the calendar.
@@ -202,7 +201,7 @@ pub fn is_holiday(day: u32) -> bool
         return false;
     }
     let year = year_of(day);
-    is_holiday_in(day, year, easter(year))
+    is_fixed_holiday(day, year) | is_easter_holiday(day, year)
 }
 
 // The group of a day. Day 0 is a Saturday.

@@ -1,16 +1,16 @@
 -- Which days are relevant, in the order in which the code asks.
 use Prim.Native.Nat.{ℕ, _+_, _%_, _≤_, _<_}
-use mathlib.Core.Path.{_≡_, refl, sym}
-use mathlib.Core.Bool.{Bool, true, false, cond, _&&_, _||_, and-true, and-false, false≢true}
+use mathlib.Core.Path.{_≡_, refl, sym, _∙_}
+use mathlib.Core.Bool.{Bool, true, false, cond, not, _&&_, _||_, and-true, and-false}
 use native.Mathlib.Omega.{arith}
 use lib.Dec.{eqb}
-use borrow.Author.Tests.{le-leb, lt-leb, ltb-false, eqb-false}
-use Rattle.calendar.specs.Holidays.{group, isHoliday, isSunday}
+use borrow.Author.Tests.{le-leb, lt-leb, eq-eqb, ne-eqb, eqb-false}
+use Rattle.calendar.specs.Holidays.{group, isHoliday}
 use Rattle.calendar.specs.declared.Group.{Group}
 use Rattle.calendar.specs.declared.Group.the-variants.{Weekday, Saturday, HolidayGroup}
 use Rattle.method.specs.declared.Request.{Request}
 use Rattle.method.specs.Relevant.{sameGroup, relevant}
-use Rattle.relevance.specs.Relevance.{mayBe, relevantTo}
+use Rattle.relevance.specs.Relevance.{relevantTo}
 
 module _ (group : ℕ → Group) (own : Group) (r : Request) (d : ℕ) where
   pub too-early : d < r .participation → false ≡ relevantTo group own r d
@@ -31,21 +31,59 @@ pub relevant-to : (group : ℕ → Group) (own : Group) (r : Request) (d : ℕ) 
 unfolding relevantTo relevant
 relevant-to group own r d e = rw e
 
--- a day that by its day of the week cannot be of a group is not of it
-pub may-not-be : (g : Group) (d : ℕ) → mayBe g (d % 7) ≡ false → sameGroup (group d) g ≡ false
-unfolding group
-may-not-be Weekday d t = go (isHoliday d) (eqb (d % 7) 1) (eqb (d % 7) 0) refl refl
-  where
-    go : (holiday sunday saturday : Bool) → eqb (d % 7) 1 ≡ sunday → eqb (d % 7) 0 ≡ saturday
-        → sameGroup (cond (sunday || holiday) HolidayGroup (cond saturday Saturday Weekday)) Weekday ≡ false
-    go true true saturday e f = refl
-    go true false saturday e f = refl
-    go false true saturday e f = refl
-    go false false true e f = refl
-    go false false false e f = absurd (omega (arith, ltb-false 1 (d % 7) t, eqb-false (d % 7) 1 e, eqb-false (d % 7) 0 f))
-may-not-be Saturday d t = rw t (go (isSunday d || isHoliday d))
-  where
-    go : (b : Bool) → sameGroup (cond b HolidayGroup Weekday) Saturday ≡ false
-    go true = refl
-    go false = refl
-may-not-be HolidayGroup d t = absurd (false≢true (sym t))
+-- the group of a day by its day of the week and whether it is a holiday
+by-tests : (sunday saturday holiday : Bool) → Group
+by-tests sunday saturday holiday = cond (sunday || holiday) HolidayGroup (cond saturday Saturday Weekday)
+
+module _ (d : ℕ) where
+  group-by : (g : Group) → sameGroup (group d) g ≡ sameGroup (by-tests (eqb (d % 7) 1) (eqb (d % 7) 0) (isHoliday d)) g
+  unfolding group by-tests
+  group-by g = refl
+
+  pub at-weekend : d % 7 < 2 → false ≡ sameGroup (group d) Weekday
+  unfolding by-tests
+  at-weekend h = sym (group-by Weekday ∙ go (eqb (d % 7) 1) (eqb (d % 7) 0) (isHoliday d) refl refl)
+    where
+      go : (a b c : Bool) → eqb (d % 7) 1 ≡ a → eqb (d % 7) 0 ≡ b → sameGroup (by-tests a b c) Weekday ≡ false
+      go true b c e f = refl
+      go false true true e f = refl
+      go false true false e f = refl
+      go false false c e f = absurd (omega (arith, eqb-false (d % 7) 1 e, eqb-false (d % 7) 0 f))
+
+  pub in-the-week : 2 ≤ d % 7 → not (isHoliday d) ≡ sameGroup (group d) Weekday
+  unfolding by-tests
+  in-the-week h = sym (group-by Weekday ∙ rw (ne-eqb (d % 7) 1 (omega arith), ne-eqb (d % 7) 0 (omega arith)) (go (isHoliday d)))
+    where
+      go : (c : Bool) → sameGroup (by-tests false false c) Weekday ≡ not c
+      go true = refl
+      go false = refl
+
+  pub on-saturday : d % 7 ≡ 0 → not (isHoliday d) ≡ sameGroup (group d) Saturday
+  unfolding by-tests
+  on-saturday h = sym (group-by Saturday ∙ rw (ne-eqb (d % 7) 1 (omega arith), eq-eqb (d % 7) 0 h) (go (isHoliday d)))
+    where
+      go : (c : Bool) → sameGroup (by-tests false true c) Saturday ≡ not c
+      go true = refl
+      go false = refl
+
+  pub no-saturday : (d % 7 ≡ 0 → ⊥) → false ≡ sameGroup (group d) Saturday
+  unfolding by-tests
+  no-saturday h = sym (group-by Saturday ∙ rw (ne-eqb (d % 7) 0 h) (go (eqb (d % 7) 1) (isHoliday d)))
+    where
+      go : (a c : Bool) → sameGroup (by-tests a false c) Saturday ≡ false
+      go true c = refl
+      go false true = refl
+      go false false = refl
+
+  pub on-sunday : d % 7 ≡ 1 → true ≡ sameGroup (group d) HolidayGroup
+  unfolding by-tests
+  on-sunday h = sym (group-by HolidayGroup ∙ rw (eq-eqb (d % 7) 1 h))
+
+  pub no-sunday : (d % 7 ≡ 1 → ⊥) → isHoliday d ≡ sameGroup (group d) HolidayGroup
+  unfolding by-tests
+  no-sunday h = sym (group-by HolidayGroup ∙ rw (ne-eqb (d % 7) 1 h) (go (eqb (d % 7) 0) (isHoliday d)))
+    where
+      go : (b c : Bool) → sameGroup (by-tests false b c) HolidayGroup ≡ c
+      go b true = refl
+      go true false = refl
+      go false false = refl

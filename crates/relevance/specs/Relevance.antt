@@ -1,9 +1,9 @@
 -- 01, "Choosing the days": relevant days, for an event whose group is known.
 use Prim.Native.Nat.{ℕ, _+_}
-use mathlib.Core.Bool.{Bool, true, not, _&&_}
-use lib.Dec.{leb, ltb, eqb}
+use mathlib.Core.Bool.{Bool, not, _&&_}
+use lib.Dec.{leb, eqb}
 use Rattle.calendar.specs.declared.Group.{Group}
-use Rattle.calendar.specs.declared.Group.the-variants.{Weekday, Saturday, HolidayGroup}
+use Rattle.calendar.specs.declared.Group.the-variants.{Weekday}
 use Rattle.method.specs.declared.Request.{Request}
 use Rattle.method.specs.Relevant.{sameGroup}
 
@@ -11,9 +11,3 @@ use Rattle.method.specs.Relevant.{sameGroup}
 unfoldable pub relevantTo : (ℕ → Group) → Group → Request → ℕ → Bool
 relevantTo group own r d =
     leb (r .participation) d && sameGroup (group d) own && not (sameGroup own Weekday && eqb (d + 1) (r .event))
-
--- by its day of the week alone a day may be of a group
-abbrev pub mayBe : Group → ℕ → Bool
-mayBe Weekday weekday = ltb 1 weekday
-mayBe Saturday weekday = eqb weekday 0
-mayBe HolidayGroup weekday = true

@@ -1,12 +1,12 @@
 // Which days are relevant to an event, and how far back they go (document 01, "Choosing the days"). The calendar alone decides: no reading and
 // no mark plays a part.
 ghost use mathlib.Core.Path.{_≡_};
-ghost use Prim.Native.Nat.{_%_, min};
+ghost use Prim.Native.Nat.{min};
 ghost use Rattle.calendar.specs.Holidays.{group as groupOf};
-ghost use Rattle.method.specs.Relevant.{groupNumber};
+ghost use Rattle.method.specs.Relevant.{groupNumber, sameGroup};
 ghost use Rattle.method.specs.Method.{wholeReach};
 ghost use Rattle.method.specs.HighXofY.{highXofY};
-ghost use Rattle.relevance.specs.Relevance.{mayBe, relevantTo};
+ghost use Rattle.relevance.specs.Relevance.{relevantTo};
 use calendar::Group;
 use method::Request;
 
@@ -24,14 +24,27 @@ fn number(of: Group) -> u32
     }
 }
 
-// By its day of the week a day may be of the group. It spares the calendar most of the days of a Saturday's look back.
-fn may_be(group: Group, day: u32) -> bool
-    ensures { λ r. ⌜ r ≡ mayBe group (day % 7) ⌝ }
+// Whether a day is of a group. Its day of the week comes first, and spares much of the calendar's work.
+fn in_group(group: Group, day: u32) -> bool
+    ensures { λ r. ⌜ r ≡ sameGroup (groupOf day) group ⌝ }
 {
+    let weekday = day % 7;
     match group {
-        Group::Weekday => 1 < day % 7,
-        Group::Saturday => day % 7 == 0,
-        Group::HolidayGroup => true,
+        Group::Weekday => if weekday < 2 {
+            false
+        } else {
+            !calendar::is_holiday(day)
+        },
+        Group::Saturday => if weekday == 0 {
+            !calendar::is_holiday(day)
+        } else {
+            false
+        },
+        Group::HolidayGroup => if weekday == 1 {
+            true
+        } else {
+            calendar::is_holiday(day)
+        },
     }
 }
 
@@ -45,11 +58,7 @@ pub fn relevant(request: Request, group: Group, day: u32) -> bool
     if (number(group) == 0) & ((day as u64) + 1 == request.event as u64) {
         return false;
     }
-    if may_be(group, day) {
-        number(calendar::group_of(day)) == number(group)
-    } else {
-        false
-    }
+    in_group(group, day)
 }
 
 // The lesser of two numbers.
