@@ -14,7 +14,7 @@ use Rattle.method.specs.Method.{dated}
 use Rattle.method.specs.Relevant.{relevant}
 use Rattle.method.specs.HighXofY.{complete, eligible, spare, sortBy}
 use Rattle.calendar.specs.declared.Group.{Group}
-use Rattle.ranking.specs.Words.{word, insertDown, sortDown, padded}
+use Rattle.ranking.specs.Words.{word, sortDown, padded, pushed}
 use Rattle.ranking.proofs.Rank.{insert-sorts}
 use Rattle.judging.specs.declared.Judged.the-variants.{Eligible, Spare, Neither}
 use Rattle.choose.specs.declared.Found.{Found}
@@ -92,9 +92,9 @@ module _ (days : List (ℕ × Day)) (p : ℕ × Day) where
 
 -- the row, the number and the oldest of some days and one more
 module _ (r : Request) (l : List (ℕ × Day)) (p : ℕ × Day) where
-  row-more : {row next : List ℕ} → row ≡ rowOf r l → next ≡ take 10 (insertDown (word r p) row) → next ≡ rowOf r (l ++ (p ∷ []))
+  row-more : {row next : List ℕ} → row ≡ rowOf r l → next ≡ pushed (word r p) row → next ≡ rowOf r (l ++ (p ∷ []))
   row-more {row} {next} e n =
-      n ∙ ap (λ (k : List ℕ). take 10 (insertDown (word r p) k)) e ∙ insert-sorts 10 (word r p) (map (word r) l)
+      n ∙ ap (λ (k : List ℕ). pushed (word r p) k) e ∙ insert-sorts 10 (word r p) (map (word r) l)
       ∙ ap (λ (k : List ℕ). padded 10 (sortDown k)) (sym (map-append (word r) l (p ∷ [])))
 
   count-more : {n : ℕ} → n ≡ length l → n + 1 ≡ length (l ++ (p ∷ []))
@@ -110,7 +110,7 @@ module _ {r : Request} {days : List (ℕ × Day)} {found : Found} (q : Looked r 
 
   module _ (p : ℕ × Day) where
     pub looked-eligible : (back : ℕ) {row : List ℕ} → eligible (p .1) ≡ true → p .0 ≡ r .event - back → back ≤ r .event → found .oldest ≤ back
-        → row ≡ take 10 (insertDown (word r p) (found .eligible))
+        → row ≡ pushed (word r p) (found .eligible)
         → Looked r (days ++ (p ∷ [])) (record { eligible = row; count = found .count + 1; oldest = back; spare = found .spare; spares = found .spares })
     looked-eligible back {row} e d h o n =
         let x = eligible-more days p e in
@@ -124,7 +124,7 @@ module _ {r : Request} {days : List (ℕ × Day)} {found : Found} (q : Looked r 
         }
 
     pub looked-spare : {row : List ℕ} → eligible (p .1) ≡ false → spare (p .1) ≡ true
-        → row ≡ take 10 (insertDown (word r p) (found .spare))
+        → row ≡ pushed (word r p) (found .spare)
         → Looked r (days ++ (p ∷ [])) (record { eligible = found .eligible; count = found .count; oldest = found .oldest; spare = row; spares = found .spares + 1 })
     looked-spare {row} e s n =
         let x = eligible-same days p e in
@@ -161,7 +161,7 @@ module _ (group : ℕ → Group) (p : ℕ × Day) {r : Request} {found : Found} 
   adds-none e = rw (none e) (same (λ days q. looked-none q))
 
   module _ (e : relevant group r (p .0) ≡ true) where
-    pub adds-eligible : {w : ℕ} {row : List ℕ} → judged r p ≡ Eligible w → row ≡ take 10 (insertDown w (found .eligible))
+    pub adds-eligible : {w : ℕ} {row : List ℕ} → judged r p ≡ Eligible w → row ≡ pushed w (found .eligible)
         → Adds r back (ifRelevant group r p) found
         (record { eligible = row; count = found .count + 1; oldest = back; spare = found .spare; spares = found .spares })
     adds-eligible {w} {row} j n =
@@ -173,7 +173,7 @@ module _ (group : ℕ → Group) (p : ℕ × Day) {r : Request} {found : Found} 
           spares = omega arith;
         }
 
-    pub adds-spare : {w : ℕ} {row : List ℕ} → judged r p ≡ Spare w → row ≡ take 10 (insertDown w (found .spare))
+    pub adds-spare : {w : ℕ} {row : List ℕ} → judged r p ≡ Spare w → row ≡ pushed w (found .spare)
         → Adds r back (ifRelevant group r p) found
         (record { eligible = found .eligible; count = found .count; oldest = found .oldest; spare = row; spares = found .spares + 1 })
     adds-spare {w} {row} j n =

@@ -50,10 +50,6 @@ before-noughts m x (a ∷ l) =
     (λ (h : x ≤ a). simp (goes-later, before-noughts m x l))
     (lt-or-le a x)
 
-pub behind-all : (l : List ℕ) → insertDown 0 l ≡ l ++ (0 ∷ [])
-behind-all [] = into-none 0
-behind-all (a ∷ l) = let o : 0 ≤ a = omega arith in simp (goes-later, behind-all l)
-
 pub none-above : (a x : ℕ) (l : List ℕ) → a ≤ x → all (λ y. leb y a) l ≡ true → all (λ y. leb y x) l ≡ true
 unfolding all
 none-above a x [] h t = refl

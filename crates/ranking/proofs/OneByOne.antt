@@ -6,13 +6,13 @@ use native.Mathlib.Omega.{arith}
 use native.Mathlib.Numerals.{add-one}
 use lib.ListN.{take, drop, getD, length, drop-of-length-le}
 use lib.Seq.{drop-cons, take-nil}
-use Rattle.ranking.specs.Words.{insertDown, insertAll}
+use Rattle.ranking.specs.Words.{pushed, insertAll}
 
 pub insert-none : (row : List ℕ) → insertAll [] row ≡ row
 unfolding insertAll
 insert-none row = refl
 
-pub insert-next : (x : ℕ) (xs row : List ℕ) → insertAll (x ∷ xs) row ≡ insertAll xs (take 10 (insertDown x row))
+pub insert-next : (x : ℕ) (xs row : List ℕ) → insertAll (x ∷ xs) row ≡ insertAll xs (pushed x row)
 unfolding insertAll
 insert-next x xs row = refl
 
@@ -22,7 +22,7 @@ pub record Inserting (count : ℕ) (words before row : List ℕ) (i : ℕ) : Typ
   pub left : insertAll (take (count - i) (drop i words)) row ≡ insertAll (take count words) before
 
 module _ {count : ℕ} {words before row : List ℕ} {i : ℕ} (q : Inserting count words before row i) where
-  pub one-more : {next : List ℕ} → i < 10 → i < length words → i < count → next ≡ take 10 (insertDown (getD words i 0) row)
+  pub one-more : {next : List ℕ} → i < 10 → i < length words → i < count → next ≡ pushed (getD words i 0) row
       → Inserting count words before next (i + 1)
   one-more {next} h o l e =
       let s : count - i ≡ suc (count - suc i) = omega arith in

@@ -15,13 +15,14 @@ use Rattle.method.specs.declared.Request.{Request}
 use Rattle.method.specs.Table.{Day, goodReading}
 use Rattle.method.specs.Method.{dated}
 use Rattle.method.specs.HighXofY.{complete, eventSum, higher, sortBy}
-use Rattle.ranking.specs.Words.{word, above, insertDown, sortDown, padded, insertAll}
-use Rattle.lists.proofs.All.{all-take}
+use Rattle.ranking.specs.Words.{word, above, insertDown, sortDown, padded, pushed, insertAll}
+use Rattle.lists.proofs.All.{all-append, all-replicate, all-take}
 use Rattle.lists.proofs.Bools.{both, lt-or-le}
 use Rattle.lists.proofs.Maps.{map-take}
 use Rattle.method.proofs.Sort.{same-sorted, length-sorted, all-inserted, all-sorted}
 use Rattle.ranking.proofs.Sorting.{map-sorted}
-use Rattle.ranking.proofs.Insertion.{into-none, goes-here, goes-later, smaller-first, none-above, before-noughts, behind-all}
+use Rattle.ranking.proofs.Insertion.{into-none, goes-here, goes-later, smaller-first, none-above, before-noughts}
+use Rattle.ranking.proofs.Carry.{keeps-hand, keeps-own}
 use Rattle.ranking.proofs.OneByOne.{insert-none, insert-next}
 use Rattle.ranking.proofs.Numbers.{sums-then-nearness, later-is-nearer, day-back, part-small}
 
@@ -74,6 +75,50 @@ unfolding falling sortBy
 sorted-falls [] = refl
 sorted-falls (x ∷ l) = insert-falls x (sortDown l) (sorted-falls l)
 
+-- A word pushed into a falling row
+
+high-pushed : (x : ℕ) (row : List ℕ) → falling (x ∷ row) ≡ true → pushed x row ≡ take (length row) (x ∷ row)
+unfolding falling all pushed
+high-pushed x [] t = refl
+high-pushed x (y ∷ row) t =
+    let tx = both (all (λ z. leb z x) (y ∷ row)) (falling (y ∷ row)) t in
+    let o : y ≤ x = leb-true y x (both (leb y x) (all (λ z. leb z x) row) (tx .0) .0) in
+    ⊎-elim
+    (λ (p : y < x). keeps-hand x y row p ∙ ap (λ (l : List ℕ). x ∷ l) (high-pushed y row (tx .1)))
+    (λ (p : x ≤ y). let e : y ≡ x = omega arith in keeps-own x y row p ∙ rw e (ap (λ (l : List ℕ). x ∷ l) (rw e at (high-pushed y row (tx .1)))))
+    (lt-or-le y x)
+
+pub falling-pushed : (x : ℕ) (row : List ℕ) → falling row ≡ true → pushed x row ≡ take (length row) (insertDown x row)
+unfolding falling pushed
+falling-pushed x [] t = refl
+falling-pushed x (y ∷ row) t =
+    ⊎-elim
+    (λ (p : y < x). keeps-hand x y row p ∙ rw (goes-here x y row p) (ap (λ (l : List ℕ). x ∷ l) (high-pushed y row t)))
+    (λ (p : x ≤ y). keeps-own x y row p
+    ∙ rw (goes-later x y row p) (ap (λ (l : List ℕ). y ∷ l) (falling-pushed x row (both (all (λ z. leb z y) row) (falling row) t .1))))
+    (lt-or-le y x)
+
+pub nought-pushed : (row : List ℕ) → pushed 0 row ≡ row
+unfolding pushed
+nought-pushed [] = refl
+nought-pushed (x ∷ row) = keeps-own 0 x row (omega arith) ∙ ap (λ (l : List ℕ). x ∷ l) (nought-pushed row)
+
+falling-taken : (n : ℕ) (l : List ℕ) → falling l ≡ true → falling (take n l) ≡ true
+unfolding falling
+falling-taken zero l t = refl
+falling-taken (suc n) [] t = refl
+falling-taken (suc n) (x ∷ l) t =
+    let tx = both (all (λ y. leb y x) l) (falling l) t in
+    rw (all-take (λ y. leb y x) n l (tx .0)) (falling-taken n l (tx .1))
+
+falling-noughts : (m : ℕ) (l : List ℕ) → falling l ≡ true → falling (l ++ replicate m 0) ≡ true
+unfolding falling
+falling-noughts zero [] t = refl
+falling-noughts (suc m) [] t = rw (all-replicate (λ y. leb y 0) m 0 refl) (falling-noughts m [] t)
+falling-noughts m (x ∷ l) t =
+    let tx = both (all (λ y. leb y x) l) (falling l) t in
+    rw (all-append (λ y. leb y x) l (replicate m 0), tx .0, all-replicate (λ y. leb y x) m 0 (le-leb 0 x (omega arith))) (falling-noughts m l (tx .1))
+
 -- The first `n` of a row are enough to know the first `n` of the row with one more
 
 pub keep-top : (n x : ℕ) (row : List ℕ) → take n (insertDown x (take n row)) ≡ take n (insertDown x row)
@@ -98,13 +143,10 @@ take-padded k n l h o = rw (take-take k n (l ++ replicate n 0) o, take-append-le
 pub insert-padded : (n x : ℕ) (l : List ℕ) → take n (insertDown x (padded n l)) ≡ padded n (insertDown x l)
 insert-padded n x l = keep-top n x (l ++ replicate n 0) ∙ ap (take n) (before-noughts n x l)
 
-pub insert-nought : (n : ℕ) (l : List ℕ) → take n (insertDown 0 (padded n l)) ≡ padded n l
-insert-nought n l =
-    let o : n ≤ length (padded n l) = omega (arith, length-padded n l) in
-    rw (behind-all (padded n l), take-append-le n (padded n l) (0 ∷ []) o) (take-take n n (l ++ replicate n 0) (omega arith))
-
-pub insert-sorts : (n x : ℕ) (l : List ℕ) → take n (insertDown x (padded n (sortDown l))) ≡ padded n (sortDown (l ++ (x ∷ [])))
-insert-sorts n x l = insert-padded n x (sortDown l) ∙ ap (padded n) (sym (sort-one-more l x))
+pub insert-sorts : (n x : ℕ) (l : List ℕ) → pushed x (padded n (sortDown l)) ≡ padded n (sortDown (l ++ (x ∷ [])))
+insert-sorts n x l =
+    falling-pushed x (padded n (sortDown l)) (falling-taken n (sortDown l ++ replicate n 0) (falling-noughts n (sortDown l) (sorted-falls l)))
+    ∙ rw (length-padded n (sortDown l)) (insert-padded n x (sortDown l)) ∙ ap (padded n) (sym (sort-one-more l x))
 
 pub insert-all-sorts : (xs l : List ℕ) → insertAll xs (padded 10 (sortDown l)) ≡ padded 10 (sortDown (l ++ xs))
 insert-all-sorts [] l = insert-none (padded 10 (sortDown l)) ∙ ap (λ (k : List ℕ). padded 10 (sortDown k)) (sym (append-nil l))
@@ -116,7 +158,7 @@ insert-noughts : (k m : ℕ) (l : List ℕ) → insertAll (take k (replicate m 0
 insert-noughts zero m l = insert-none (padded 10 l)
 insert-noughts (suc k) zero l = insert-none (padded 10 l)
 insert-noughts (suc k) (suc m) l =
-    insert-next 0 (take k (replicate m 0)) (padded 10 l) ∙ ap (insertAll (take k (replicate m 0))) (insert-nought 10 l) ∙ insert-noughts k m l
+    insert-next 0 (take k (replicate m 0)) (padded 10 l) ∙ ap (insertAll (take k (replicate m 0))) (nought-pushed (padded 10 l)) ∙ insert-noughts k m l
 
 insert-all-before-noughts : (k m : ℕ) (b l : List ℕ)
     → insertAll (take k (b ++ replicate m 0)) (padded 10 (sortDown l)) ≡ padded 10 (sortDown (l ++ take k b))

@@ -1,5 +1,5 @@
 -- Days by rank as falling words (01, "Choosing the days": "Highest").
-use Prim.Native.Nat.{ℕ, _+_, _-_, _*_}
+use Prim.Native.Nat.{ℕ, _+_, _-_, _*_, max, min}
 use mathlib.Core.Bool.{Bool}
 use mathlib.Core.List.{List, [], _∷_, _++_}
 use lib.ListN.{take, replicate}
@@ -28,7 +28,12 @@ sortDown = sortBy above
 abbrev pub padded : ℕ → List ℕ → List ℕ
 padded n l = take n (l ++ replicate n 0)
 
--- words put into a falling row of ten, one after the other
+-- a word put into a row, the least lost: each place keeps the greater of its own and the one in the hand, and hands on the other
+unfoldable pub pushed : ℕ → List ℕ → List ℕ
+pushed w [] = []
+pushed w (x ∷ row) = max w x ∷ pushed (min w x) row
+
+-- words put into a row, one after the other
 unfoldable pub insertAll : List ℕ → List ℕ → List ℕ
 insertAll [] row = row
-insertAll (x ∷ xs) row = insertAll xs (take 10 (insertDown x row))
+insertAll (x ∷ xs) row = insertAll xs (pushed x row)

@@ -3,7 +3,7 @@
 ghost use mathlib.Core.Path.{_≡_};
 ghost use Prim.Native.Nat.{_+_, _*_, _%_, _^_};
 ghost use lib.ListN.{take};
-ghost use Rattle.ranking.specs.Words.{insertDown, insertAll};
+ghost use Rattle.ranking.specs.Words.{pushed, insertAll};
 
 // 64 times the rest of a sum by this fits a word.
 const TWO_TO_58: u64 = 288230376151711744;
@@ -22,21 +22,18 @@ pub fn nearness_of(word: u64) -> u32
     (word % 64) as u32
 }
 
-// A word put before the first of the row that is smaller; the last of eleven is lost. One pass with no branch: from that place on each
-// word makes room for the one in the hand.
+// A word put into a row, the least lost. One pass with no branch: each place keeps the greater of its own and the one in the hand.
 pub fn insert(row: [u64; 10], word: u64) -> [u64; 10]
-    ensures { λ r. ⌜ r ≡ take 10 (insertDown word row) ⌝ }
+    ensures { λ r. ⌜ r ≡ pushed word row ⌝ }
 {
     let mut out = row;
     let mut carry = word;
-    let mut placed = false;
     let mut i = 0;
     while i < 10 {
         let here = out[i];
-        if placed | (here < word) {
+        if here < carry {
             out[i] = carry;
             carry = here;
-            placed = true;
         }
         i += 1;
     }

@@ -9,13 +9,13 @@ use Rattle.ranking.proofs.insert.Statement.{statement}
 use Rattle.ranking.proofs.insert.Tie as tie
 
 abbrev Inv-loop : tie.InvT-loop
-Inv-loop word out₀ carry₀ placed₀ i₀ out carry placed i = Carried word out₀ out carry placed i
+Inv-loop word out₀ carry₀ i₀ out carry i = Carried word out₀ out carry i
 
 abbrev μ-loop : tie.MeasureT-loop
-μ-loop word out₀ carry₀ placed₀ i₀ out carry placed i = 10 - i
+μ-loop word out₀ carry₀ i₀ out carry i = 10 - i
 
 loop-holds : tie.Need-loop-holds Inv-loop μ-loop
-loop-holds c = record { within = search needs; size = search needs; held = λ e. refl; will = refl }
+loop-holds c = record { within = search needs; size = search needs; will = refl }
 
 mul-here : tie.Need-mul-here Inv-loop μ-loop
 mul-here c = omega arith
@@ -38,8 +38,8 @@ loop-less c = omega arith
 loop-again : tie.Need-loop-again Inv-loop μ-loop
 loop-again c =
     ⊎-elim
-    (λ w. rw (w .1, w .2, w .3) (swapped (c .before .before .loop .inv) (c .before .loop-test .taken) (w .0 .taken)))
-    (λ w. rw (w .1, w .2, w .3) (passed (c .before .before .loop .inv) (c .before .loop-test .taken) (w .0 .left)))
+    (λ w. rw (w .1, w .2) (swapped (c .before .before .loop .inv) (c .before .loop-test .taken) (w .0 .taken)))
+    (λ w. rw (w .1, w .2) (passed (c .before .before .loop .inv) (c .before .loop-test .taken) (w .0 .left)))
     (c .if1 .came)
 
 returns : tie.Need-returns Inv-loop μ-loop
