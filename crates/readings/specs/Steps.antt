@@ -1,8 +1,8 @@
 -- What the private functions ensure of their results.
-use Prim.Native.Nat.{ℕ, _+_, _≤_}
+use Prim.Native.Nat.{ℕ, _+_, _%_, _^_, _≤_, _<_}
 use mathlib.Core.Path.{_≡_}
 use mathlib.Core.List.{List}
-use lib.ListN.{length, drop}
+use lib.ListN.{length, drop, getD}
 use Rattle.lists.specs.Lists.{leading}
 use Rattle.method.specs.Table.{goodReading}
 
@@ -10,3 +10,8 @@ use Rattle.method.specs.Table.{goodReading}
 pub record GoodBefore (readings : List ℕ) (at : ℕ) : Type 0 where
   pub within : at ≤ length readings
   pub passed : at + leading goodReading (drop at readings) ≡ leading goodReading readings
+
+-- no reading and one, as a number of 32 bits, is above `bits`
+pub record Joined (readings : List ℕ) (bits : ℕ) : Type 0 where
+  pub fits : bits < 2 ^ 32
+  pub above : (i : ℕ) → i < length readings → (getD readings i 0 + 1) % 2 ^ 32 ≤ bits

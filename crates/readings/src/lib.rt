@@ -2,7 +2,7 @@
 ghost use mathlib.Core.Path.{_≡_};
 ghost use Rattle.lists.specs.Lists.{all, leading};
 ghost use Rattle.method.specs.Table.{present, goodReading};
-ghost use Rattle.readings.specs.Steps.{GoodBefore};
+ghost use Rattle.readings.specs.Steps.{GoodBefore, Joined};
 
 // 01: "4,294,967,295 means missing"
 const MISSING: u32 = 4294967295;
@@ -25,8 +25,19 @@ fn is_good(reading: u32) -> bool
     (reading <= 10000000) | (reading == MISSING)
 }
 
-// Whether every reading of a block is good, without a branch in the loop.
-fn block_is_good(block: &[u32]) -> bool
+// Every reading and one, their bits put together: none of them is above it.
+fn joined(block: &[u32]) -> u32
+    ensures { λ r. ⌜ Joined (now (block .entry)) r ⌝ }
+{
+    let mut bits = 0;
+    for i in 0..block.len() {
+        bits = bits | std::num::wrapping_add_u32(block[i], 1);
+    }
+    bits
+}
+
+// Whether every reading is good, each tested, without a branch in the loop.
+fn each_is_good(block: &[u32]) -> bool
     ensures { λ r. ⌜ r ≡ all goodReading (now (block .entry)) ⌝ }
 {
     let mut all_good = true;
@@ -34,6 +45,17 @@ fn block_is_good(block: &[u32]) -> bool
         all_good = all_good & is_good(block[i]);
     }
     all_good
+}
+
+// Whether every reading of a block is good. Below some eight million all are known to be at one test, and missing ones do not matter.
+fn block_is_good(block: &[u32]) -> bool
+    ensures { λ r. ⌜ r ≡ all goodReading (now (block .entry)) ⌝ }
+{
+    if joined(block) <= 10000001 {
+        true
+    } else {
+        each_is_good(block)
+    }
 }
 
 // A place that only good readings stand before: it passes over blocks of 96 up to the first that has a bad one.

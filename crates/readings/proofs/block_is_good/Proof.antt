@@ -1,63 +1,24 @@
--- `readings::block_is_good` meets its contract. The invariant: what was found so far, and all from `i` on, is all.
-use Prim.Native.Nat.{_-_, _≤_}
-use mathlib.Core.Path.{_≡_, sym, _∙_}
-use mathlib.Core.Bool.{_&&_}
+-- `readings::block_is_good` meets its contract: by the bits put together, or by each reading.
+use mathlib.Core.Path.{sym}
+use native.Mathlib.Omega.{arith}
 use borrow.Author.Needs.{needs}
-use lib.ListN.{length, drop}
-use Rattle.lists.specs.Lists.{all}
-use Rattle.lists.proofs.All.{all-step, all-end}
-use Rattle.method.specs.Table.{goodReading}
+use Rattle.readings.proofs.Joining.{joined-good}
 use Rattle.readings.proofs.block_is_good.Statement.{statement}
 use Rattle.readings.proofs.block_is_good.Tie as tie
 
-abbrev Inv-loop : tie.InvT-loop
-Inv-loop block all-good₀ i₀ i-end all-good i = (i ≤ length block) × ((all-good && all goodReading (drop i block)) ≡ all goodReading block)
+joined-requires : tie.Need-joined-requires
+joined-requires c κs = search needs
 
-abbrev μ-loop : tie.MeasureT-loop
-μ-loop block all-good₀ i₀ i-end all-good i = length block - i
+each-is-good-requires : tie.Need-each-is-good-requires
+each-is-good-requires c κs = search needs
 
-loop-holds : tie.Need-loop-holds Inv-loop μ-loop
-loop-holds c = search needs
-
-mul-is-good : tie.Need-mul-is-good Inv-loop μ-loop
-mul-is-good c = search needs
-
-shared-slice-read-is-good : tie.Need-shared-slice-read-is-good Inv-loop μ-loop
-shared-slice-read-is-good c = search needs
-
-is-good-requires : tie.Need-is-good-requires Inv-loop μ-loop
-is-good-requires c κs = search needs
-
-add-i : tie.Need-add-i Inv-loop μ-loop
-add-i c = search needs
-
-loop-less : tie.Need-loop-less Inv-loop μ-loop
-loop-less c = search needs
-
-loop-again : tie.Need-loop-again Inv-loop μ-loop
-loop-again c =
-    let l = c .before .before .before .loop in
-    let xs = c .before .before .before .before .before .args .block .now in (
-      search needs,
-      rw (c .is-good .ensures) (all-step goodReading (l .all-good) xs (l .i) 0 (c .before .before .loop-test .taken) ∙ l .inv .1),
-    )
-
-returns : tie.Need-returns Inv-loop μ-loop
+returns : tie.Need-returns
 returns c =
-    let l = c .before .loop in
-    sym (all-end goodReading (l .all-good) (c .before .before .before .args .block .now) (l .i) (c .loop-test .left)) ∙ l .inv .1
+    let xs = c .before .before .before .args .block .now in
+    sym (joined-good xs (c .before .joined .result) (λ i. omega (arith, c .before .before .shared-slice-known .given i)) (c .before .joined .ensures) (c .if1 .taken))
+
+returns-2 : tie.Need-returns-2
+returns-2 c = search needs
 
 pub block-is-good-spec : {M : Type 1} → statement M
-block-is-good-spec =
-    tie.close
-    (tie.spec
-    Inv-loop
-    μ-loop
-    loop-holds
-    mul-is-good
-    shared-slice-read-is-good
-    is-good-requires
-    add-i
-    loop-less
-    loop-again
-    returns)
+block-is-good-spec = tie.close (tie.spec joined-requires each-is-good-requires returns returns-2)
