@@ -1,11 +1,9 @@
 /* event_kw FILE PLACE: the baseline of one event of a record file, in kW, a line a quarter.
  * cc event_kw.c $(pkg-config --cflags --libs honeyplank) -o event_kw */
-#include <errno.h>
 #include <fcntl.h>
 #include <inttypes.h>
 #include <stdio.h>
 #include <stdlib.h>
-#include <string.h>
 #include <sys/mman.h>
 #include <sys/stat.h>
 #include <unistd.h>
@@ -23,7 +21,7 @@ static const uint8_t *map(const char *path, size_t *length)
     else if ((*length = (size_t)about.st_size) > 0)
         bytes = mmap(NULL, *length, PROT_READ, MAP_PRIVATE, file, 0);
     if (bytes == MAP_FAILED) {
-        fprintf(stderr, "event_kw: %s: %s\n", path, strerror(errno));
+        perror(path);
         exit(1);
     }
     close(file);
