@@ -230,6 +230,31 @@ static void refused_files(void)
     }
 }
 
+/* One byte that is laid down, altered: the file is refused at that record. */
+static void expect_altered(size_t offset, uint8_t byte, int64_t record)
+{
+    uint8_t was = file.bytes[offset];
+    file.bytes[offset] = byte;
+    REFUSED(0, 16, HP_BAD_FILE, record, 0);
+    file.bytes[offset] = was;
+}
+
+static void altered_files(void)
+{
+    put_worked(&file);
+    expect_altered(0, 'p', 0);
+    expect_altered(1, 'f', 0);
+    expect_altered(8 + DAY_BYTES, 'E', 8 + DAY_BYTES);
+    expect_altered(8 + DAY_BYTES + 1, 'V', 8 + DAY_BYTES);
+    expect_altered(8 + DAY_BYTES + 2, 1, 8 + DAY_BYTES); /* not the next day */
+    expect_altered(8 + 5, 1, 8);
+    expect_altered(8 + 21 * DAY_BYTES + 5, 255, 8 + 21 * DAY_BYTES);
+    expect_altered(8 + 22 * DAY_BYTES, 'D', 8 + 22 * DAY_BYTES);
+    expect_altered(8 + 22 * DAY_BYTES + 7, 1, 8 + 22 * DAY_BYTES);
+    expect_altered(file.length - 1, 1, 8 + 22 * DAY_BYTES + EVENT_BYTES);
+    ANSWERED(0, 16, 16);
+}
+
 /* The most days: 128 are taken, 129 are not. */
 static void most_days(void)
 {
@@ -275,6 +300,7 @@ int main(void)
         refused_requests();
         refused_choices();
         refused_files();
+        altered_files();
         most_days();
         nothing_lent();
     }
