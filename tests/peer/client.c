@@ -1,6 +1,7 @@
 /* The entries of honeyplank.h on a processor that the archive is not for: each call is handed to a peer (peer.c), one for each thread, that
  * runs under an emulator. PEER_RUNNER and PEER_PROGRAM name the two. */
 #define _GNU_SOURCE
+#include <errno.h>
 #include <fcntl.h>
 #include <spawn.h>
 #include <stdio.h>
@@ -76,10 +77,25 @@ static int untouched(const uint8_t *from, const uint8_t *to)
     return 1;
 }
 
+/* A byte there and a byte back, through interruptions (a fuzzer's clock). */
+static int hand_over(void)
+{
+    char byte = 0;
+    ssize_t moved;
+    do
+        moved = write(peer.to, &byte, 1);
+    while (moved < 0 && errno == EINTR);
+    if (moved != 1)
+        return 0;
+    do
+        moved = read(peer.from, &byte, 1);
+    while (moved < 0 && errno == EINTR);
+    return moved == 1;
+}
+
 /* Hands the call over with these buffers, and gives their content back; what stands around them is filled before and looked at after. */
 static uint32_t carry(struct peer_call *c, void *out, size_t out_size, int64_t *told, size_t told_len)
 {
-    char byte = 0;
     memset(c->before_out, UNTOUCHED, PEER_GUARD);
     memset(c->out, UNTOUCHED, PEER_OUT);
     memset(c->before_told, UNTOUCHED, PEER_GUARD);
@@ -88,7 +104,7 @@ static uint32_t carry(struct peer_call *c, void *out, size_t out_size, int64_t *
     copy(c->out, out, out_size, PEER_OUT);
     copy(c->told, told, 8 * told_len, sizeof c->told);
     c->told_len = told_len;
-    if (write(peer.to, &byte, 1) != 1 || read(peer.from, &byte, 1) != 1)
+    if (!hand_over())
         fail("it ended");
     if (!untouched(c->before_out, c->out) || !untouched(c->out + out_size, (uint8_t *)c->told) ||
         !untouched((uint8_t *)c->told + 8 * told_len, c->after_told + PEER_GUARD))
