@@ -8,6 +8,20 @@
 #include "honeyplank.h"
 
 int LLVMFuzzerTestOneInput(const uint8_t *data, size_t size);
+size_t LLVMFuzzerMutate(uint8_t *data, size_t size, size_t most);
+size_t LLVMFuzzerCustomMutator(uint8_t *data, size_t size, size_t most, unsigned seed);
+
+/* Three times in four a few bytes are changed where they stand, so that the file stays as laid down; half of these among the first records' heads or
+ * the last events. */
+size_t LLVMFuzzerCustomMutator(uint8_t *data, size_t size, size_t most, unsigned seed)
+{
+    size_t at, length = 1 + seed / 8 % 4, turn = seed / 64;
+    if (seed % 4 == 0 || size < 16)
+        return LLVMFuzzerMutate(data, size, most);
+    at = seed % 4 == 1 ? turn % 16 : seed % 4 == 2 ? size - 1 - turn % 16 : turn % size;
+    LLVMFuzzerMutate(data + at, length < size - at ? length : size - at, length < size - at ? length : size - at);
+    return size;
+}
 
 enum { UNTOUCHED = 0xA5, MOST_ROOM = 1024 };
 

@@ -1,17 +1,17 @@
 //! A smaller file that still fails, kept under build/failures/.
 
 use std::path::PathBuf;
+use std::time::{Duration, Instant};
 
-/// How many smaller files are tried at most.
-const TRIES: usize = 20_000;
+/// How long smaller files are tried.
+const LONGEST: Duration = Duration::from_secs(20);
 
 /// Takes out ever smaller stretches, then sets bytes to zero, as long as the file still fails.
 pub fn shrink(file: &[u8], fails: impl Fn(&[u8]) -> bool) -> Vec<u8> {
     let mut best = file.to_vec();
-    let mut tries = 0;
-    let mut attempt = |best: &mut Vec<u8>, smaller: Vec<u8>| {
-        tries += 1;
-        if tries <= TRIES && fails(&smaller) {
+    let began = Instant::now();
+    let attempt = |best: &mut Vec<u8>, smaller: Vec<u8>| {
+        if began.elapsed() < LONGEST && fails(&smaller) {
             *best = smaller;
         }
     };
