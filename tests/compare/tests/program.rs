@@ -67,10 +67,14 @@ fn generated_files_are_listed() {
     assert!(lines > 10_000);
 }
 
+/// A file of 128 days and 64 events: 50,440 bytes.
 fn largest() -> Vec<u8> {
-    let file = (0..).map(gen_file).find(|file| file.len() > 8 + 128 * 390 && !listing(file).starts_with(b"file")).unwrap();
-    assert_eq!((file.len() - 8 - 128 * 390) % 8, 0);
-    file
+    const DAYS: usize = 8 + 128 * 390;
+    let held = |file: &Vec<u8>| file.len() > DAYS && !listing(file).starts_with(b"file");
+    let file = (0..).map(gen_file).find(held).unwrap();
+    let largest = [&file[..DAYS], &file[DAYS..DAYS + 8].repeat(64)].concat();
+    assert!(held(&largest) && largest.len() == 50_440);
+    largest
 }
 
 #[test]
