@@ -1,8 +1,31 @@
 # The project's commands. `make help` lists them.
-.PHONY: help check test bench search fmt changed clean
+SHELL := bash
+.SHELLFLAGS := -o pipefail -c
+.DEFAULT_GOAL := all
+.DELETE_ON_ERROR:
+.NOTPARALLEL:
+.PHONY: all help demo check test examples samples install bench fuzz search fmt changed clean
+
+PREFIX ?= /usr/local
+FUZZ_SECONDS ?= 600
+FIRST ?= 5000000
+proved_from := crates.txt $(shell find crates -name '*.rt' -o -name '*.antt' -o -path '*/list/std*')
+version := $(shell sed -n 's/^\#define HP_VERSION "\(.*\)"/\1/p' include/honeyplank.h)
+library := build/lib/libhoneyplank.a build/include/honeyplank.h build/lib/pkgconfig/honeyplank.pc
+program := build/bin/honeyplank-list
+
+# $(call prove,RT'S WORDS): runs rt, with a line for each crate; where it fails, its last lines
+prove = @mkdir -p build && rt $(1) 2>&1 | tee build/rt.log | \
+	sed -u -n -e '/unchanged/d' -e 's/^rt: \([a-z]* proved.*\)/\1/p' -e 's/^rt: .*lib\([a-z]*\)\.a has .*/\1 proved/p' || { tail -n 40 build/rt.log; exit 1; }
+
+all: $(library) $(program) ## prove and build the archive, its header, a pkg-config file and the program, under build/
 
 help: ## list the targets
 	@sed -n 's/^\([a-z]*\):.*## /\1\t/p' $(MAKEFILE_LIST) | expand -t 10
+
+demo: $(program) ## build what is needed and list samples/worked.rec
+	@echo 'honeyplank-list < samples/worked.rec'
+	@tests/x86 run $(program) < samples/worked.rec
 
 check: ## prove every crate that changed, and run the programs
 	rt check
@@ -10,13 +33,28 @@ check: ## prove every crate that changed, and run the programs
 test: ## the gate: everything from nothing; the last line is 'N passed, 0 failed'
 	@tests/gate
 
-bench: ## the call's speed against plain C, in one run
-	rt staticlib host
-	cd tests/compare && cargo run --release --offline --quiet --bin bench
+examples: $(library) ## build the example programs, under build/examples/
+	@mkdir -p build/examples
+	tests/x86 cc -std=c99 -O2 -Wall -Wextra -Wpedantic -Ibuild/include examples/event_kw.c -Lbuild/lib -lhoneyplank -o build/examples/event_kw
 
-search: ## compare a million more generated calls with the reference (FIRST=seed to start elsewhere)
-	rt staticlib host
-	cd tests/compare && cargo run --release --offline --quiet --bin search -- $(or $(FIRST),5000000)
+samples: ## make the sample files again from their texts
+	samples/make
+
+install: all ## install under PREFIX (/usr/local), below DESTDIR if given
+	install -d $(DESTDIR)$(PREFIX)/lib/pkgconfig $(DESTDIR)$(PREFIX)/include $(DESTDIR)$(PREFIX)/bin
+	install -m 644 build/lib/libhoneyplank.a $(DESTDIR)$(PREFIX)/lib/
+	install -m 644 build/lib/pkgconfig/honeyplank.pc $(DESTDIR)$(PREFIX)/lib/pkgconfig/
+	install -m 644 build/include/honeyplank.h $(DESTDIR)$(PREFIX)/include/
+	install -m 755 $(program) $(DESTDIR)$(PREFIX)/bin/
+
+bench: all ## the entries' and the program's speed against plain C, in one run
+	tests/bench/run
+
+fuzz: all ## fuzz the file entries against plain C for FUZZ_SECONDS (600)
+	tests/fuzz/run $(FUZZ_SECONDS)
+
+search: $(library) ## compare a million more generated calls with the reference (FIRST=seed to start elsewhere)
+	cd tests/compare && cargo run --release --offline --quiet --bin search -- $(FIRST)
 
 fmt: ## lay out every source and proof file
 	rt fmt
@@ -26,3 +64,22 @@ changed: ## change each answer in the table of checks by one, and see that each 
 
 clean: ## remove what was built
 	rm -rf target build
+
+target/staticlib/libhost.a: $(proved_from)
+	$(call prove,staticlib host)
+
+target/bin/list: $(proved_from)
+	$(call prove,check list)
+	@touch $@
+
+build/lib/libhoneyplank.a: target/staticlib/libhost.a
+build/bin/honeyplank-list: target/bin/list
+build/include/honeyplank.h: include/honeyplank.h
+build/lib/libhoneyplank.a build/bin/honeyplank-list build/include/honeyplank.h:
+	@mkdir -p $(@D) && cp $< $@
+
+build/lib/pkgconfig/honeyplank.pc: include/honeyplank.h Makefile
+	@mkdir -p $(@D)
+	@printf '%s\n' 'prefix=$${pcfiledir}/../..' 'Name: Honeyplank' \
+	  'Description: The demand response baseline of the Greek transmission operator' 'Version: $(version)' \
+	  'Cflags: -I$${prefix}/include' 'Libs: -L$${prefix}/lib -lhoneyplank' >$@

@@ -1,4 +1,4 @@
-//! Links the proved archive and, for the benchmark, the plain C version built by gcc and by clang (where there is one) at -O3.
+//! Links the proved archive (or, on a processor that it is not for, the client of it) and the plain C version.
 
 use std::path::{Path, PathBuf};
 use std::process::Command;
@@ -6,30 +6,26 @@ use std::process::Command;
 fn main() {
     let here = PathBuf::from(std::env::var("CARGO_MANIFEST_DIR").unwrap());
     let out = PathBuf::from(std::env::var("OUT_DIR").unwrap());
-    let archive = here.join("../../target/staticlib");
-    let source = here.join("../reference/c/baseline.c");
-    println!("cargo:rerun-if-changed={}", archive.join("libhost.a").display());
-    println!("cargo:rerun-if-changed={}", source.display());
-    println!("cargo:rustc-link-search=native={}", archive.display());
-    println!("cargo:rustc-link-lib=static=host");
-    println!("cargo:rustc-link-search=native={}", out.display());
-    println!("cargo:rustc-check-cfg=cfg(clang)");
-    plain("gcc", &source, &out);
-    if Command::new("clang").arg("--version").output().is_ok() {
-        plain("clang", &source, &out);
-        println!("cargo:rustc-cfg=clang");
+    let tests = here.join("..");
+    for used in ["../build/lib/libhoneyplank.a", "peer", "x86", "reference/c"] {
+        println!("cargo:rerun-if-changed={}", tests.join(used).display());
     }
+    println!("cargo:rustc-link-search=native={}", out.display());
+    println!("cargo:rustc-link-lib=static=honeyplank");
+    run(Command::new(tests.join("peer/make")).arg(&out));
+    plain(&tests.join("reference/c"), &out);
 }
 
-/// The C version under this compiler's name: plain_baseline_gcc, plain_baseline_clang.
-fn plain(compiler: &str, source: &Path, out: &Path) {
-    let object = out.join(format!("plain_{compiler}.o"));
-    let archive = out.join(format!("libplain_{compiler}.a"));
-    let name = format!("-Dplain_baseline=plain_baseline_{compiler}");
-    run(Command::new(compiler).args(["-std=c99", "-O3", &name, "-c"]).arg(source).arg("-o").arg(&object));
+/// The plain C versions, as a library.
+fn plain(sources: &Path, out: &Path) {
+    let archive = out.join("libplain.a");
     let _ = std::fs::remove_file(&archive);
-    run(Command::new("ar").arg("rcs").arg(&archive).arg(&object));
-    println!("cargo:rustc-link-lib=static=plain_{compiler}");
+    for name in ["baseline", "file"] {
+        let (source, object) = (sources.join(format!("{name}.c")), out.join(format!("plain_{name}.o")));
+        run(Command::new("gcc").args(["-std=c99", "-O3", "-c"]).arg(source).arg("-o").arg(&object));
+        run(Command::new("ar").arg("rcs").arg(&archive).arg(&object));
+    }
+    println!("cargo:rustc-link-lib=static=plain");
 }
 
 fn run(command: &mut Command) {

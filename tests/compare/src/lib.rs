@@ -1,4 +1,7 @@
-//! The proved call, through the archive's C entry, and the plain C version, beside the reference.
+//! The proved call, through the archive's C entries, and the plain C version, beside the reference.
+
+pub mod files;
+pub mod shrink;
 
 use reference::{Answer, Request, Table};
 
@@ -46,11 +49,7 @@ macro_rules! over_a_table {
 
 over_a_table! {
     hp_baseline_table(told: *mut i64, told_room: usize);
-    plain_baseline_gcc(answer: *mut PlainAnswer);
-}
-#[cfg(clang)]
-over_a_table! {
-    plain_baseline_clang(answer: *mut PlainAnswer);
+    plain_baseline(answer: *mut PlainAnswer);
 }
 
 /// Calls such a function with a table, a request and an output, each pointer with its own length.
@@ -83,15 +82,9 @@ pub fn proved(table: &Table, request: &Request, out: &mut [u32], told: &mut [i64
     call!(hp_baseline_table, table, request, out, told.as_mut_ptr(), told.len())
 }
 
-/// The plain C version as gcc builds it.
-pub fn plain_gcc(table: &Table, request: &Request, out: &mut [u32], answer: &mut PlainAnswer) -> u32 {
-    call!(plain_baseline_gcc, table, request, out, answer)
-}
-
-/// The plain C version as clang builds it.
-#[cfg(clang)]
-pub fn plain_clang(table: &Table, request: &Request, out: &mut [u32], answer: &mut PlainAnswer) -> u32 {
-    call!(plain_baseline_clang, table, request, out, answer)
+/// The plain C version.
+pub fn plain(table: &Table, request: &Request, out: &mut [u32], answer: &mut PlainAnswer) -> u32 {
+    call!(plain_baseline, table, request, out, answer)
 }
 
 /// An answer, or a refusal's number and what it carries.

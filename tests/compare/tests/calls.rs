@@ -1,6 +1,6 @@
 //! The proved call and the reference agree: every number, and every word of the output.
 
-use compare::{compare, expected, plain_gcc, proved, PlainAnswer, TOLD, UNTOUCHED};
+use compare::{compare, expected, plain, proved, PlainAnswer, TOLD, UNTOUCHED};
 use reference::{gen_call, Answer, Request, Table};
 
 /// As many calls as are compared at each run; `cargo run --release --bin search` goes on.
@@ -36,7 +36,7 @@ fn plain_c_agrees() {
         let expected = expected(&table, &request, room);
         let mut out = vec![UNTOUCHED; room];
         let mut answer = PlainAnswer::default();
-        let number = plain_gcc(&table, &request, &mut out, &mut answer);
+        let number = plain(&table, &request, &mut out, &mut answer);
         let found = if number == 0 {
             Ok(Answer {
                 days: answer.days[..answer.count as usize].to_vec(),

@@ -6,4 +6,4 @@ mod files;
 mod source;
 
 pub use calls::gen_call;
-pub use files::{gen_cuts, gen_file};
+pub use files::{gen_cuts, gen_file, gen_small_file};

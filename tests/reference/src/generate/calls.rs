@@ -43,6 +43,36 @@ pub fn well_shaped(source: &mut Source) -> Draft {
     }
 }
 
+/// A draft of at most three weeks; participation mostly starts within it.
+pub fn small(source: &mut Source) -> Draft {
+    let before = source.pick(&[0, 1, 2, 7, 8, 9, 10, 14, 15, 16, 20, 21, 21, 21]);
+    let after = source.pick(&[0, 0, 0, 1]);
+    let holiday = source.pick(holidays());
+    let d = match source.below(3) {
+        0 => source.between(before, LAST_DAY - after),
+        1 => some_resting_day(source),
+        _ => (holiday + source.below(16)).saturating_sub(source.below(3)),
+    };
+    let d = d.min(LAST_DAY - after);
+    let mut draft = around(source, d, before, after);
+    draft.request.p = match source.below(12) {
+        0 => 0,
+        1 => (d + 1).min(LAST_DAY),
+        2 | 3 => d.saturating_sub(source.below(before + 2)),
+        _ => d.saturating_sub(before),
+    };
+    if source.once_in(2) {
+        calm_days(source, &mut draft, 0, 0);
+    }
+    match source.below(10) {
+        0 | 1 => blank_all_but_runs(source, &mut draft),
+        2 => blank_some(source, &mut draft),
+        3 => extreme_readings(source, &mut draft),
+        _ => {}
+    }
+    draft
+}
+
 // Whole drafts.
 
 /// Months of data around an event, as they come.

@@ -1,6 +1,6 @@
 //! Generated record files, valid, at their edges, cut and damaged.
 
-use super::calls::{well_shaped, Draft};
+use super::calls::{small, well_shaped, Draft};
 use super::source::Source;
 use crate::calendar::LAST_DAY;
 use crate::table::{Request, HIGHEST, MISSING, QUARTERS};
@@ -12,12 +12,28 @@ type Record = Vec<u8>;
 pub fn gen_file(seed: u64) -> Vec<u8> {
     let mut source = Source::new(!seed);
     let source = &mut source;
-    let mut file = draft_file(source);
+    let draft = well_shaped(source);
+    let file = draft_file(source, draft);
+    edited(source, file)
+}
+
+/// The small file of a seed: at most a few weeks, so that many can be tried, and
+/// participation that mostly starts within it, so that many are answered.
+pub fn gen_small_file(seed: u64) -> Vec<u8> {
+    let mut source = Source::new(seed ^ 0x5EED_0000_0000_0000);
+    let source = &mut source;
+    let draft = small(source);
+    let file = draft_file(source, draft);
+    edited(source, file)
+}
+
+/// The bytes of a file, most often after one kind of edit.
+fn edited(source: &mut Source, mut file: Draw) -> Vec<u8> {
     match source.below(18) {
         0..=3 => {}
         4 => head_edges(source, &mut file),
         5 => drop_kind(source, &mut file),
-        6 => day_count_edges(source, &mut file),
+        6 if file.days.len() > 24 => day_count_edges(source, &mut file),
         7 => event_count_edges(source, &mut file),
         8 => misplace(source, &mut file),
         9 => alter_fixed_byte(source, &mut file),
@@ -25,6 +41,7 @@ pub fn gen_file(seed: u64) -> Vec<u8> {
         11 => gap(source, &mut file),
         12 => value_edges(source, &mut file),
         13 => event_edges(source, &mut file),
+        6 => {}
         14 => return cut(source, file.bytes()),
         15 => return scatter(source, file.bytes()),
         16 => return extend(source, file.bytes()),
@@ -35,7 +52,9 @@ pub fn gen_file(seed: u64) -> Vec<u8> {
 
 /// A small file cut at every length, from nothing to the whole of it.
 pub fn gen_cuts() -> Vec<Vec<u8>> {
-    let mut file = draft_file(&mut Source::new(1));
+    let source = &mut Source::new(1);
+    let draft = well_shaped(source);
+    let mut file = draft_file(source, draft);
     file.days = (0..2)
         .map(|day| day_record(6951 + day, 0, &[7; 96]))
         .collect();
@@ -92,8 +111,7 @@ fn set_day(record: &mut Record, day: u16) {
 }
 
 /// A well-shaped table and a few events on it, the likely one first.
-fn draft_file(source: &mut Source) -> Draw {
-    let draft = well_shaped(source);
+fn draft_file(source: &mut Source, draft: Draft) -> Draw {
     let portfolio = source.word();
     let portfolio = source.pick(&[0, 77, u32::MAX, portfolio]);
     Draw {

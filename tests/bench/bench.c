@@ -1,0 +1,178 @@
+/* bench FILE: the proved entries against the same rules in plain C at -O3, built by gcc and by clang, on the same input in one run. Prints
+ * nanoseconds a call, the best of the rounds, which take turns, and the ratio to each plain build. Every buffer is touched before the clock
+ * starts. The largest file is also written to FILE, for the listing programs. */
+#define _POSIX_C_SOURCE 200809L
+#include <stdio.h>
+#include <stdlib.h>
+#include <time.h>
+
+#include "honeyplank.h"
+#include "../c/record.h"
+#include "../reference/c/file.h"
+
+enum { ROUNDS = 41, CALLS = 500, EVENT_DAY = 9006, WAYS = 3 };
+
+typedef uint32_t plain_table(uint32_t first, const uint8_t *marks, size_t days, const uint32_t *readings, size_t count, uint32_t p, uint32_t d,
+                             uint32_t s, uint32_t e, uint32_t n, uint32_t *out, size_t room, struct plain_answer *answer);
+typedef uint32_t plain_entry(const uint8_t *file, size_t length, size_t place, uint8_t *out, size_t room, struct plain_answer *answer);
+
+plain_table plain_baseline_gcc, plain_baseline_clang;
+plain_entry plain_host_gcc, plain_host_clang;
+
+static const char *const names[WAYS] = {"proved", "gcc -O3", "clang -O3"};
+static struct record_file file;
+static size_t place;
+static uint8_t marks[128];
+static uint32_t readings[128 * QUARTERS], days, s, e;
+
+static uint32_t call_file(int way)
+{
+    static uint8_t out[WAYS][HP_MOST_BYTES];
+    static int64_t told[HP_TOLD_LENGTH];
+    static struct plain_answer answer;
+    if (way == 0)
+        return hp_baseline_told(file.bytes, file.length, place, out[0], HP_MOST_BYTES, told, HP_TOLD_LENGTH);
+    return (way == 1 ? plain_host_gcc : plain_host_clang)(file.bytes, file.length, place, out[way], HP_MOST_BYTES, &answer);
+}
+
+static uint32_t call_table(int way)
+{
+    static uint32_t out[WAYS][QUARTERS], first;
+    static int64_t told[HP_TOLD_LENGTH];
+    static struct plain_answer answer;
+    first = EVENT_DAY + 1 - days;
+    if (way == 0)
+        return hp_baseline_table(first, marks, days, readings, days * QUARTERS, 8000, EVENT_DAY, s, e, s - 4, out[0], QUARTERS, told,
+                                 HP_TOLD_LENGTH);
+    return (way == 1 ? plain_baseline_gcc : plain_baseline_clang)(first, marks, days, readings, days * QUARTERS, 8000, EVENT_DAY, s, e, s - 4,
+                                                                  out[way], QUARTERS, &answer);
+}
+
+static double now(void)
+{
+    struct timespec time;
+    clock_gettime(CLOCK_MONOTONIC, &time);
+    return 1e9 * (double)time.tv_sec + (double)time.tv_nsec;
+}
+
+static void report(const char *name, uint32_t (*call)(int way))
+{
+    double best[WAYS] = {1e18, 1e18, 1e18};
+    uint32_t number = call(0);
+    int round, way, i;
+    for (way = 1; way < WAYS; way++)
+        if (call(way) != number) {
+            printf("%s: %s gives another number\n", name, names[way]);
+            exit(1);
+        }
+    for (round = 0; round < ROUNDS; round++)
+        for (way = 0; way < WAYS; way++) {
+            double began = now(), took;
+            for (i = 0; i < CALLS; i++)
+                if (call(way) != number)
+                    abort();
+            took = (now() - began) / CALLS;
+            best[way] = took < best[way] ? took : best[way];
+        }
+    printf("%s: result %u, %s %.0f ns", name, number, names[0], best[0]);
+    for (way = 1; way < WAYS; way++)
+        printf(", %s %.0f ns (ratio %.2f)", names[way], best[way], best[0] / best[way]);
+    printf("\n");
+    fflush(stdout);
+}
+
+/* A load that varies by day and quarter, and an event day now and then, up to Wednesday 28 August 2024. */
+static uint32_t load(uint32_t i)
+{
+    return 900000 + (i * 2654435761u >> 12) % 100000;
+}
+
+static uint8_t mark(uint32_t day)
+{
+    return day % 9 == 4;
+}
+
+static void put_days(uint32_t h)
+{
+    uint32_t day, i;
+    put_head(&file, 8000, 77);
+    for (day = 0; day < h; day++) {
+        put_day(&file, EVENT_DAY + 1 - h + day, mark(day), 0);
+        for (i = 0; i < QUARTERS; i++)
+            set_reading(&file, QUARTERS * day + i, load(QUARTERS * day + i));
+    }
+}
+
+static void put_largest(void)
+{
+    uint32_t i;
+    put_days(128);
+    for (i = 0; i < 64; i++)
+        put_event(&file, EVENT_DAY - i, 152, 160, 148);
+    place = 0;
+}
+
+static void fill_table(uint32_t h)
+{
+    uint32_t i;
+    days = h;
+    s = 152;
+    e = 156;
+    for (i = 0; i < h; i++)
+        marks[i] = mark(i);
+    for (i = 0; i < h * QUARTERS; i++)
+        readings[i] = load(i);
+}
+
+static void files(void)
+{
+    put_largest();
+    report("file a. 128 days, 64 events, the first", call_file);
+    place = 63;
+    report("file b. 128 days, 64 events, the last", call_file);
+    put_days(46);
+    put_event(&file, EVENT_DAY, 152, 156, 148);
+    place = 0;
+    report("file c. 46 days, one event", call_file);
+    put_days(31);
+    put_event(&file, EVENT_DAY, 152, 156, 148);
+    put_event(&file, EVENT_DAY - 23, 152, 156, 148);
+    report("file d. 31 days", call_file);
+    place = 1;
+    report("file e. 31 days, refused 8", call_file);
+    put_largest();
+    set_reading(&file, 128 * QUARTERS - 1, HP_HIGHEST + 1);
+    report("file f. 128 days, refused 3 at the last reading", call_file);
+    put_largest();
+    file.bytes[file.length - 1] = 1;
+    report("file g. 128 days, refused 11 at the last record", call_file);
+}
+
+static void tables(void)
+{
+    fill_table(128);
+    report("table a. 128 days, event of 4 quarters", call_table);
+    s = 96;
+    e = 192;
+    report("table b. 128 days, event of 96 quarters", call_table);
+    fill_table(128);
+    readings[128 * QUARTERS - 1] = HP_HIGHEST + 1;
+    report("table c. 128 days, refused 3 at the last reading", call_table);
+    fill_table(46);
+    report("table d. 46 days, event of 4 quarters", call_table);
+}
+
+int main(int argc, char **argv)
+{
+    FILE *largest;
+    if (argc != 2 || (largest = fopen(argv[1], "wb")) == NULL) {
+        fprintf(stderr, "usage: bench FILE\n");
+        return 2;
+    }
+    put_largest();
+    if (fwrite(file.bytes, 1, file.length, largest) != file.length || fclose(largest) != 0)
+        return 1;
+    files();
+    tables();
+    return 0;
+}

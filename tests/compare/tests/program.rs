@@ -1,0 +1,131 @@
+//! The listing program prints what the reference lists: generated files, a small stack, slow pipes, and more input than any file has.
+
+use compare::shrink::keep;
+use reference::{gen_file, gen_small_file, listing};
+use std::fs::File;
+use std::io::{Read, Write};
+use std::path::PathBuf;
+use std::process::{Command, Output, Stdio};
+use std::thread::{scope, sleep};
+use std::time::Duration;
+
+const FILES: u64 = 1_200;
+const LARGE: u64 = 4;
+/// How many run at a time.
+const LANES: u64 = 2;
+
+fn root(path: &str) -> PathBuf {
+    PathBuf::from(concat!(env!("CARGO_MANIFEST_DIR"), "/../..")).join(path)
+}
+
+fn program() -> Command {
+    let mut command = Command::new(root("tests/x86"));
+    command.arg("run").arg(root("build/bin/honeyplank-list"));
+    command
+}
+
+/// What the program says of a file on its standard input.
+fn run(command: &mut Command, file: &[u8]) -> Output {
+    let path = std::env::temp_dir().join(format!("listing-{}-{:?}", std::process::id(), std::thread::current().id()));
+    std::fs::write(&path, file).unwrap();
+    let output = command.stdin(File::open(&path).unwrap()).output().unwrap();
+    std::fs::remove_file(&path).unwrap();
+    output
+}
+
+/// It prints the listing and says nothing else.
+fn agrees(output: &Output, file: &[u8]) -> bool {
+    output.status.success() && output.stderr.is_empty() && output.stdout == listing(file)
+}
+
+fn check(name: &str, file: &[u8]) {
+    let output = run(&mut program(), file);
+    if !agrees(&output, file) {
+        let kept = keep(name, file, |smaller| !agrees(&run(&mut program(), smaller), smaller));
+        let (expected, found) = (listing(file), output.stdout);
+        let (expected, found) = (String::from_utf8_lossy(&expected), String::from_utf8_lossy(&found));
+        panic!("{name}: {kept}\nexpected:\n{expected}\nfound ({}):\n{found}", output.status);
+    }
+}
+
+#[test]
+fn generated_files_are_listed() {
+    let lane = |lane: u64| {
+        let mut lines = 0;
+        for seed in (lane..FILES).step_by(LANES as usize) {
+            let file = if seed % LARGE == 0 { gen_file(seed) } else { gen_small_file(seed) };
+            check(&format!("listing-{seed}"), &file);
+            lines += listing(&file).iter().filter(|&&byte| byte == b'\n').count();
+        }
+        lines
+    };
+    let lines: usize = scope(|all| {
+        let lanes: Vec<_> = (0..LANES).map(|number| all.spawn(move || lane(number))).collect();
+        lanes.into_iter().map(|lane| lane.join().unwrap()).sum()
+    });
+    println!("{FILES} files listed, seeds 0 to {}, {lines} lines", FILES - 1);
+    assert!(lines > 10_000);
+}
+
+/// A file of 128 days and 64 events: 50,440 bytes.
+fn largest() -> Vec<u8> {
+    const DAYS: usize = 8 + 128 * 390;
+    let held = |file: &Vec<u8>| file.len() > DAYS && !listing(file).starts_with(b"file");
+    let file = (0..).map(gen_file).find(held).unwrap();
+    let largest = [&file[..DAYS], &file[DAYS..DAYS + 8].repeat(64)].concat();
+    assert!(held(&largest) && largest.len() == 50_440);
+    largest
+}
+
+#[test]
+fn a_small_stack_is_enough() {
+    let file = largest();
+    let mut command = Command::new("bash");
+    let (runner, list) = (root("tests/x86"), root("build/bin/honeyplank-list"));
+    command.args(["-c", "ulimit -s 256 && exec \"$0\" run \"$1\""]).arg(runner).arg(list);
+    command.env("QEMU_STACK_SIZE", "262144");
+    let output = run(&mut command, &file);
+    assert!(agrees(&output, &file), "{output:?}");
+}
+
+/// The bytes come in small pieces, with pauses between them.
+#[test]
+fn slow_pipes_are_read() {
+    let file = largest();
+    let mut child = program().stdin(Stdio::piped()).stdout(Stdio::piped()).stderr(Stdio::piped()).spawn().unwrap();
+    let mut pipe = child.stdin.take().unwrap();
+    for (turn, piece) in file.chunks(97).enumerate() {
+        pipe.write_all(piece).unwrap();
+        if turn % 16 == 0 {
+            sleep(Duration::from_millis(5));
+        }
+    }
+    drop(pipe);
+    let output = child.wait_with_output().unwrap();
+    assert!(agrees(&output, &file), "{output:?}");
+}
+
+/// What comes after 50,441 bytes changes nothing.
+#[test]
+fn longer_input_is_listed_alike() {
+    let mut file = largest();
+    file.resize(1 << 20, b'E');
+    let output = run(&mut program(), &file);
+    assert!(agrees(&output, &file), "{output:?}");
+}
+
+/// A reader that goes away early: the program ends all the same.
+#[test]
+fn a_closed_output_ends_it() {
+    let file = largest();
+    let path = std::env::temp_dir().join(format!("closed-{}", std::process::id()));
+    std::fs::write(&path, &file).unwrap();
+    let input = File::open(&path).unwrap();
+    let mut child = program().stdin(input).stdout(Stdio::piped()).stderr(Stdio::piped()).spawn().unwrap();
+    drop(child.stdout.take());
+    let mut said = String::new();
+    child.stderr.take().unwrap().read_to_string(&mut said).unwrap();
+    child.wait().unwrap();
+    std::fs::remove_file(&path).unwrap();
+    assert_eq!(said, "");
+}

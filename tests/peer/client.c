@@ -1,0 +1,161 @@
+/* The entries of honeyplank.h on a processor that the archive is not for: each call is handed to a peer (peer.c), one for each thread, that
+ * runs under an emulator. PEER_RUNNER and PEER_PROGRAM name the two. */
+#define _GNU_SOURCE
+#include <errno.h>
+#include <fcntl.h>
+#include <spawn.h>
+#include <stdio.h>
+#include <stdlib.h>
+#include <string.h>
+#include <sys/mman.h>
+#include <unistd.h>
+
+#include "honeyplank.h"
+#include "peer.h"
+
+enum { UNTOUCHED = 0x5A };
+
+extern char **environ;
+
+static _Thread_local struct {
+    struct peer_call *call;
+    int to, from;
+} peer;
+
+static void fail(const char *what)
+{
+    fprintf(stderr, "peer: %s\n", what);
+    abort();
+}
+
+static void start(void)
+{
+    char *words[] = {PEER_RUNNER, "run", PEER_PROGRAM, NULL};
+    int memory = memfd_create("peer", MFD_CLOEXEC), there[2], back[2];
+    posix_spawn_file_actions_t actions;
+    pid_t child;
+    if (memory < 0 || ftruncate(memory, sizeof(struct peer_call)) != 0 || pipe2(there, O_CLOEXEC) != 0 || pipe2(back, O_CLOEXEC) != 0)
+        fail("no memory or pipes");
+    peer.call = mmap(NULL, sizeof *peer.call, PROT_READ | PROT_WRITE, MAP_SHARED, memory, 0);
+    if (peer.call == MAP_FAILED)
+        fail("no shared memory");
+    memory = fcntl(memory, F_DUPFD_CLOEXEC, 100);
+    posix_spawn_file_actions_init(&actions);
+    posix_spawn_file_actions_adddup2(&actions, there[0], STDIN_FILENO);
+    posix_spawn_file_actions_adddup2(&actions, back[1], STDOUT_FILENO);
+    posix_spawn_file_actions_adddup2(&actions, memory, PEER_MEMORY_FD);
+    if (posix_spawn(&child, PEER_RUNNER, &actions, NULL, words, environ) != 0)
+        fail("it does not start");
+    posix_spawn_file_actions_destroy(&actions);
+    close(there[0]);
+    close(back[1]);
+    peer.to = there[1];
+    peer.from = back[0];
+}
+
+static struct peer_call *begin(uint32_t entry)
+{
+    if (peer.call == NULL)
+        start();
+    peer.call->entry = entry;
+    return peer.call;
+}
+
+static void copy(void *to, const void *from, size_t size, size_t room)
+{
+    if (size > room)
+        fail("a buffer is too large");
+    if (size > 0)
+        memcpy(to, from, size);
+}
+
+static int untouched(const uint8_t *from, const uint8_t *to)
+{
+    for (; from < to; from++)
+        if (*from != UNTOUCHED)
+            return 0;
+    return 1;
+}
+
+/* A byte there and a byte back, through interruptions (a fuzzer's clock). */
+static int hand_over(void)
+{
+    char byte = 0;
+    ssize_t moved;
+    do
+        moved = write(peer.to, &byte, 1);
+    while (moved < 0 && errno == EINTR);
+    if (moved != 1)
+        return 0;
+    do
+        moved = read(peer.from, &byte, 1);
+    while (moved < 0 && errno == EINTR);
+    return moved == 1;
+}
+
+/* Hands the call over with these buffers, and gives their content back; what stands around them is filled before and looked at after. */
+static uint32_t carry(struct peer_call *c, void *out, size_t out_size, int64_t *told, size_t told_len)
+{
+    memset(c->before_out, UNTOUCHED, PEER_GUARD);
+    memset(c->out, UNTOUCHED, PEER_OUT);
+    memset(c->before_told, UNTOUCHED, PEER_GUARD);
+    memset(c->told, UNTOUCHED, sizeof c->told);
+    memset(c->after_told, UNTOUCHED, PEER_GUARD);
+    copy(c->out, out, out_size, PEER_OUT);
+    copy(c->told, told, 8 * told_len, sizeof c->told);
+    c->told_len = told_len;
+    if (!hand_over())
+        fail("it ended");
+    if (!untouched(c->before_out, c->out) || !untouched(c->out + out_size, (uint8_t *)c->told) ||
+        !untouched((uint8_t *)c->told + 8 * told_len, c->after_told + PEER_GUARD))
+        fail("something was written outside of what was lent");
+    copy(out, c->out, out_size, PEER_OUT);
+    copy(told, c->told, 8 * told_len, sizeof c->told);
+    return c->number;
+}
+
+static struct peer_call *begin_file(uint32_t entry, const uint8_t *file, size_t file_len, size_t place, size_t out_len)
+{
+    struct peer_call *c = begin(entry);
+    copy(c->file, file, file_len, PEER_IN);
+    c->file_len = file_len;
+    c->place = place;
+    c->out_len = out_len;
+    return c;
+}
+
+uint32_t hp_baseline(const uint8_t *file, size_t file_len, size_t place, uint8_t *out, size_t out_len)
+{
+    return carry(begin_file(PEER_BASELINE, file, file_len, place, out_len), out, out_len, NULL, 0);
+}
+
+uint32_t hp_baseline_told(const uint8_t *file, size_t file_len, size_t place, uint8_t *out, size_t out_len, int64_t *told, size_t told_len)
+{
+    return carry(begin_file(PEER_BASELINE_TOLD, file, file_len, place, out_len), out, out_len, told, told_len);
+}
+
+uint32_t hp_file(const uint8_t *file, size_t file_len, uint32_t *shape, size_t shape_len)
+{
+    return carry(begin_file(PEER_FILE, file, file_len, 0, shape_len), shape, 4 * shape_len, NULL, 0);
+}
+
+uint32_t hp_event(const uint8_t *file, size_t file_len, size_t place, uint32_t *event, size_t event_len)
+{
+    return carry(begin_file(PEER_EVENT, file, file_len, place, event_len), event, 4 * event_len, NULL, 0);
+}
+
+uint32_t hp_baseline_table(uint32_t first, const uint8_t *marks, size_t marks_len, const uint32_t *readings, size_t readings_len,
+                           uint32_t participation, uint32_t event, uint32_t s, uint32_t e, uint32_t n, uint32_t *out, size_t out_len,
+                           int64_t *told, size_t told_len)
+{
+    struct peer_call *c = begin_file(PEER_TABLE, marks, marks_len, 0, out_len);
+    copy(c->readings, readings, 4 * readings_len, PEER_IN);
+    c->readings_len = readings_len;
+    c->first = first;
+    c->participation = participation;
+    c->event = event;
+    c->s = s;
+    c->e = e;
+    c->n = n;
+    return carry(c, out, 4 * out_len, told, told_len);
+}
