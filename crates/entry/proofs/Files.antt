@@ -28,7 +28,7 @@ use Rattle.record.specs.Reader.{readFile, tableIn, eventAtPlace, loadedOf, load
 use Rattle.record.proofs.Files.{shape-fits}
 use Rattle.record.proofs.Loading.{marks-held, readings-held}
 use Rattle.record.proofs.Buffers.{loaded-refused, InBuffers}
-use Rattle.entry.specs.Entry.{fileReply, bytesWritten, FileAnswers}
+use Rattle.entry.specs.Entry.{fileReply, bytesWritten, FileAnswers, LaidDown}
 use Rattle.entry.proofs.Rooms.{answered-size, answered-fits, room-same}
 
 -- ---- refused: the bytes are kept
@@ -92,15 +92,19 @@ module _ (file : List ℕ) (place room : ℕ) {at : EventAt} (s : at ≡ eventAt
   unfolding fileReply
   none-there e = rw (← s, e)
 
-  pub event-there : {t : Table} {request : Request} → at ≡ Event request → t ≡ tableIn file → fileReply file place room ≡ verdict group t request (room / 4)
+  pub event-there : {request : Request} → at ≡ Event request → fileReply file place room ≡ verdict group (tableIn file) request (room / 4)
   unfolding fileReply
-  event-there e f = rw (← s, e, f)
+  event-there e = rw (← s, e)
+
+pub laid-down : (file : List ℕ) (place : ℕ) {at : EventAt} {request : Request} → at ≡ eventAtPlace (readFile file) file place → at ≡ Event request
+    → LaidDown file
+laid-down file place s e = record { accepted = λ n f. let z : _≡_ {A = ℕ} 0 1 = cc (rw f at s) in absurd (omega arith) }
 
 -- ---- loading
 module _ (file : List ℕ) {loaded : Loaded} (s : loaded ≡ loading file 128 12288) where
-  pub refused-load : (place room : ℕ) {at : ℕ} → loaded ≡ RefusedLoad at → fileReply file place room ≡ refused (BadFile at)
-  unfolding loading fileReply
-  refused-load place room e = rw (loaded-refused (readFile file) (tableIn file) 128 12288 (sym s ∙ e))
+  pub never-refused : {X : Type 0} {at : ℕ} → LaidDown file → loaded ≡ RefusedLoad at → X
+  unfolding loading
+  never-refused {X} {at} q e = absurd (q .accepted at (loaded-refused (readFile file) (tableIn file) 128 12288 (sym s ∙ e)))
 
   -- the buffers have room for every file
   pub never-full : {X : Type 0} → loaded ≡ NoRoom → X

@@ -12,6 +12,7 @@ use Rattle.baseline.specs.declared.Answer.{Answer}
 use Rattle.baseline.specs.Answer.{answerOf}
 use Rattle.record.specs.declared.EventAt.{EventAt}
 use Rattle.record.specs.declared.EventAt.the-variants.{Event, NoEvent as NoneThere, Refused}
+use Rattle.record.specs.declared.Read.the-variants.{Refused as RefusedFile}
 use Rattle.record.specs.Layout.{readingBytes}
 use Rattle.record.specs.Reader.{readFile, tableIn, eventAtPlace}
 
@@ -34,3 +35,7 @@ bytesWritten (answered a) out = readingBytes (a .numerators) ++ drop (4 * length
 pub record FileAnswers (reply : Reply) (given : Answer) (before after : List ℕ) : Type 0 where
   pub answer : given ≡ answerOf reply
   pub output : after ≡ bytesWritten reply before
+
+-- the file is as laid down
+pub record LaidDown (file : List ℕ) : Type 0 where
+  pub accepted : (at : ℕ) → readFile file ≡ RefusedFile at → ⊥

@@ -8,7 +8,7 @@ ghost use Rattle.method.specs.Verdict.{refused, verdict};
 ghost use Rattle.baseline.specs.Answer.{tableOf, answerOf};
 ghost use Rattle.record.specs.Layout.{bytes, readingBytes};
 ghost use Rattle.record.specs.Reader.{tableIn};
-ghost use Rattle.entry.specs.Entry.{fileReply, FileAnswers};
+ghost use Rattle.entry.specs.Entry.{fileReply, FileAnswers, LaidDown};
 use baseline::Answer;
 use baseline::Given;
 use choose::Chosen;
@@ -118,29 +118,10 @@ fn table_baseline(
     )
 }
 
-// The baseline of the event at a place of a file whose table this is.
-fn event_baseline(
-    file: &[u8],
-    place: usize,
-    first: u32,
-    marks: &[u8],
-    readings: &[u32],
-    out: &mut [u8],
-) -> Answer
-    requires { ⌜ tableOf first (now marks) (now readings) ≡ tableIn (now file) ⌝ }
-    ensures { λ r. ⌜ FileAnswers (fileReply (now (file .entry)) place (length (now (out .entry)))) r (now (out .entry)) (now (out .exit)) ⌝ }
-{
-    match record::event_at(file, place) {
-        EventAt::Refused(at) => refuse(Refusal::BadFile(at)),
-        EventAt::NoEvent => refuse(Refusal::NoEvent),
-        EventAt::Event(request) => table_baseline(first, marks, readings, request, out),
-    }
-}
-
-// The baseline of the event at a place, counted from 0: the first refusal that applies, or the answer, with the numerators in the first bytes of
-// the output.
-pub fn file_baseline(file: &[u8], place: usize, out: &mut [u8]) -> Answer
-    ensures { λ r. ⌜ FileAnswers (fileReply (now (file .entry)) place (length (now (out .entry)))) r (now (out .entry)) (now (out .exit)) ⌝ }
+// The baseline of an event over the table of a file that is as laid down.
+fn loaded_baseline(file: &[u8], request: Request, out: &mut [u8]) -> Answer
+    requires { ⌜ LaidDown (now file) ⌝ }
+    ensures { λ r. ⌜ FileAnswers (verdict group (tableIn (now (file .entry))) request (length (now (out .entry)) / 4)) r (now (out .entry)) (now (out .exit)) ⌝ }
 {
     let mut marks = [0u8; 128];
     let mut readings = [0u32; 12288];
@@ -151,14 +132,25 @@ pub fn file_baseline(file: &[u8], place: usize, out: &mut [u8]) -> Answer
         Loaded::File(shape) => {
             let days = shape.days as usize;
             let count = QUARTERS * days;
-            event_baseline(
-                file,
-                place,
+            table_baseline(
                 shape.first,
                 &marks[..days],
                 &readings[..count],
+                request,
                 out,
             )
         }
+    }
+}
+
+// The baseline of the event at a place, counted from 0: the first refusal that applies, or the answer, with the numerators in the first bytes of
+// the output. The buffers of a table are another function's: refusals 11 and 12 do not fill them.
+pub fn file_baseline(file: &[u8], place: usize, out: &mut [u8]) -> Answer
+    ensures { λ r. ⌜ FileAnswers (fileReply (now (file .entry)) place (length (now (out .entry)))) r (now (out .entry)) (now (out .exit)) ⌝ }
+{
+    match record::event_at(file, place) {
+        EventAt::Refused(at) => refuse(Refusal::BadFile(at)),
+        EventAt::NoEvent => refuse(Refusal::NoEvent),
+        EventAt::Event(request) => loaded_baseline(file, request, out),
     }
 }
