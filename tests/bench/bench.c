@@ -1,6 +1,7 @@
 /* bench FILE: the proved entries against the same rules in plain C at -O3, built by gcc and by clang, on the same input in one run. Prints
  * nanoseconds a call, the best of the rounds, which take turns, and the ratio to each plain build. Every buffer is touched before the clock
- * starts. The largest file is also written to FILE, for the listing programs. */
+ * starts. The largest file is also written to FILE, for the listing programs.
+ * bench FILE once: each case once in each way, between call_begins and call_ends, for an emulator to count instructions. */
 #define _POSIX_C_SOURCE 200809L
 #include <stdio.h>
 #include <stdlib.h>
@@ -48,6 +49,29 @@ static uint32_t call_table(int way)
                                                                   out[way], QUARTERS, &answer);
 }
 
+static int once;
+
+__attribute__((noinline)) void call_begins(void)
+{
+    __asm__ volatile("");
+}
+
+__attribute__((noinline)) void call_ends(void)
+{
+    __asm__ volatile("");
+}
+
+static void call_once(const char *name, uint32_t (*call)(int way))
+{
+    int way;
+    printf("%s: result %u\n", name, call(0));
+    for (way = 0; way < WAYS; way++) {
+        call_begins();
+        call(way);
+        call_ends();
+    }
+}
+
 static double now(void)
 {
     struct timespec time;
@@ -60,6 +84,10 @@ static void report(const char *name, uint32_t (*call)(int way))
     double best[WAYS] = {1e18, 1e18, 1e18};
     uint32_t number = call(0);
     int round, way, i;
+    if (once) {
+        call_once(name, call);
+        return;
+    }
     for (way = 1; way < WAYS; way++)
         if (call(way) != number) {
             printf("%s: %s gives another number\n", name, names[way]);
@@ -165,8 +193,9 @@ static void tables(void)
 int main(int argc, char **argv)
 {
     FILE *largest;
-    if (argc != 2 || (largest = fopen(argv[1], "wb")) == NULL) {
-        fprintf(stderr, "usage: bench FILE\n");
+    once = argc == 3 && strcmp(argv[2], "once") == 0;
+    if (argc != 2 + once || (largest = fopen(argv[1], "wb")) == NULL) {
+        fprintf(stderr, "usage: bench FILE [once]\n");
         return 2;
     }
     put_largest();
