@@ -11,7 +11,7 @@ use Rattle.lists.specs.Lists.{sumOf}
 use Rattle.method.specs.Table.{offset}
 use Rattle.method.specs.Adjustment.{places, A, unfloored, floored}
 use Rattle.baseline.specs.Sums.{quarterSum, twelveSums, numeratorsOf, Within, Writable}
-use Rattle.baseline.proofs.Places.{length-over, at-place, over-same}
+use Rattle.places.proofs.Places.{length-over, at-place, over-same}
 
 -- one day more
 sum-more : (f : ℕ → ℕ) (days : List ℕ) (k : ℕ) → k < length days

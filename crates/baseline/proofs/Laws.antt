@@ -23,10 +23,10 @@ use Rattle.choose.specs.declared.Choosing.the-variants.{Short, Few, Days}
 use Rattle.choose.specs.declared.Chosen.{Chosen}
 use Rattle.choose.specs.Choice.{choiceOf}
 use Rattle.baseline.specs.declared.Answer.{Answer}
-use Rattle.baseline.specs.declared.Tested.{Tested}
-use Rattle.baseline.specs.declared.Tested.the-variants.{Passed, Failed}
-use Rattle.baseline.specs.Part.{DayPart}
-use Rattle.baseline.specs.Tests.{tested}
+use Rattle.refusals.specs.declared.Tested.{Tested}
+use Rattle.refusals.specs.declared.Tested.the-variants.{Passed, Failed}
+use Rattle.table.specs.Part.{DayPart}
+use Rattle.refusals.specs.Tests.{tested}
 use Rattle.baseline.specs.Ready.{Answers, Passes, Ready, replyOf}
 use Rattle.baseline.proofs.Choosing.{short-is, few-is, days-is, ready, reply-is}
 use Rattle.baseline.proofs.Signed.{numerator-is}

@@ -23,7 +23,7 @@ use Rattle.calendar.specs.declared.Group.{Group}
 use Rattle.method.specs.declared.Request.{Request}
 use Rattle.method.specs.declared.Refusal.{Refusal}
 use Rattle.method.specs.declared.Refusal.the-variants.{NoAdjustmentWindow}
-use Rattle.method.specs.Table.{Table, goodReading, dayOf, dayPart, held, history, isExtract, heldDays, offset}
+use Rattle.method.specs.Table.{Table, goodReading, dayOf, dayPart, held, history, isExtract, offset}
 use Rattle.method.specs.Adjustment.{places, ruler, adjustmentEnd, A, B, S, adjustment, unfloored, floored, baselineAt, baseline}
 use Rattle.method.specs.Method.{outcome}
 use Rattle.method.specs.HighXofY.{highXofY}
@@ -35,18 +35,18 @@ use Rattle.choose.specs.declared.Choice.{Choice}
 use Rattle.rooms.specs.declared.Directory.{Directory}
 use Rattle.choose.specs.Choice.{choiceOf}
 use Rattle.rooms.specs.Rooms.{roomHistory}
-use Rattle.baseline.specs.Directory.{directoryOf}
+use Rattle.table.specs.Directory.{directoryOf}
 use Rattle.baseline.proofs.Rooms.{choice-same}
 use Rattle.baseline.specs.declared.Answer.{Answer}
 use Rattle.baseline.specs.declared.Given.the-variants.{Answered}
-use Rattle.baseline.specs.declared.Tested.the-variants.{Passed, Failed}
+use Rattle.refusals.specs.declared.Tested.the-variants.{Passed, Failed}
 use Rattle.baseline.specs.Answer.{answerOf}
-use Rattle.baseline.specs.Tests.{tested}
+use Rattle.refusals.specs.Tests.{tested}
 use Rattle.baseline.specs.Sums.{withDays, quarterSum, twelveSums, numeratorsOf, Within, Writable}
 use Rattle.baseline.specs.Ready.{Answers, Passes, Ready, isWhole, replyOf}
-use Rattle.baseline.proofs.Extracts.{extract-is, has-day, has-inside, part-is}
-use Rattle.baseline.proofs.FirstRefusal.{Good, Fits, GoodRequest, table-passed, request-passed, first-failed, first-passed}
-use Rattle.baseline.proofs.Places.{length-over, over-same, over-shift}
+use Rattle.table.proofs.Extracts.{has-day, part-is}
+use Rattle.refusals.proofs.FirstRefusal.{Good, Fits, GoodRequest, table-passed, request-passed, first-failed, first-passed}
+use Rattle.places.proofs.Places.{length-over, over-same, over-shift}
 use Rattle.baseline.proofs.Signed.{mag-difference, numerator-is}
 use Rattle.baseline.proofs.Whole.{day-inside, quarter-most, windows-most, S-is, B-is, day-good}
 
@@ -73,14 +73,6 @@ module _ (group : ℕ → Group) (t : Table) (r : Request) (room : ℕ) where
   none-refused p =
       first-passed (tableRefusals t) (methodology group t r room) (p .table) ∙
       first-passed (requestRefusals t r room) (closing (outcome (highXofY group r) (history t))) (p .request)
-
--- what `directory` asks
-pub event-inside : (t : Table) (r : Request) (room : ℕ) → Passes t r room
-    → (t .first ≤ r .event) × (r .event < t .first + heldDays t) × (heldDays t ≤ 128)
-event-inside t r room p =
-    let x = table-passed t (p .table) .extract in
-    let h = has-inside t (r .event) (sym (has-day t (r .event) x) ∙ request-passed t r room (p .request) .holds) in
-    (h .0, h .1, extract-is t x .most)
 
 module _ (t : Table) (r : Request) (room : ℕ) (p : Passes t r room) where
   pub passed-holds : held (history t) (r .event) ≡ true

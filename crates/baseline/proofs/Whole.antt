@@ -16,10 +16,10 @@ use Rattle.method.specs.Table.{Table, Day, present, goodReading, isExtract, hel
 use Rattle.method.specs.Adjustment.{A, B, S}
 use Rattle.method.specs.HighXofY.{complete}
 use Rattle.window.proofs.Laws.{all-in-range, day-most, whole, B-by-days}
-use Rattle.baseline.specs.Part.{hasDay}
+use Rattle.table.specs.Part.{hasDay}
 use Rattle.baseline.specs.Sums.{withDays, quarterSum, twelveSums}
 use Rattle.baseline.specs.Ready.{isWhole}
-use Rattle.baseline.proofs.Extracts.{has-inside}
+use Rattle.table.proofs.Extracts.{has-inside}
 
 -- a sum over days, each of which adds at most `b`
 pub sum-most : (p : ℕ → Bool) (f : ℕ → ℕ) (b : ℕ) → ((d : ℕ) → p d ≡ true → f d ≤ b) → (ds : List ℕ) → all p ds ≡ true

@@ -14,9 +14,9 @@ use Rattle.method.specs.Verdict.{Reply, tableRefusals, requestRefusals, closing
 use Rattle.choose.specs.declared.Chosen.{Chosen}
 use Rattle.choose.specs.Choice.{inFive}
 use Rattle.baseline.specs.declared.Answer.{Answer}
-use Rattle.baseline.specs.declared.Tested.the-variants.{Passed}
+use Rattle.refusals.specs.declared.Tested.the-variants.{Passed}
 use Rattle.baseline.specs.Answer.{answerOf}
-use Rattle.baseline.specs.Tests.{tested}
+use Rattle.refusals.specs.Tests.{tested}
 use Rattle.baseline.specs.Sums.{withDays}
 
 -- the answer and the output of a reply

@@ -1,9 +1,6 @@
-// The baseline over a lent table: the public call, and the part of a day.
+// The baseline over a lent table: the public call.
 mod numerators;
-mod refusals;
-mod table;
 
-ghost use denote.Ref.{ptr};
 ghost use mathlib.Core.Path.{_≡_};
 ghost use lib.ListN.{length};
 ghost use Rattle.calendar.specs.Holidays.{group};
@@ -11,23 +8,18 @@ ghost use Rattle.method.specs.Table.{history};
 ghost use Rattle.method.specs.Method.{outcome};
 ghost use Rattle.method.specs.HighXofY.{highXofY};
 ghost use Rattle.method.specs.Verdict.{refused, closing, verdict};
-ghost use Rattle.baseline.specs.Answer.{tableOf, answerOf};
-ghost use Rattle.baseline.specs.Part.{DayPart};
+ghost use Rattle.table.specs.Lent.{tableOf};
+ghost use Rattle.baseline.specs.Answer.{answerOf};
 ghost use Rattle.baseline.specs.Ready.{Answers, Passes, Ready, replyOf};
 use choose::Choosing;
 use choose::Chosen;
 use method::Refusal;
 use method::Request;
+use refusals::Tested;
 
 pub enum Given {
     Answered,
     Refused(Refusal),
-}
-
-// What refusals that are tested one after the other come to.
-enum Tested {
-    Passed,
-    Failed(Refusal),
 }
 
 // What a call answers. Where it is refused, every field but `given` is nought.
@@ -68,8 +60,8 @@ fn finish(
     requires { ⌜ Ready (tableOf first (now marks) (now readings)) request (length (now out)) chosen ⌝ }
     ensures { λ r. ⌜ Answers (replyOf (tableOf first (now (marks .entry)) (now (readings .entry))) request chosen) r (now (out .entry)) (now (out .exit)) ⌝ }
 {
-    let yesterday = day_part(first, marks, readings, request.event - 1);
-    let today = day_part(first, marks, readings, request.event);
+    let yesterday = table::day_part(first, marks, readings, request.event - 1);
+    let today = table::day_part(first, marks, readings, request.event);
     let end = window::adjustment_end(request, yesterday, today);
     if end == 0 {
         return refuse(Refusal::NoAdjustmentWindow(chosen.reach));
@@ -137,20 +129,5 @@ pub fn baseline(
                 Tested::Passed => choose_days(first, marks, readings, request, out),
             }
         }
-    }
-}
-
-// The ninety-six readings of a day, as that part of the lent readings itself; an empty part for a day that is not held, or a table that
-// refusal 1 turns away.
-pub fn day_part<'a>(first: u32, marks: &[u8], readings: &'a [u32], day: u32) -> &'a [u32]
-    ensures { λ r. ⌜ DayPart (tableOf first (now (marks .entry)) (now (readings .entry))) day (ptr (readings .entry)) (now r) (ptr r) ⌝ }
-{
-    if table::has(first, marks, readings, day) {
-        let at = table::offset(first, day);
-        let end = at + 96;
-        &readings[at..end]
-    } else {
-        let none = 0;
-        &readings[none..none]
     }
 }

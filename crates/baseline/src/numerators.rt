@@ -1,13 +1,21 @@
 // The sums over the chosen days, the adjustment, and the numerators.
 ghost use mathlib.Core.Path.{_≡_};
 ghost use mathlib.Core.List.{List, map, _++_};
-ghost use Prim.Native.Nat.{ℕ, _+_, _*_, _%_, _^_, _≤_, _<_};
+ghost use Prim.Native.Nat.{ℕ, _+_, _-_, _*_, _%_, _^_, _≤_, _<_};
 ghost use lib.ListN.{length, getD, take};
 ghost use lib.IntN.{pos};
 ghost use lib.Signed.{mag};
+ghost use Rattle.method.specs.Table.{offset};
 ghost use Rattle.method.specs.Adjustment.{places, unfloored, floored, A as twelveSum, adjustment as adjusted};
 ghost use Rattle.baseline.specs.Sums.{quarterSum, twelveSums, numeratorsOf, Within, Writable};
-use crate::table;
+
+// Where a day's readings start.
+fn offset(first: u32, day: u32) -> usize
+    requires { ⌜ first ≤ day ⌝ }
+    ensures { λ r. ⌜ r ≡ offset first (day - first) ⌝ }
+{
+    96 * ((day - first) as usize)
+}
 
 // Every sum becomes nought.
 fn clear(sums: &mut [u32])
@@ -47,7 +55,7 @@ fn sum_days(
     clear(sums);
     let mut k = 0;
     while k < count {
-        let at = table::offset(first, days[k]) + start;
+        let at = offset(first, days[k]) + start;
         let end = at + sums.len();
         add_part(sums, &readings[at..end]);
         k += 1;
@@ -83,7 +91,7 @@ fn sum_windows(first: u32, readings: &[u32], days: [u32; 5], count: usize, end: 
     let mut total: u64 = 0;
     let mut k = 0;
     while k < count {
-        let at = table::offset(first, days[k]);
+        let at = offset(first, days[k]);
         let next = at + 96;
         let day = &readings[at..next];
         total = std::num::wrapping_add_u64(total, window::window_sum(end, day, day));

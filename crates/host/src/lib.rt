@@ -6,7 +6,7 @@ ghost use lib.ListN.{length, drop};
 ghost use lib.IntN.{pos};
 ghost use Rattle.calendar.specs.Holidays.{group};
 ghost use Rattle.method.specs.Verdict.{number, verdict};
-ghost use Rattle.baseline.specs.Answer.{tableOf};
+ghost use Rattle.table.specs.Lent.{tableOf};
 ghost use Rattle.host.specs.Host.{numberOf, nineAnswered, nineRefused, toldTo, firstCarried, secondCarried, requestOf, TableCall};
 use baseline::Answer;
 use baseline::Given;

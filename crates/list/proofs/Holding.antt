@@ -10,7 +10,7 @@ use lib.Dec.{leb}
 use borrow.Author.Tests.{lt-ltb}
 use Rattle.method.specs.declared.Request.{Request}
 use Rattle.method.specs.Table.{Table, heldDays}
-use Rattle.baseline.specs.Answer.{tableOf}
+use Rattle.table.specs.Lent.{tableOf}
 use Rattle.record.specs.declared.Shape.{Shape}
 use Rattle.record.specs.declared.Read.{Read}
 use Rattle.record.specs.declared.Read.the-variants.{File, Refused}

@@ -3,7 +3,7 @@ use mathlib.Core.Path.{sym, _∙_}
 use borrow.Author.Needs.{needs}
 use lib.ListN.{length}
 use Rattle.calendar.specs.Holidays.{group}
-use Rattle.baseline.specs.Answer.{tableOf}
+use Rattle.table.specs.Lent.{tableOf}
 use Rattle.baseline.proofs.Steps.{refuses, table-refused, request-refused, none-refused}
 use Rattle.baseline.proofs.baseline.Statement.{statement}
 use Rattle.baseline.proofs.baseline.Tie as tie

@@ -6,17 +6,14 @@ use Rattle.calendar.specs.Holidays.{group}
 use Rattle.method.specs.HighXofY.{highXofY}
 use Rattle.method.specs.Table.{history}
 use Rattle.method.specs.Verdict.{closing}
-use Rattle.baseline.specs.Answer.{tableOf}
+use Rattle.table.specs.Lent.{tableOf}
 use Rattle.baseline.proofs.Choosing.{short-is, few-is, days-is, ready, reply-is}
-use Rattle.baseline.proofs.Steps.{refuses, event-inside, passed-holds, rooms-choice}
+use Rattle.baseline.proofs.Steps.{refuses, passed-holds, rooms-choice}
 use Rattle.baseline.proofs.choose_days.Statement.{statement}
 use Rattle.baseline.proofs.choose_days.Tie as tie
 
 directory-requires : tie.Need-directory-requires
-directory-requires c κs =
-    let s = c .before .before .before in
-    let a = s .args in
-    event-inside (tableOf (a .first) (a .marks .now) (a .readings .now)) (a .request) (length (a .out .now)) (s .pre)
+directory-requires c κs = search needs
 
 choose-requires : tie.Need-choose-requires
 choose-requires c κs = search needs

@@ -3,7 +3,7 @@ use mathlib.Core.Path.{refl, sym}
 use native.Mathlib.Omega.{arith}
 use borrow.Author.Needs.{needs}
 use lib.ListN.{length}
-use Rattle.baseline.specs.Answer.{tableOf}
+use Rattle.table.specs.Lent.{tableOf}
 use Rattle.baseline.proofs.Steps.{refuses, no-window, adjustable, ranges, room-enough, room-long, writable, adjusted-back, answers}
 use Rattle.baseline.proofs.finish.Statement.{statement}
 use Rattle.baseline.proofs.finish.Tie as tie

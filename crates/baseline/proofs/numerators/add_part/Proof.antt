@@ -3,7 +3,7 @@ use Prim.Native.Nat.{_+_, _-_, _%_, _^_}
 use borrow.Author.Needs.{needs}
 use lib.ListN.{length, getD}
 use mathlib.Core.Path.{ap, _∙_}
-use Rattle.baseline.proofs.Places.{Storing, storing-begin, storing-here, storing-next, storing-end}
+use Rattle.places.proofs.Places.{Storing, storing-begin, storing-here, storing-next, storing-end}
 use Rattle.baseline.proofs.numerators.add_part.Statement.{statement}
 use Rattle.baseline.proofs.numerators.add_part.Tie as tie
 

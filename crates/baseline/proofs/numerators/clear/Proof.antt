@@ -4,7 +4,7 @@ use native.Mathlib.Omega.{arith}
 use borrow.Author.Needs.{needs}
 use lib.ListN.{length}
 use mathlib.Core.Path.{refl}
-use Rattle.baseline.proofs.Places.{Storing, storing-begin, storing-next, storing-end}
+use Rattle.places.proofs.Places.{Storing, storing-begin, storing-next, storing-end}
 use Rattle.baseline.proofs.numerators.clear.Statement.{statement}
 use Rattle.baseline.proofs.numerators.clear.Tie as tie
 

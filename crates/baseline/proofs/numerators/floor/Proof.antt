@@ -4,7 +4,7 @@ use native.Mathlib.Omega.{arith}
 use borrow.Author.Needs.{needs}
 use lib.ListN.{length, getD}
 use mathlib.Core.Path.{ap, _∙_}
-use Rattle.baseline.proofs.Places.{Storing, storing-begin, storing-here, storing-next, storing-end}
+use Rattle.places.proofs.Places.{Storing, storing-begin, storing-here, storing-next, storing-end}
 use mathlib.Core.List.{map}
 use lib.IntN.{ℤ}
 use mir.Syntax.{w64}

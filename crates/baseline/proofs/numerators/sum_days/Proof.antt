@@ -6,7 +6,7 @@ use native.Mathlib.Omega.{arith}
 use borrow.Author.Needs.{needs}
 use lib.ListN.{length, length-take, length-drop}
 use Rattle.method.specs.Adjustment.{places}
-use Rattle.baseline.proofs.Places.{length-over}
+use Rattle.places.proofs.Places.{length-over}
 use Rattle.baseline.proofs.DaySums.{Added, added-begin, added-next, added-end}
 use Rattle.baseline.proofs.numerators.sum_days.Statement.{statement}
 use Rattle.baseline.proofs.numerators.sum_days.Tie as tie
