@@ -1,27 +1,53 @@
--- The directory of a table's event says of the days before it what the table holds.
+-- The directory of a table that passes the refusals 1 to 7: its rooms are fit, and they say of the days before the event what the table holds.
 use Prim.Native.Nat.{ℕ}
-use mathlib.Core.Path.{_≡_}
-use mathlib.Core.Bool.{true}
+use mathlib.Core.Path.{_≡_, ap, _∙_}
+use native.Mathlib.Omega.{arith}
 use Rattle.calendar.specs.declared.Group.{Group}
 use Rattle.method.specs.declared.Request.{Request}
-use Rattle.method.specs.Table.{Table, held, history, isExtract}
+use Rattle.method.specs.Table.{Table, history}
+use Rattle.method.specs.Method.{outcome}
 use Rattle.method.specs.HighXofY.{highXofY}
-use Rattle.rooms.specs.Rooms.{roomHistory}
-use Rattle.choose.specs.Choice.{choiceOf}
-use Rattle.choose.proofs.Rooms.{Agree, rooms-choice}
+use Rattle.method.specs.Verdict.{tableRefusals, requestRefusals}
+use Rattle.rooms.specs.declared.Directory.{Directory}
+use Rattle.rooms.specs.Rooms.{heldRooms, roomHistory}
+use Rattle.choose.proofs.Rooms.{Agree, rooms-outcome}
 use Rattle.table.specs.Directory.{directoryOf}
-use Rattle.table.proofs.Rooms.{rooms-held, room-day}
+use Rattle.table.proofs.Rooms.{rooms-held, room-day, room-inside}
+use Rattle.refusals.specs.declared.Tested.the-variants.{Passed}
+use Rattle.refusals.specs.Tests.{tested}
+use Rattle.refusals.proofs.FirstRefusal.{Good, Fits, table-passed, request-passed}
+use Rattle.baseline.specs.Ready.{Fit}
 
-module _ (t : Table) (r : Request) (extract : isExtract t ≡ true) (holds : held (history t) (r .event) ≡ true) where
-  pub agree : Agree r (directoryOf t (r .event)) (t .readings) (history t)
-  agree =
+-- none of the refusals 1 to 7 applies
+pub record Passes (t : Table) (r : Request) (room : ℕ) : Type 0 where
+  pub table : tested (tableRefusals t) ≡ Passed
+  pub request : tested (requestRefusals t r room) ≡ Passed
+
+module _ (t : Table) (r : Request) (room : ℕ) (p : Passes t r room) where
+  good : Good t
+  good = table-passed t (p .table)
+
+  fits : Fits t r room
+  fits = request-passed t r room (p .request)
+
+  pub fit : Fit r (directoryOf t (r .event)) (t .readings) room
+  fit =
       record {
-        holds = holds;
-        width = rooms-held t (r .event) extract holds;
-        days = room-day t (r .event) extract holds;
+        request = fits .request;
+        enough = fits .enough;
+        good = good .readings;
+        stands = λ i h. room-inside t (r .event) (good .extract) (fits .holds) i (unfold heldRooms in omega (arith, h));
       }
 
-  -- the choice over the directory is the choice over the table
-  pub choice-same : (group : ℕ → Group)
-      → choiceOf (highXofY group r) (roomHistory r (directoryOf t (r .event)) (t .readings)) ≡ choiceOf (highXofY group r) (history t)
-  choice-same group = rooms-choice group agree
+  agree : Agree r (directoryOf t (r .event)) (t .readings) (history t)
+  agree =
+      record {
+        holds = fits .holds;
+        width = rooms-held t (r .event) (good .extract) (fits .holds);
+        days = room-day t (r .event) (good .extract) (fits .holds);
+      }
+
+  -- the outcome over the directory is the outcome over the table
+  pub outcome-is : (group : ℕ → Group)
+      → outcome (highXofY group r) (roomHistory r (directoryOf t (r .event)) (t .readings)) ≡ outcome (highXofY group r) (history t)
+  outcome-is group = rooms-outcome group agree

@@ -1,21 +1,24 @@
 // The baseline over a lent table: the public call.
-mod numerators;
-
 ghost use mathlib.Core.Path.{_≡_};
-ghost use lib.ListN.{length};
+ghost use mathlib.Core.List.{map};
+ghost use Prim.Native.Nat.{_≤_};
+ghost use lib.ListN.{length, take};
 ghost use Rattle.calendar.specs.Holidays.{group};
-ghost use Rattle.method.specs.Table.{history};
 ghost use Rattle.method.specs.Method.{outcome};
 ghost use Rattle.method.specs.HighXofY.{highXofY};
 ghost use Rattle.method.specs.Verdict.{refused, closing, verdict};
+ghost use Rattle.rooms.specs.Rooms.{roomHistory};
+ghost use Rattle.choose.specs.Choice.{inFive};
 ghost use Rattle.table.specs.Lent.{tableOf};
 ghost use Rattle.baseline.specs.Answer.{answerOf};
-ghost use Rattle.baseline.specs.Ready.{Answers, Passes, Ready, replyOf};
+ghost use Rattle.baseline.specs.Ready.{Answers, startOf, InDirectory, Fit, Ready, replyOf};
 use choose::Choosing;
 use choose::Chosen;
 use method::Refusal;
 use method::Request;
+use numerators::Places;
 use refusals::Tested;
+use rooms::Directory;
 
 pub enum Given {
     Answered,
@@ -48,32 +51,48 @@ fn refuse(refusal: Refusal) -> Answer
     }
 }
 
+// Where the readings of chosen days start, by the directory of the days before the event.
+fn places_of(event: u32, rooms: Directory, days: [u32; 5], count: usize) -> [u32; 5]
+    requires { ⌜ (count ≤ 5) × InDirectory event (take count days) ⌝ }
+    ensures { λ r. ⌜ r ≡ inFive (map (startOf rooms event) (take count days)) ⌝ }
+{
+    let mut at = [0u32; 5];
+    let mut k = 0;
+    while k < count {
+        let back = (event - days[k]) as usize;
+        at[k] = rooms.at[back];
+        k += 1;
+    }
+    at
+}
+
 // Days are chosen: refusal 10, or the answer, with the numerators in the output.
 fn finish(
-    first: u32,
-    marks: &[u8],
-    readings: &[u32],
     request: Request,
+    rooms: Directory,
+    readings: &[u32],
     chosen: Chosen,
     out: &mut [u32],
 ) -> Answer
-    requires { ⌜ Ready (tableOf first (now marks) (now readings)) request (length (now out)) chosen ⌝ }
-    ensures { λ r. ⌜ Answers (replyOf (tableOf first (now (marks .entry)) (now (readings .entry))) request chosen) r (now (out .entry)) (now (out .exit)) ⌝ }
+    requires { ⌜ Ready request rooms (now readings) (length (now out)) chosen ⌝ }
+    ensures { λ r. ⌜ Answers (replyOf request (roomHistory request rooms (now (readings .entry))) chosen) r (now (out .entry)) (now (out .exit)) ⌝ }
 {
-    let yesterday = table::day_part(first, marks, readings, request.event - 1);
-    let today = table::day_part(first, marks, readings, request.event);
+    let yesterday = rooms::part_at(readings, rooms.at[1]);
+    let today = rooms::part_at(readings, rooms.at[0]);
     let end = window::adjustment_end(request, yesterday, today);
     if end == 0 {
         return refuse(Refusal::NoAdjustmentWindow(chosen.reach));
     }
     let days = chosen.days;
-    let count = chosen.count as usize;
-    let own = window::window_sum(end, yesterday, today);
-    let adjustment = numerators::adjustment(first, readings, days, count, end, own);
-    let start = (request.s - 96) as usize;
+    let places = Places {
+        at: places_of(request.event, rooms, days, chosen.count as usize),
+        count: chosen.count,
+        end: end,
+        start: request.s - 96,
+    };
     let length = (request.e - request.s) as usize;
     let part = &mut out[..length];
-    numerators::write(first, readings, days, count, start, adjustment, part);
+    let adjustment = numerators::write(readings, places, yesterday, today, part);
     Answer {
         given: Given::Answered,
         chosen: chosen,
@@ -83,17 +102,10 @@ fn finish(
 }
 
 // None of the refusals 1 to 7 applies: the days are chosen, and refusal 8 or 9 given, or the answer.
-fn choose_days(
-    first: u32,
-    marks: &[u8],
-    readings: &[u32],
-    request: Request,
-    out: &mut [u32],
-) -> Answer
-    requires { ⌜ Passes (tableOf first (now marks) (now readings)) request (length (now out)) ⌝ }
-    ensures { λ r. ⌜ Answers (closing (outcome (highXofY group request) (history (tableOf first (now (marks .entry)) (now (readings .entry)))))) r (now (out .entry)) (now (out .exit)) ⌝ }
+fn choose_days(request: Request, rooms: Directory, readings: &[u32], out: &mut [u32]) -> Answer
+    requires { ⌜ Fit request rooms (now readings) (length (now out)) ⌝ }
+    ensures { λ r. ⌜ Answers (closing (outcome (highXofY group request) (roomHistory request rooms (now (readings .entry))))) r (now (out .entry)) (now (out .exit)) ⌝ }
 {
-    let rooms = table::directory(first, marks, request.event);
     let choice = choose::choose(request, rooms, readings);
     let choosing = choice.choosing;
     match choosing {
@@ -104,7 +116,7 @@ fn choose_days(
         }),
         Choosing::Days => {
             let chosen = choice.chosen;
-            finish(first, marks, readings, request, chosen, out)
+            finish(request, rooms, readings, chosen, out)
         }
     }
 }
@@ -126,7 +138,10 @@ pub fn baseline(
             let of_request = refusals::of_request(first, marks, request, out.len());
             match of_request {
                 Tested::Failed(refusal) => refuse(refusal),
-                Tested::Passed => choose_days(first, marks, readings, request, out),
+                Tested::Passed => {
+                    let rooms = table::directory(first, marks, request.event);
+                    choose_days(request, rooms, readings, out)
+                }
             }
         }
     }

@@ -142,7 +142,7 @@ good-request r e =
 module _ (t : Table) (r : Request) (room : ℕ) where
   -- what a request that passes shows
   pub record Fits : Type 0 where
-    pub good : GoodRequest r
+    pub request : goodRequest r ≡ true
     pub holds : held (history t) (r .event) ≡ true
     pub takesPart : r .participation ≤ r .event
     pub enough : r .e - r .s ≤ room
@@ -155,7 +155,7 @@ module _ (t : Table) (r : Request) (room : ℕ) where
       let c = passed-next _ _ _ (b .1) in
       let d = passed-next _ _ _ (c .1) in
       record {
-        good = good-request r (not-false (goodRequest r) (a .0));
+        request = not-false (goodRequest r) (a .0);
         holds = not-false (held (history t) (r .event)) (b .0);
         takesPart = ltb-false (r .event) (r .participation) (c .0);
         enough = ltb-false room (r .e - r .s) (d .0);

@@ -1,5 +1,5 @@
--- `baseline::numerators::floor` meets its contract.
-use Prim.Native.Nat.{_-_}
+-- `numerators::floor` meets its contract.
+use Prim.Native.Nat.{_-_, _%_, _^_}
 use native.Mathlib.Omega.{arith}
 use borrow.Author.Needs.{needs}
 use lib.ListN.{length, getD}
@@ -11,11 +11,11 @@ use mir.Syntax.{w64}
 use mir.Val.{toZ, ofZ}
 use mir.ValLaws.{toZ-ofZ}
 use Rattle.method.specs.Adjustment.{floored, unfloored, places}
-use Rattle.baseline.proofs.numerators.floor.Statement.{statement}
-use Rattle.baseline.proofs.numerators.floor.Tie as tie
+use Rattle.numerators.proofs.floor.Statement.{statement}
+use Rattle.numerators.proofs.floor.Tie as tie
 
 abbrev Inv-loop : tie.InvT-loop
-Inv-loop sums₀ adjustment q₀ sums q = Storing (λ q. floored (unfloored (getD sums₀ q 0) (toZ w64 adjustment))) sums₀ sums q
+Inv-loop sums₀ adjustment q₀ sums q = Storing (λ q. floored (unfloored (getD sums₀ q 0) (toZ w64 adjustment)) % 2 ^ 32) sums₀ sums q
 
 abbrev μ-loop : tie.MeasureT-loop
 μ-loop sums₀ adjustment q₀ sums q = length sums₀ - q
@@ -31,14 +31,8 @@ slice-read-numerator c = search needs
 
 numerator-requires : tie.Need-numerator-requires Inv-loop μ-loop
 numerator-requires c κs =
-    let l = c .before .before .loop in
-    let k = l .inv .size in
-    rw (
-      toZ-ofZ w64 (c .before .before .before .before .args .adjustment)
-          (c .before .before .before .before .fits .adjustment),
-      storing-here (l .inv),
-    )
-    (c .before .before .before .before .pre .0, c .before .before .before .before .pre .1 (l .q) (omega arith))
+    let s = c .before .before .before .before in
+    rw (toZ-ofZ w64 (s .args .adjustment) (s .fits .adjustment)) (s .pre)
 
 mul-sums : tie.Need-mul-sums Inv-loop μ-loop
 mul-sums c = search needs
@@ -57,7 +51,7 @@ loop-again c =
     let l = c .before .before .before .loop in
     storing-next (l .inv) (c .before .before .loop-test .taken)
     (c .numerator .ensures ∙ ap (λ x. floored (unfloored x (toZ w64
-    (ofZ w64 (c .before .before .before .before .before .args .adjustment))))) (storing-here (l .inv)))
+    (ofZ w64 (c .before .before .before .before .before .args .adjustment)))) % 2 ^ 32) (storing-here (l .inv)))
 
 same-length : tie.Need-same-length Inv-loop μ-loop
 same-length c = c .before .loop .inv .size
@@ -66,7 +60,7 @@ returns : tie.Need-returns Inv-loop μ-loop
 returns c =
     let a = c .before .before .before .args in
     storing-end (c .before .loop .inv) (c .loop-test .left) ∙
-    ap (λ (z : ℤ). map (λ q. floored (unfloored (getD (a .sums .now) q 0) z)) (places (length (a .sums .now)) 0))
+    ap (λ (z : ℤ). map (λ q. floored (unfloored (getD (a .sums .now) q 0) z) % 2 ^ 32) (places (length (a .sums .now)) 0))
     (toZ-ofZ w64 (a .adjustment) (c .before .before .before .fits .adjustment))
 
 pub floor-spec : {M : Type 1} → statement M

@@ -10,7 +10,7 @@ use borrow.Author.Tests.{ltb-true, lt-ltb, le-ltb}
 use lib.Dec.{T, ltb}
 use lib.IntN.{ℤ, pos, negsuc, subℕ, _+ℤ_, _-ℤ_, _*ℤ_, natAbs}
 use lib.Signed.{mag, nonNeg, ltZ}
-use mir.Syntax.{w32, w64}
+use mir.Syntax.{w64}
 use mir.Val.{toZ, ofZ, SFits, Fits}
 use mir.ValLaws.{toZ-pos, toZ-ofZ}
 use Rattle.method.specs.Adjustment.{unfloored, floored, adjustment}
@@ -32,9 +32,9 @@ pub from-zero : (z : ℤ) → ltZ z (pos 0) ≡ false → natAbs z ≡ floored z
 from-zero (pos n) h = refl
 from-zero (negsuc n) h = absurd (true≢false h)
 
--- it can be cast where the floor fits
-pub cast-fits : (z : ℤ) → ltZ z (pos 0) ≡ false → floored z < 2 ^ 32 → T (nonNeg z) × Fits w32 (natAbs z)
-cast-fits (pos n) h f = (tt, record { fits = f })
+-- it can be cast where it is not below zero
+pub cast-fits : (z : ℤ) → ltZ z (pos 0) ≡ false → mag z < 2 ^ 63 → T (nonNeg z) × Fits w64 (natAbs z)
+cast-fits (pos n) h f = (tt, record { fits = omega arith })
 cast-fits (negsuc n) h f = absurd (true≢false h)
 
 module _ (sum : ℕ) (adj : ℤ) (small : sum < 2 ^ 32) (near : mag adj < 2 ^ 40) where
@@ -52,10 +52,13 @@ module _ (sum : ℕ) (adj : ℤ) (small : sum < 2 ^ 32) (near : mag adj < 2 ^ 40
       let h : mag adj < 2 ^ 63 = omega arith in
       rw (toZ-ofZ w64 (pos 12 *ℤ toZ w64 sum) twelve-fits, toZ-ofZ w64 adj (sfits-of h), sum-is)
 
-  pub raw-fits : SFits w64 raw
-  raw-fits =
+  pub raw-near : mag (unfloored sum adj) < 2 ^ 63
+  raw-near =
       let h : 12 * sum < 2 ^ 40 = omega arith in
-      rw raw-is (record { sfits = omega (arith, mag-sum (12 * sum) (2 ^ 40) adj h near) })
+      omega (arith, mag-sum (12 * sum) (2 ^ 40) adj h near)
+
+  pub raw-fits : SFits w64 raw
+  raw-fits = rw raw-is (record { sfits = raw-near })
 
   pub raw-back : toZ w64 (ofZ w64 raw) ≡ unfloored sum adj
   raw-back = toZ-ofZ w64 raw raw-fits ∙ raw-is

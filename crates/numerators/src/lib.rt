@@ -1,0 +1,140 @@
+// The adjustment and the numerators of days that are read where they stand in lent readings. Total: a day that runs past the end has no
+// readings, and numbers of 32 bits wrap.
+ghost use mathlib.Core.Path.{_≡_};
+ghost use mathlib.Core.List.{map};
+ghost use Prim.Native.Nat.{_+_, _%_, _^_, _≤_, _<_, min};
+ghost use lib.ListN.{length, getD, take};
+ghost use lib.Signed.{mag};
+ghost use Rattle.method.specs.Adjustment.{places, unfloored, floored, adjustment as adjusted};
+ghost use Rattle.numerators.specs.Numerators.{quarterSum, windowSums, Written};
+
+// Where the chosen days stand, how many of the five they are, where the adjustment window ends, and the event's first quarter of the day.
+pub struct Places {
+    pub at: [u32; 5],
+    pub count: u32,
+    pub end: u32,
+    pub start: u32,
+}
+
+// The lesser of two numbers.
+fn least(a: usize, b: usize) -> usize
+    ensures { λ r. ⌜ r ≡ min a b ⌝ }
+{
+    if a < b { a } else { b }
+}
+
+// Every sum becomes nought.
+fn clear(sums: &mut [u32])
+    ensures { λ _. ⌜ now (sums .exit) ≡ map (λ q. 0) (places (length (now (sums .entry))) 0) ⌝ }
+{
+    let mut q = 0;
+    while q < sums.len() {
+        sums[q] = 0;
+        q += 1;
+    }
+}
+
+// The readings of a part are added to the sums, quarter by quarter.
+fn add_part(sums: &mut [u32], part: &[u32])
+    requires { ⌜ length (now part) ≡ length (now sums) ⌝ }
+    ensures { λ _. ⌜ now (sums .exit) ≡ map (λ q. (getD (now (sums .entry)) q 0 + getD (now (part .entry)) q 0) % 2 ^ 32) (places (length (now (sums .entry))) 0) ⌝ }
+{
+    let mut q = 0;
+    while q < sums.len() {
+        sums[q] = std::num::wrapping_add_u32(sums[q], part[q]);
+        q += 1;
+    }
+}
+
+// What a day has from `start` on is added to the sums.
+fn add_day(sums: &mut [u32], day: &[u32], start: usize)
+    ensures { λ _. ⌜ now (sums .exit) ≡ map (λ q. (getD (now (sums .entry)) q 0 + getD (now (day .entry)) (start + q) 0) % 2 ^ 32) (places (length (now (sums .entry))) 0) ⌝ }
+{
+    let from = least(start, day.len());
+    let length = least(day.len() - from, sums.len());
+    let end = from + length;
+    let part = &mut sums[..length];
+    add_part(part, &day[from..end]);
+}
+
+// The sums over the chosen days of the quarters from `start` on.
+fn sum_days(readings: &[u32], at: [u32; 5], count: usize, start: usize, sums: &mut [u32])
+    requires { ⌜ count ≤ 5 ⌝ }
+    ensures { λ _. ⌜ now (sums .exit) ≡ map (λ q. quarterSum (now (readings .entry)) (take count at) (start + q) % 2 ^ 32) (places (length (now (sums .entry))) 0) ⌝ }
+{
+    clear(sums);
+    let mut k = 0;
+    while k < count {
+        let day = rooms::part_at(readings, at[k]);
+        add_day(sums, day, start);
+        k += 1;
+    }
+}
+
+// A numerator: twelve times a sum and the adjustment's numerator, floored at zero.
+fn numerator(sum: u32, adjustment: i64) -> u32
+    requires { ⌜ mag adjustment < 2 ^ 40 ⌝ }
+    ensures { λ r. ⌜ r ≡ floored (unfloored sum adjustment) % 2 ^ 32 ⌝ }
+{
+    let raw = 12 * (sum as i64) + adjustment;
+    if raw < 0 {
+        0
+    } else {
+        ((raw as u64) % 4294967296) as u32
+    }
+}
+
+// Every sum becomes its numerator.
+fn floor(sums: &mut [u32], adjustment: i64)
+    requires { ⌜ mag adjustment < 2 ^ 40 ⌝ }
+    ensures { λ _. ⌜ now (sums .exit) ≡ map (λ q. floored (unfloored (getD (now (sums .entry)) q 0) adjustment) % 2 ^ 32) (places (length (now (sums .entry))) 0) ⌝ }
+{
+    let mut q = 0;
+    while q < sums.len() {
+        sums[q] = numerator(sums[q], adjustment);
+        q += 1;
+    }
+}
+
+// B: what the chosen days have in the adjustment window.
+fn sum_windows(readings: &[u32], at: [u32; 5], count: usize, end: u32) -> u64
+    requires { ⌜ count ≤ 5 ⌝ }
+    ensures { λ r. ⌜ (r ≡ windowSums (now (readings .entry)) (take count at) end) × (r ≤ 257698037700) ⌝ }
+{
+    let mut total: u64 = 0;
+    let mut k = 0;
+    while k < count {
+        let day = rooms::part_at(readings, at[k]);
+        total += window::window_sum(end, day, day);
+        k += 1;
+    }
+    total
+}
+
+// The adjustment's numerator, N·A - B, of A and the chosen days.
+fn adjustment(readings: &[u32], at: [u32; 5], count: usize, end: u32, own: u64) -> i64
+    requires { ⌜ (count ≤ 5) × (own ≤ 51539607540) ⌝ }
+    ensures { λ r. ⌜ (r ≡ adjusted count own (windowSums (now (readings .entry)) (take count at) end)) × (mag r < 2 ^ 40) ⌝ }
+{
+    let usual = sum_windows(readings, at, count, end);
+    (((count as u64) * own) as i64) - (usual as i64)
+}
+
+// The adjustment's numerator, and into the output the numerators of the quarters from the event's first on.
+pub fn write(
+    readings: &[u32],
+    chosen: Places,
+    yesterday: &[u32],
+    today: &[u32],
+    out: &mut [u32],
+) -> i64
+    ensures { λ r. ⌜ Written (now (readings .entry)) chosen (now (yesterday .entry)) (now (today .entry)) (length (now (out .entry))) r (now (out .exit)) ⌝ }
+{
+    let at = chosen.at;
+    let count = least(chosen.count as usize, 5);
+    let own = window::window_sum(chosen.end, yesterday, today);
+    let adjustment = adjustment(readings, at, count, chosen.end, own);
+    sum_days(readings, at, count, chosen.start as usize, out);
+    floor(out, adjustment);
+    adjustment
+}
