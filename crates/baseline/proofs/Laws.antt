@@ -18,7 +18,7 @@ use Rattle.method.specs.Table.{Table, Day, History}
 use Rattle.method.specs.Adjustment.{places, adjustmentEnd, A, S, adjustment, unfloored, floored, baselineAt}
 use Rattle.method.specs.Method.{outcome}
 use Rattle.method.specs.HighXofY.{highXofY}
-use Rattle.method.specs.Verdict.{Reply, Answer as Numbers, refused, answered, tableRefusals, requestRefusals, closing, verdict}
+use Rattle.method.specs.Verdict.{Reply, Answer as Numbers, refused, answered, closing, verdict}
 use Rattle.rooms.specs.declared.Directory.{Directory}
 use Rattle.rooms.specs.Rooms.{partAt, roomHistory}
 use Rattle.choose.specs.declared.Choosing.{Choosing}
@@ -31,11 +31,11 @@ use Rattle.refusals.specs.declared.Tested.the-variants.{Passed, Failed}
 use Rattle.table.specs.Directory.{directoryOf}
 use Rattle.table.specs.Part.{DayPart}
 use Rattle.numerators.proofs.Signed.{numerator-is}
-use Rattle.refusals.specs.Tests.{tested}
+use Rattle.refusals.specs.Tests.{tested, callRefusals}
 use Rattle.baseline.specs.Ready.{Answers, Ready, replyOf}
-use Rattle.baseline.proofs.Rooms.{Passes, fit}
+use Rattle.baseline.proofs.Rooms.{fit}
 use Rattle.baseline.proofs.Choosing.{short-is, few-is, days-is, ready, reply-is}
-use Rattle.baseline.proofs.Steps.{table-refused, request-refused, over-table, no-window, numbers-most}
+use Rattle.baseline.proofs.Steps.{call-refused, over-table, no-window, numbers-most}
 
 -- ---- one outcome
 pub one-outcome : (reply : Reply) → ((w : Refusal) × (reply ≡ refused w)) ⊎ ((a : Numbers) × (reply ≡ answered a))
@@ -71,7 +71,7 @@ module _ (group : ℕ → Group) (t : Table) (r : Request) (room : ℕ) where
   abbrev Most : Numbers → Type 0
   Most a = all (λ x. leb x 1200000000) (a .numerators) ≡ true
 
-  module _ (p : Passes t r room) where
+  module _ (p : tested (callRefusals t r room) ≡ Passed) where
     abbrev rooms : Directory
     rooms = directoryOf t (r .event)
 
@@ -104,11 +104,8 @@ module _ (group : ℕ → Group) (t : Table) (r : Request) (room : ℕ) where
             (reply-is group r rooms (t .readings) room (fit t r room p) c x ∙ e)
 
   pub never-above : (a : Numbers) → verdict group t r room ≡ answered a → Most a
-  never-above a e = go (tested (tableRefusals t)) (tested (requestRefusals t r room)) refl refl
+  never-above a e = go (tested (callRefusals t r room)) refl
     where
-      go : (x y : Tested) → tested (tableRefusals t) ≡ x → tested (requestRefusals t r room) ≡ y → Most a
-      go (Failed w) y p q = absurd (never-both (table-refused group t r room p) e)
-      go Passed (Failed w) p q = absurd (never-both (request-refused group t r room p q) e)
-      go Passed Passed p q =
-          let k : Passes t r room = record { table = p; request = q } in
-          passed-most k (over-table group t r room k refl ∙ e)
+      go : (x : Tested) → tested (callRefusals t r room) ≡ x → Most a
+      go (Failed w) p = absurd (never-both (call-refused group t r room p) e)
+      go Passed p = passed-most p (over-table group t r room p refl ∙ e)

@@ -14,21 +14,21 @@ use Rattle.choose.proofs.Rooms.{Agree, rooms-outcome}
 use Rattle.table.specs.Directory.{directoryOf}
 use Rattle.table.proofs.Rooms.{rooms-held, room-day, room-inside}
 use Rattle.refusals.specs.declared.Tested.the-variants.{Passed}
-use Rattle.refusals.specs.Tests.{tested}
-use Rattle.refusals.proofs.FirstRefusal.{Good, Fits, table-passed, request-passed}
+use Rattle.refusals.specs.Tests.{tested, callRefusals}
+use Rattle.refusals.proofs.FirstRefusal.{Good, Fits, passed-both, table-passed, request-passed}
 use Rattle.baseline.specs.Ready.{Fit}
 
 -- none of the refusals 1 to 7 applies
-pub record Passes (t : Table) (r : Request) (room : ℕ) : Type 0 where
-  pub table : tested (tableRefusals t) ≡ Passed
-  pub request : tested (requestRefusals t r room) ≡ Passed
+module _ (t : Table) (r : Request) (room : ℕ) (p : tested (callRefusals t r room) ≡ Passed) where
+  passes : (tested (tableRefusals t) ≡ Passed) × (tested (requestRefusals t r room) ≡ Passed)
+  unfolding callRefusals
+  passes = passed-both (tableRefusals t) (requestRefusals t r room) p
 
-module _ (t : Table) (r : Request) (room : ℕ) (p : Passes t r room) where
   good : Good t
-  good = table-passed t (p .table)
+  good = table-passed t (passes .0)
 
   fits : Fits t r room
-  fits = request-passed t r room (p .request)
+  fits = request-passed t r room (passes .1)
 
   pub fit : Fit r (directoryOf t (r .event)) (t .readings) room
   fit =

@@ -26,8 +26,8 @@ use Rattle.method.specs.Table.{Table, Day, History, goodReading, history}
 use Rattle.method.specs.Adjustment.{places, ruler, adjustmentEnd, A, B, S, adjustment, unfloored, floored, baselineAt, baseline}
 use Rattle.method.specs.Method.{outcome}
 use Rattle.method.specs.HighXofY.{highXofY}
-use Rattle.method.specs.Verdict.{Reply, Answer as Numbers, refused, answered, tableRefusals, requestRefusals, closing, methodology}
-use Rattle.method.specs.Verdict.{verdict, written}
+use Rattle.method.specs.Verdict.{Reply, Answer as Numbers, refused, answered, tableRefusals, requestRefusals, closing, firstOf}
+use Rattle.method.specs.Verdict.{methodology, verdict, written}
 use Rattle.rooms.specs.declared.Directory.{Directory}
 use Rattle.rooms.specs.Rooms.{partAt, roomHistory}
 use Rattle.window.proofs.Laws.{adjustment-holds, adjustment-least, adjustment-most, window-most}
@@ -36,16 +36,15 @@ use Rattle.numerators.specs.declared.Places.{Places}
 use Rattle.numerators.specs.Numerators.{quarterSum, windowSums, chosenAt, adjustmentOf, numeratorsOf, Written}
 use Rattle.numerators.proofs.Signed.{mag-difference, numerator-is}
 use Rattle.choose.specs.declared.Chosen.{Chosen}
-use Rattle.choose.specs.Choice.{inFive}
 use Rattle.table.specs.Directory.{directoryOf}
 use Rattle.refusals.specs.declared.Tested.the-variants.{Passed, Failed}
-use Rattle.refusals.specs.Tests.{tested}
-use Rattle.refusals.proofs.FirstRefusal.{GoodRequest, good-request, first-failed, first-passed}
+use Rattle.refusals.specs.Tests.{tested, callRefusals}
+use Rattle.refusals.proofs.FirstRefusal.{GoodRequest, good-request, first-append, first-failed, first-passed}
 use Rattle.baseline.specs.declared.Answer.{Answer}
 use Rattle.baseline.specs.declared.Given.the-variants.{Answered}
 use Rattle.baseline.specs.Answer.{answerOf}
-use Rattle.baseline.specs.Ready.{Answers, startOf, InDirectory, isWhole, withDays, Ready, replyOf}
-use Rattle.baseline.proofs.Rooms.{Passes, outcome-is}
+use Rattle.baseline.specs.Ready.{Answers, startOf, InDirectory, placedOf, isWhole, withDays, Ready, replyOf}
+use Rattle.baseline.proofs.Rooms.{outcome-is}
 use Rattle.baseline.proofs.Whole.{map-map, day-part, day-back, day-good, quarter-most, windows-most, S-is, B-is}
 use Rattle.baseline.proofs.Choosing.{five-take}
 
@@ -56,29 +55,19 @@ unfolding written
 refuses out e f = record { answer = e ∙ ap answerOf (sym f); output = rw f }
 
 module _ (group : ℕ → Group) (t : Table) (r : Request) (room : ℕ) where
-  pub table-refused : {w : Refusal} → tested (tableRefusals t) ≡ Failed w → verdict group t r room ≡ refused w
-  unfolding verdict
-  table-refused {w} e = first-failed (tableRefusals t) w (methodology group t r room) e
+  as-call : verdict group t r room ≡ firstOf (callRefusals t r room) (closing (outcome (highXofY group r) (history t)))
+  unfolding verdict methodology callRefusals
+  as-call = sym (first-append (tableRefusals t) (requestRefusals t r room) (closing (outcome (highXofY group r) (history t))))
 
-  pub request-refused : {w : Refusal} → tested (tableRefusals t) ≡ Passed → tested (requestRefusals t r room) ≡ Failed w
-      → verdict group t r room ≡ refused w
-  unfolding verdict methodology
-  request-refused {w} p e =
-      first-passed (tableRefusals t) (methodology group t r room) p ∙
-      first-failed (requestRefusals t r room) w (closing (outcome (highXofY group r) (history t))) e
-
-  pub none-refused : Passes t r room → verdict group t r room ≡ closing (outcome (highXofY group r) (history t))
-  unfolding verdict methodology
-  none-refused p =
-      first-passed (tableRefusals t) (methodology group t r room) (p .table) ∙
-      first-passed (requestRefusals t r room) (closing (outcome (highXofY group r) (history t))) (p .request)
+  pub call-refused : {w : Refusal} → tested (callRefusals t r room) ≡ Failed w → verdict group t r room ≡ refused w
+  call-refused {w} e = as-call ∙ first-failed (callRefusals t r room) w (closing (outcome (highXofY group r) (history t))) e
 
   -- over the directory of the table's event
-  pub over-table : Passes t r room → {rooms : Directory} → rooms ≡ directoryOf t (r .event)
+  pub over-table : tested (callRefusals t r room) ≡ Passed → {rooms : Directory} → rooms ≡ directoryOf t (r .event)
       → closing (outcome (highXofY group r) (roomHistory r rooms (t .readings))) ≡ verdict group t r room
   over-table p e =
       ap (λ (d : Directory). closing (outcome (highXofY group r) (roomHistory r d (t .readings)))) e ∙ ap closing (outcome-is t r room p group) ∙
-      sym (none-refused p)
+      sym (as-call ∙ first-passed (callRefusals t r room) (closing (outcome (highXofY group r) (history t))) p)
 
 -- ---- a rule at each place
 all-index : (p : ℕ → Bool) (xs : List ℕ) → all p xs ≡ true → (i : ℕ) → i < length xs → p (getD xs i 0) ≡ true
@@ -115,7 +104,7 @@ module _ (r : Request) (rooms : Directory) (readings : List ℕ) (room : ℕ) (c
   pub room-long : (out : List ℕ) → length out ≡ room → length (take (r .e - r .s) out) ≡ r .e - r .s
   room-long out e = rw length-take (omega (arith, room-enough))
 
-  five-long : length (chosen .days) ≡ 5
+  pub five-long : length (chosen .days) ≡ 5
   five-long = ap length (k .five) ∙ rw (length-take, length-append, length-replicate) (omega arith)
 
   days-long : length days ≡ chosen .count
@@ -240,21 +229,18 @@ module _ (r : Request) (rooms : Directory) (readings : List ℕ) (room : ℕ) (c
           (λ q x y. le-leb (floored (unfloored (quarterSum readings at (r .s - 96 + q)) adj)) 1200000000 (numerator (r .s - 96 + q)))))
 
       -- what is worked out from the places of the days
-      module _ {starts : List ℕ} (es : starts ≡ inFive at) where
-        abbrev placed : Places
-        placed = record { at = starts; count = chosen .count; end = end; start = r .s - 96 }
-
+      module _ {placed : Places} (es : placed ≡ placedOf r rooms chosen end) where
         count-is : min (chosen .count) 5 ≡ chosen .count
         count-is = omega (arith, k .few)
 
-        placed-is : chosenAt placed ≡ at
+        placed-is : chosenAt (placedOf r rooms chosen end) ≡ at
         placed-is =
             let l : length at ≡ chosen .count = length-map days (startOf rooms (r .event)) ∙ days-long in
-            rw (es, count-is) (rw l at (five-take at (omega (arith, l, k .few))))
+            rw count-is (rw l at (five-take at (omega (arith, l, k .few))))
 
         given-is : adjustmentOf readings placed y z ≡ adj
         unfolding adjustmentOf
-        given-is = rw (placed-is, count-is)
+        given-is = rw (es, placed-is, count-is)
 
         module _ {size : ℕ} {given : ℤ} {ys : List ℕ} (w : Written readings placed y z size given ys) where
           -- the adjustment as a number of 64 bits
@@ -267,7 +253,7 @@ module _ (r : Request) (rooms : Directory) (readings : List ℕ) (room : ℕ) (c
           written-is : size ≡ r .e - r .s → ys ≡ numbers
           unfolding numeratorsOf
           written-is e =
-              w .output ∙ rw (e, placed-is, given-is)
+              w .output ∙ rw (e, given-is, es, placed-is)
               (over-same (λ q. floored (unfloored (quarterSum readings at (r .s - 96 + q) % 2 ^ 32) adj) % 2 ^ 32)
               (λ q. floored (unfloored (quarterSum readings at (r .s - 96 + q)) adj)) (r .e - r .s) 0 (λ q a b. exact (r .s - 96 + q)) ∙
               sym numbers-are)

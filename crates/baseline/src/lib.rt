@@ -1,6 +1,5 @@
 // The baseline over a lent table: the public call.
 ghost use mathlib.Core.Path.{_≡_};
-ghost use mathlib.Core.List.{map};
 ghost use Prim.Native.Nat.{_≤_};
 ghost use lib.ListN.{length, take};
 ghost use Rattle.calendar.specs.Holidays.{group};
@@ -8,10 +7,9 @@ ghost use Rattle.method.specs.Method.{outcome};
 ghost use Rattle.method.specs.HighXofY.{highXofY};
 ghost use Rattle.method.specs.Verdict.{refused, closing, verdict};
 ghost use Rattle.rooms.specs.Rooms.{roomHistory};
-ghost use Rattle.choose.specs.Choice.{inFive};
 ghost use Rattle.table.specs.Lent.{tableOf};
 ghost use Rattle.baseline.specs.Answer.{answerOf};
-ghost use Rattle.baseline.specs.Ready.{Answers, startOf, InDirectory, Fit, Ready, replyOf};
+ghost use Rattle.baseline.specs.Ready.{Answers, InDirectory, placedOf, Fit, Ready, replyOf};
 use choose::Choosing;
 use choose::Chosen;
 use method::Refusal;
@@ -51,19 +49,25 @@ fn refuse(refusal: Refusal) -> Answer
     }
 }
 
-// Where the readings of chosen days start, by the directory of the days before the event.
-fn places_of(event: u32, rooms: Directory, days: [u32; 5], count: usize) -> [u32; 5]
-    requires { ⌜ (count ≤ 5) × InDirectory event (take count days) ⌝ }
-    ensures { λ r. ⌜ r ≡ inFive (map (startOf rooms event) (take count days)) ⌝ }
+// Where the chosen days stand, by the directory of the days before the event, and what is to be worked out of them.
+fn placed(request: Request, rooms: Directory, chosen: Chosen, end: u32) -> Places
+    requires { ⌜ (96 ≤ request .s) × (chosen .count ≤ 5) × (length (chosen .days) ≡ 5) × InDirectory (request .event) (take (chosen .count) (chosen .days)) ⌝ }
+    ensures { λ r. ⌜ r ≡ placedOf request rooms chosen end ⌝ }
 {
     let mut at = [0u32; 5];
     let mut k = 0;
-    while k < count {
-        let back = (event - days[k]) as usize;
-        at[k] = rooms.at[back];
+    while k < chosen.count {
+        let place = k as usize;
+        let back = (request.event - chosen.days[place]) as usize;
+        at[place] = rooms.at[back];
         k += 1;
     }
-    at
+    Places {
+        at: at,
+        count: chosen.count,
+        end: end,
+        start: request.s - 96,
+    }
 }
 
 // Days are chosen: refusal 10, or the answer, with the numerators in the output.
@@ -83,13 +87,7 @@ fn finish(
     if end == 0 {
         return refuse(Refusal::NoAdjustmentWindow(chosen.reach));
     }
-    let days = chosen.days;
-    let places = Places {
-        at: places_of(request.event, rooms, days, chosen.count as usize),
-        count: chosen.count,
-        end: end,
-        start: request.s - 96,
-    };
+    let places = placed(request, rooms, chosen, end);
     let length = (request.e - request.s) as usize;
     let part = &mut out[..length];
     let adjustment = numerators::write(readings, places, yesterday, today, part);
@@ -131,18 +129,12 @@ pub fn baseline(
 ) -> Answer
     ensures { λ r. ⌜ Answers (verdict group (tableOf first (now (marks .entry)) (now (readings .entry))) request (length (now (out .entry)))) r (now (out .entry)) (now (out .exit)) ⌝ }
 {
-    let of_table = refusals::of_table(first, marks, readings);
-    match of_table {
+    let of_call = refusals::of_call(first, marks, readings, request, out.len());
+    match of_call {
         Tested::Failed(refusal) => refuse(refusal),
         Tested::Passed => {
-            let of_request = refusals::of_request(first, marks, request, out.len());
-            match of_request {
-                Tested::Failed(refusal) => refuse(refusal),
-                Tested::Passed => {
-                    let rooms = table::directory(first, marks, request.event);
-                    choose_days(request, rooms, readings, out)
-                }
-            }
+            let rooms = table::directory(first, marks, request.event);
+            choose_days(request, rooms, readings, out)
         }
     }
 }

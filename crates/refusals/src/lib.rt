@@ -1,10 +1,10 @@
 // The refusals 1 to 7, in their order: the first that applies to a table, and to a request over it.
 ghost use mathlib.Core.Path.{_≡_};
-ghost use mathlib.Core.List.{List, _++_};
+ghost use mathlib.Core.List.{List};
 ghost use Prim.Native.Nat.{ℕ};
 ghost use Rattle.method.specs.Verdict.{goodRequest, tableRefusals, requestRefusals};
 ghost use Rattle.table.specs.Lent.{tableOf};
-ghost use Rattle.refusals.specs.Tests.{tested};
+ghost use Rattle.refusals.specs.Tests.{tested, callRefusals};
 use method::Refusal;
 use method::Request;
 
@@ -63,5 +63,16 @@ pub fn of_request(first: u32, marks: &[u8], request: Request, room: usize) -> Te
         }
     } else {
         Tested::Failed(Refusal::BadRequest)
+    }
+}
+
+// 1 to 7: what is wrong with a call over a table.
+pub fn of_call(first: u32, marks: &[u8], readings: &[u32], request: Request, room: usize) -> Tested
+    ensures { λ r. ⌜ r ≡ tested (callRefusals (tableOf first (now (marks .entry)) (now (readings .entry))) request room) ⌝ }
+{
+    let of_table = of_table(first, marks, readings);
+    match of_table {
+        Tested::Failed(refusal) => Tested::Failed(refusal),
+        Tested::Passed => of_request(first, marks, request, room),
     }
 }

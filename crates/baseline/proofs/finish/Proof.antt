@@ -3,7 +3,7 @@ use mathlib.Core.Path.{refl, sym}
 use native.Mathlib.Omega.{arith}
 use borrow.Author.Needs.{needs}
 use lib.ListN.{length}
-use Rattle.baseline.proofs.Steps.{refuses, no-window, ranges, room-enough, room-long, listed, adjusted-back, answers}
+use Rattle.baseline.proofs.Steps.{refuses, no-window, ranges, room-enough, room-long, five-long, listed, adjusted-back, answers}
 use Rattle.baseline.proofs.finish.Statement.{statement}
 use Rattle.baseline.proofs.finish.Tie as tie
 
@@ -32,29 +32,19 @@ returns c =
     let a = s .args in
     let room = length (a .out .now) in
     refuses (a .out .now) (c .refuse .ensures)
-    (no-window (a .request) (a .t2) (a .readings .now) room (a .chosen) (s .pre) (e .before .before .before .part-at .ensures .list)
-    (e .before .part-at2 .ensures .list) (e .adjustment-end .ensures) (c .before .if1 .taken))
+    (no-window (a .request) (a .t2) (a .readings .now) room (a .chosen) (s .pre) (e .before .before .before .part-at .ensures .list) (e .before .part-at2 .ensures .list) (e .adjustment-end .ensures)
+    (c .before .if1 .taken))
 
-cast-places-of : tie.Need-cast-places-of
-cast-places-of c = search needs
-
-places-of-requires : tie.Need-places-of-requires
-places-of-requires c κs =
-    let s = c .before .before .before .before .before .before .before .before .before .before in
+placed-requires : tie.Need-placed-requires
+placed-requires c κs =
+    let s = c .before .before .before .before .before .before .before .before in
     let a = s .args in
     let room = length (a .out .now) in
-    (s .pre .few, listed (a .request) (a .t2) (a .readings .now) room (a .chosen) (s .pre))
+    (ranges (a .request) (a .t2) (a .readings .now) room (a .chosen) (s .pre) .from, s .pre .few, five-long (a .request) (a .t2) (a .readings .now) room (a .chosen) (s .pre), listed (a .request) (a .t2) (a .readings .now) room (a .chosen) (s .pre))
 
 sub-length : tie.Need-sub-length
 sub-length c =
-    let s = c .before .before .before .before .before .before .before .before .before .before .before .before in
-    let a = s .args in
-    let room = length (a .out .now) in
-    ranges (a .request) (a .t2) (a .readings .now) room (a .chosen) (s .pre) .from
-
-sub-length-2 : tie.Need-sub-length-2
-sub-length-2 c =
-    let s = c .before .before .before .before .before .before .before .before .before .before .before .before .before in
+    let s = c .before .before .before .before .before .before .before .before .before .before in
     let a = s .args in
     let room = length (a .out .now) in
     omega (arith, ranges (a .request) (a .t2) (a .readings .now) room (a .chosen) (s .pre) .some)
@@ -64,14 +54,14 @@ cast-length c = search needs
 
 slice-relend-prefix-part : tie.Need-slice-relend-prefix-part
 slice-relend-prefix-part c =
-    let s = c .before .before .before .before .before .before .before .before .before .before .before .before .before in
+    let s = c .before .before .before .before .before .before .before .before .before .before in
     let a = s .args in
     let room = length (a .out .now) in
     room-enough (a .request) (a .t2) (a .readings .now) room (a .chosen) (s .pre)
 
 slice-aggregate-part : tie.Need-slice-aggregate-part
 slice-aggregate-part c =
-    let s = c .before .before .before .before .before .before .before .before .before .before .before .before .before .before in
+    let s = c .before .before .before .before .before .before .before .before .before .before .before in
     let a = s .args in
     let room = length (a .out .now) in
     sym (room-long (a .request) (a .t2) (a .readings .now) room (a .chosen) (s .pre) (a .out .now) refl)
@@ -79,8 +69,8 @@ slice-aggregate-part c =
 write-requires : tie.Need-write-requires
 write-requires c κs = search needs
 
-mul-t17 : tie.Need-mul-t17
-mul-t17 c = omega (arith, c .before .before .before .before .before .before .before .before .before .before .before .before .before .before .before .before .before .before .pre .few)
+mul-t16 : tie.Need-mul-t16
+mul-t16 c = omega (arith, c .before .before .before .before .before .before .before .before .before .before .before .before .before .before .before .pre .few)
 
 same-length : tie.Need-same-length
 same-length c = search needs
@@ -88,15 +78,15 @@ same-length c = search needs
 returns-2 : tie.Need-returns-2
 returns-2 c =
     let w = c .before .before .before .write .ensures in
-    let p = c .before .before .before .before .before .before .before in
-    let e = c .before .before .before .before .before .before .before .before .before .before .before in
-    let s = c .before .before .before .before .before .before .before .before .before .before .before .before .before .before .before .before .before .before in
+    let p = c .before .before .before .before .before .before in
+    let e = c .before .before .before .before .before .before .before .before in
+    let s = c .before .before .before .before .before .before .before .before .before .before .before .before .before .before .before in
     let a = s .args in
     let room = length (a .out .now) in
-    rw (adjusted-back (a .request) (a .t2) (a .readings .now) room (a .chosen) (s .pre) (e .before .before .before .part-at .ensures .list)
-    (e .before .part-at2 .ensures .list) (e .adjustment-end .ensures) (p .before .before .before .if1 .left) (p .places-of .ensures) w)
-    (answers (a .request) (a .t2) (a .readings .now) room (a .chosen) (s .pre) (e .before .before .before .part-at .ensures .list)
-    (e .before .part-at2 .ensures .list) (e .adjustment-end .ensures) (p .before .before .before .if1 .left) (p .places-of .ensures) w
+    rw (adjusted-back (a .request) (a .t2) (a .readings .now) room (a .chosen) (s .pre) (e .before .before .before .part-at .ensures .list) (e .before .part-at2 .ensures .list) (e .adjustment-end .ensures)
+    (p .before .if1 .left) (p .placed .ensures) w)
+    (answers (a .request) (a .t2) (a .readings .now) room (a .chosen) (s .pre) (e .before .before .before .part-at .ensures .list) (e .before .part-at2 .ensures .list) (e .adjustment-end .ensures)
+    (p .before .if1 .left) (p .placed .ensures) w
     (room-long (a .request) (a .t2) (a .readings .now) room (a .chosen) (s .pre) (a .out .now) refl) refl)
 
 pub finish-spec : {M : Type 1} → statement M
@@ -110,14 +100,12 @@ finish-spec =
     adjustment-end-requires
     refuse-requires
     returns
-    cast-places-of
-    places-of-requires
+    placed-requires
     sub-length
-    sub-length-2
     cast-length
     slice-relend-prefix-part
     slice-aggregate-part
     write-requires
-    mul-t17
+    mul-t16
     same-length
     returns-2)
