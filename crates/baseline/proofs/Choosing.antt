@@ -219,7 +219,7 @@ module _ (group : ℕ → Group) (r : Request) (h : History Day) where
     some-before holds = yesterday-held method (lawful group r) h holds enough .0
 
 -- days in five places are as many as there are
-pub five-take : (l : List ℕ) → length l ≤ 5 → take (length l) (inFive l) ≡ l
+five-take : (l : List ℕ) → length l ≤ 5 → take (length l) (inFive l) ≡ l
 five-take l h = take-take (length l) 5 (l ++ replicate 5 0) h ∙ take-append-seam l (replicate 5 0)
 
 -- what `finish` asks, and its reply

@@ -17,7 +17,7 @@ use mir.Val.{toZ, ofZ}
 use mir.ValLaws.{toZ-ofZ}
 use Rattle.lists.specs.Lists.{all}
 use Rattle.lists.proofs.All.{all-append}
-use Rattle.lists.proofs.Bools.{both}
+use Rattle.lists.proofs.Maps.{map-take}
 use Rattle.calendar.specs.declared.Group.{Group}
 use Rattle.method.specs.declared.Request.{Request}
 use Rattle.method.specs.declared.Refusal.{Refusal}
@@ -31,9 +31,10 @@ use Rattle.method.specs.Verdict.{methodology, verdict, written}
 use Rattle.rooms.specs.declared.Directory.{Directory}
 use Rattle.rooms.specs.Rooms.{partAt, roomHistory}
 use Rattle.window.proofs.Laws.{adjustment-holds, adjustment-least, adjustment-most, window-most}
-use Rattle.places.proofs.Places.{length-over, over-same, over-shift}
+use Rattle.places.proofs.Places.{length-over, over-same, over-shift, over-list}
+use Rattle.quarters.specs.Quarters.{quarterSum}
 use Rattle.numerators.specs.declared.Places.{Places}
-use Rattle.numerators.specs.Numerators.{quarterSum, windowSums, chosenAt, adjustmentOf, numeratorsOf, Written}
+use Rattle.numerators.specs.Numerators.{windowSums, placedOf, chosenAt, adjustmentOf, numeratorsOf, Written}
 use Rattle.numerators.proofs.Signed.{mag-difference, numerator-is}
 use Rattle.choose.specs.declared.Chosen.{Chosen}
 use Rattle.table.specs.Directory.{directoryOf}
@@ -43,10 +44,9 @@ use Rattle.refusals.proofs.FirstRefusal.{GoodRequest, good-request, first-appen
 use Rattle.baseline.specs.declared.Answer.{Answer}
 use Rattle.baseline.specs.declared.Given.the-variants.{Answered}
 use Rattle.baseline.specs.Answer.{answerOf}
-use Rattle.baseline.specs.Ready.{Answers, startOf, InDirectory, placedOf, isWhole, withDays, Ready, replyOf}
+use Rattle.baseline.specs.Ready.{Answers, startOf, withDays, Ready, replyOf}
 use Rattle.baseline.proofs.Rooms.{outcome-is}
-use Rattle.baseline.proofs.Whole.{map-map, day-part, day-back, day-good, quarter-most, windows-most, S-is, B-is}
-use Rattle.baseline.proofs.Choosing.{five-take}
+use Rattle.baseline.proofs.Whole.{map-map, day-part, day-good, quarter-most, windows-most, S-is, B-is}
 
 -- ---- refusals
 pub refuses : {reply : Reply} {given : Answer} {w : Refusal} (out : List ℕ) → given ≡ answerOf (refused w) → reply ≡ refused w
@@ -69,14 +69,7 @@ module _ (group : ℕ → Group) (t : Table) (r : Request) (room : ℕ) where
       ap (λ (d : Directory). closing (outcome (highXofY group r) (roomHistory r d (t .readings)))) e ∙ ap closing (outcome-is t r room p group) ∙
       sym (as-call ∙ first-passed (callRefusals t r room) (closing (outcome (highXofY group r) (history t))) p)
 
--- ---- a rule at each place
-all-index : (p : ℕ → Bool) (xs : List ℕ) → all p xs ≡ true → (i : ℕ) → i < length xs → p (getD xs i 0) ≡ true
-unfolding all
-all-index p [] t i h = absurd (omega arith)
-all-index p (x ∷ xs) t zero h = both (p x) (all p xs) t .0
-all-index p (x ∷ xs) t (suc i) h = all-index p xs (both (p x) (all p xs) t .1) i (omega arith)
-
--- a rule of every place
+-- ---- a rule of every place
 all-over : {A : Type 0} (p : A → Bool) (f : ℕ → A) (n t : ℕ) → ((q : ℕ) → t ≤ q → q < t + n → p (f q) ≡ true)
     → all p (map f (places n t)) ≡ true
 unfolding all places
@@ -104,17 +97,11 @@ module _ (r : Request) (rooms : Directory) (readings : List ℕ) (room : ℕ) (c
   pub room-long : (out : List ℕ) → length out ≡ room → length (take (r .e - r .s) out) ≡ r .e - r .s
   room-long out e = rw length-take (omega (arith, room-enough))
 
-  pub five-long : length (chosen .days) ≡ 5
+  five-long : length (chosen .days) ≡ 5
   five-long = ap length (k .five) ∙ rw (length-take, length-append, length-replicate) (omega arith)
 
   days-long : length days ≡ chosen .count
   days-long = rw length-take (omega (arith, five-long, k .few))
-
-  -- each has an entry in the directory
-  pub listed : InDirectory (r .event) days
-  listed i l =
-      let w = day-back r rooms readings (k .fit) (getD days i 0) (all-index (isWhole h) days (k .whole) i l) in
-      (w .0, w .2)
 
   -- yesterday's and today's readings, and the ruler
   module _ {y z : List ℕ} (ey : y ≡ partAt readings (getD (rooms .at) 1 0)) (ez : z ≡ partAt readings (getD (rooms .at) 0 0)) {end : ℕ}
@@ -229,14 +216,16 @@ module _ (r : Request) (rooms : Directory) (readings : List ℕ) (room : ℕ) (c
           (λ q x y. le-leb (floored (unfloored (quarterSum readings at (r .s - 96 + q)) adj)) 1200000000 (numerator (r .s - 96 + q)))))
 
       -- what is worked out from the places of the days
-      module _ {placed : Places} (es : placed ≡ placedOf r rooms chosen end) where
+      module _ {placed : Places} (es : placed ≡ placedOf r (rooms .at) (chosen .days) (chosen .count) end) where
         count-is : min (chosen .count) 5 ≡ chosen .count
         count-is = omega (arith, k .few)
 
-        placed-is : chosenAt (placedOf r rooms chosen end) ≡ at
+        placed-is : chosenAt (placedOf r (rooms .at) (chosen .days) (chosen .count) end) ≡ at
         placed-is =
-            let l : length at ≡ chosen .count = length-map days (startOf rooms (r .event)) ∙ days-long in
-            rw count-is (rw l at (five-take at (omega (arith, l, k .few))))
+            rw (count-is, map-take (startOf rooms (r .event)) (chosen .count) (chosen .days)) (ap (take (chosen .count)) starts)
+          where
+            starts : map (λ k. startOf rooms (r .event) (getD (chosen .days) k 0)) (places 5 0) ≡ map (startOf rooms (r .event)) (chosen .days)
+            starts = rw five-long at (over-list (startOf rooms (r .event)) (chosen .days))
 
         given-is : adjustmentOf readings placed y z ≡ adj
         unfolding adjustmentOf

@@ -19,8 +19,9 @@ use Rattle.method.proofs.Histories.{is-held, held-first, held-last}
 use Rattle.rooms.specs.declared.Directory.{Directory}
 use Rattle.rooms.specs.Rooms.{partAt, roomDay, heldRooms, roomHistory}
 use Rattle.window.proofs.Laws.{all-in-range, day-most, whole, B-by-days}
-use Rattle.numerators.specs.Numerators.{quarterSum, windowSums}
-use Rattle.numerators.proofs.Adding.{part-all}
+use Rattle.quarters.specs.Quarters.{quarterSum}
+use Rattle.numerators.specs.Numerators.{windowSums}
+use Rattle.numerators.proofs.Windows.{part-all}
 use Rattle.baseline.specs.Ready.{startOf, isWhole, withDays, Fit}
 
 -- a sum over days, each of which adds at most `b`
@@ -60,19 +61,19 @@ module _ (r : Request) (rooms : Directory) (readings : List ℕ) where
       sym (map-map (λ a. getD (partAt readings a) (q % 96) 0) start ds))
 
   module _ {room : ℕ} (fit : Fit r rooms readings room) where
-    -- where a held day lies, and that it has its ninety-six readings
-    pub day-back : (d : ℕ) → isWhole h d ≡ true → (d ≤ r .event) × (r .event - d ≤ heldRooms r rooms) × (r .event - d ≤ 45)
+    -- a held day has its ninety-six readings
+    day-back : (d : ℕ) → isWhole h d ≡ true → r .event - d ≤ heldRooms r rooms
     unfolding isWhole roomHistory heldRooms
     day-back d e =
         let w = both (held h d) (complete (h .day d)) e .0 in
         let a = held-first h d w in
         let b = held-last h d w in
-        (omega arith, omega arith, omega arith)
+        omega arith
 
     day-size : (d : ℕ) → isWhole h d ≡ true → length (h .day d .readings) ≡ 96
     unfolding partAt
     day-size d e =
-        let w = fit .stands (r .event - d) (day-back d e .1) in
+        let w = fit .stands (r .event - d) (day-back d e) in
         rw (day-part d, le-leb (start d + 96) (length readings) w, length-take, length-drop) (omega arith)
 
     pub day-good : (d : ℕ) → all goodReading (h .day d .readings) ≡ true

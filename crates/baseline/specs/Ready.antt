@@ -13,7 +13,6 @@ use Rattle.method.specs.Method.{chose}
 use Rattle.method.specs.Verdict.{Reply, goodRequest, closing, written}
 use Rattle.rooms.specs.declared.Directory.{Directory}
 use Rattle.rooms.specs.Rooms.{heldRooms, roomHistory}
-use Rattle.numerators.specs.declared.Places.{Places}
 use Rattle.choose.specs.declared.Chosen.{Chosen}
 use Rattle.choose.specs.Choice.{inFive}
 use Rattle.baseline.specs.declared.Answer.{Answer}
@@ -27,20 +26,6 @@ pub record Answers (reply : Reply) (given : Answer) (before after : List ℕ) : 
 -- where the readings of a day start, by the directory of an event
 abbrev pub startOf : Directory → ℕ → ℕ → ℕ
 startOf rooms event day = getD (rooms .at) (event - day) 0
-
--- days that have an entry in the directory of an event
-abbrev pub InDirectory : ℕ → List ℕ → Type 0
-InDirectory event days = (k : ℕ) → k < length days → (getD days k 0 ≤ event) × (event - getD days k 0 ≤ 45)
-
--- where chosen days stand, and what is to be worked out of them
-abbrev pub placedOf : Request → Directory → Chosen → ℕ → Places
-placedOf r rooms chosen end =
-    record {
-      at = inFive (map (startOf rooms (r .event)) (take (chosen .count) (chosen .days)));
-      count = chosen .count;
-      end = end;
-      start = r .s - 96;
-    }
 
 -- the request is good and the output long enough, no reading is out of range, and every held day's readings stand whole
 pub record Fit (r : Request) (rooms : Directory) (readings : List ℕ) (room : ℕ) : Type 0 where

@@ -1,7 +1,6 @@
 // The baseline over a lent table: the public call.
 ghost use mathlib.Core.Path.{_≡_};
-ghost use Prim.Native.Nat.{_≤_};
-ghost use lib.ListN.{length, take};
+ghost use lib.ListN.{length};
 ghost use Rattle.calendar.specs.Holidays.{group};
 ghost use Rattle.method.specs.Method.{outcome};
 ghost use Rattle.method.specs.HighXofY.{highXofY};
@@ -9,12 +8,11 @@ ghost use Rattle.method.specs.Verdict.{refused, closing, verdict};
 ghost use Rattle.rooms.specs.Rooms.{roomHistory};
 ghost use Rattle.table.specs.Lent.{tableOf};
 ghost use Rattle.baseline.specs.Answer.{answerOf};
-ghost use Rattle.baseline.specs.Ready.{Answers, InDirectory, placedOf, Fit, Ready, replyOf};
+ghost use Rattle.baseline.specs.Ready.{Answers, Fit, Ready, replyOf};
 use choose::Choosing;
 use choose::Chosen;
 use method::Refusal;
 use method::Request;
-use numerators::Places;
 use refusals::Tested;
 use rooms::Directory;
 
@@ -49,27 +47,6 @@ fn refuse(refusal: Refusal) -> Answer
     }
 }
 
-// Where the chosen days stand, by the directory of the days before the event, and what is to be worked out of them.
-fn placed(request: Request, rooms: Directory, chosen: Chosen, end: u32) -> Places
-    requires { ⌜ (96 ≤ request .s) × (chosen .count ≤ 5) × (length (chosen .days) ≡ 5) × InDirectory (request .event) (take (chosen .count) (chosen .days)) ⌝ }
-    ensures { λ r. ⌜ r ≡ placedOf request rooms chosen end ⌝ }
-{
-    let mut at = [0u32; 5];
-    let mut k = 0;
-    while k < chosen.count {
-        let place = k as usize;
-        let back = (request.event - chosen.days[place]) as usize;
-        at[place] = rooms.at[back];
-        k += 1;
-    }
-    Places {
-        at: at,
-        count: chosen.count,
-        end: end,
-        start: request.s - 96,
-    }
-}
-
 // Days are chosen: refusal 10, or the answer, with the numerators in the output.
 fn finish(
     request: Request,
@@ -87,7 +64,9 @@ fn finish(
     if end == 0 {
         return refuse(Refusal::NoAdjustmentWindow(chosen.reach));
     }
-    let places = placed(request, rooms, chosen, end);
+    let starts = rooms.at;
+    let days = chosen.days;
+    let places = numerators::placed(request, starts, days, chosen.count, end);
     let length = (request.e - request.s) as usize;
     let part = &mut out[..length];
     let adjustment = numerators::write(readings, places, yesterday, today, part);

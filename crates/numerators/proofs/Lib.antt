@@ -1,2 +1,2 @@
 pub mod Signed
-pub mod Adding
+pub mod Windows

@@ -1,21 +1,29 @@
 -- 01, "Adjustment and baseline", of chosen days that are read where they stand in lent readings.
-use Prim.Native.Nat.{ℕ, _+_, _%_, _^_, min}
+use Prim.Native.Nat.{ℕ, _+_, _-_, _%_, _^_, min}
 use mathlib.Core.Path.{_≡_}
 use mathlib.Core.List.{List, _++_, map}
 use lib.ListN.{getD, take}
 use lib.IntN.{ℤ}
 use Rattle.lists.specs.Lists.{sumOf}
+use Rattle.method.specs.declared.Request.{Request}
 use Rattle.method.specs.Adjustment.{A, places, adjustment, unfloored, floored}
 use Rattle.rooms.specs.Rooms.{partAt}
+use Rattle.quarters.specs.Quarters.{quarterSum}
 use Rattle.numerators.specs.declared.Places.{Places}
-
--- S: the sum, over days, of the reading at a quarter of the day
-unfoldable pub quarterSum : List ℕ → List ℕ → ℕ → ℕ
-quarterSum readings at q = sumOf (map (λ a. getD (partAt readings a) q 0) at)
 
 -- B: the sum, over days, of the twelve readings that end at a place of the ruler that has the day twice
 unfoldable pub windowSums : List ℕ → List ℕ → ℕ → ℕ
 windowSums readings at end = sumOf (map (λ a. A (partAt readings a ++ partAt readings a) end) at)
+
+-- the places of chosen days, by where the days before an event start: entry i is the i-th day before it
+abbrev pub placedOf : Request → List ℕ → List ℕ → ℕ → ℕ → Places
+placedOf r starts days count end =
+    record {
+      at = map (λ k. getD starts (r .event - getD days k 0) 0) (places 5 0);
+      count = count;
+      end = end;
+      start = r .s - 96;
+    }
 
 -- N: of more than five, five
 abbrev pub counted : Places → ℕ

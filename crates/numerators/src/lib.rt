@@ -2,11 +2,12 @@
 // readings, and numbers of 32 bits wrap.
 ghost use mathlib.Core.Path.{_≡_};
 ghost use mathlib.Core.List.{map};
-ghost use Prim.Native.Nat.{_+_, _%_, _^_, _≤_, _<_, min};
+ghost use Prim.Native.Nat.{_-_, _%_, _^_, _≤_, _<_, min};
 ghost use lib.ListN.{length, getD, take};
 ghost use lib.Signed.{mag};
 ghost use Rattle.method.specs.Adjustment.{places, unfloored, floored, adjustment as adjusted};
-ghost use Rattle.numerators.specs.Numerators.{quarterSum, windowSums, Written};
+ghost use Rattle.numerators.specs.Numerators.{windowSums, placedOf, Written};
+use method::Request;
 
 // Where the chosen days stand, how many of the five they are, where the adjustment window ends, and the event's first quarter of the day.
 pub struct Places {
@@ -17,57 +18,47 @@ pub struct Places {
 }
 
 // The lesser of two numbers.
-fn least(a: usize, b: usize) -> usize
+fn least(a: u32, b: u32) -> u32
     ensures { λ r. ⌜ r ≡ min a b ⌝ }
 {
     if a < b { a } else { b }
 }
 
-// Every sum becomes nought.
-fn clear(sums: &mut [u32])
-    ensures { λ _. ⌜ now (sums .exit) ≡ map (λ q. 0) (places (length (now (sums .entry))) 0) ⌝ }
+// The first number less the second; 0 where it is not above it.
+fn minus(a: u32, b: u32) -> u32
+    ensures { λ r. ⌜ r ≡ a - b ⌝ }
 {
-    let mut q = 0;
-    while q < sums.len() {
-        sums[q] = 0;
-        q += 1;
-    }
+    if b <= a { a - b } else { 0 }
 }
 
-// The readings of a part are added to the sums, quarter by quarter.
-fn add_part(sums: &mut [u32], part: &[u32])
-    requires { ⌜ length (now part) ≡ length (now sums) ⌝ }
-    ensures { λ _. ⌜ now (sums .exit) ≡ map (λ q. (getD (now (sums .entry)) q 0 + getD (now (part .entry)) q 0) % 2 ^ 32) (places (length (now (sums .entry))) 0) ⌝ }
+// Where the readings of the day so many days before the event start; 0 past the directory.
+fn start_of(starts: [u32; 46], back: u32) -> u32
+    ensures { λ r. ⌜ r ≡ getD starts back 0 ⌝ }
 {
-    let mut q = 0;
-    while q < sums.len() {
-        sums[q] = std::num::wrapping_add_u32(sums[q], part[q]);
-        q += 1;
-    }
+    if back < 46 { starts[back as usize] } else { 0 }
 }
 
-// What a day has from `start` on is added to the sums.
-fn add_day(sums: &mut [u32], day: &[u32], start: usize)
-    ensures { λ _. ⌜ now (sums .exit) ≡ map (λ q. (getD (now (sums .entry)) q 0 + getD (now (day .entry)) (start + q) 0) % 2 ^ 32) (places (length (now (sums .entry))) 0) ⌝ }
+// The places of chosen days, by where the days before an event start.
+pub fn placed(
+    request: Request,
+    starts: [u32; 46],
+    days: [u32; 5],
+    count: u32,
+    end: u32,
+) -> Places
+    ensures { λ r. ⌜ r ≡ placedOf request starts days count end ⌝ }
 {
-    let from = least(start, day.len());
-    let length = least(day.len() - from, sums.len());
-    let end = from + length;
-    let part = &mut sums[..length];
-    add_part(part, &day[from..end]);
-}
-
-// The sums over the chosen days of the quarters from `start` on.
-fn sum_days(readings: &[u32], at: [u32; 5], count: usize, start: usize, sums: &mut [u32])
-    requires { ⌜ count ≤ 5 ⌝ }
-    ensures { λ _. ⌜ now (sums .exit) ≡ map (λ q. quarterSum (now (readings .entry)) (take count at) (start + q) % 2 ^ 32) (places (length (now (sums .entry))) 0) ⌝ }
-{
-    clear(sums);
+    let mut at = [0u32; 5];
     let mut k = 0;
-    while k < count {
-        let day = rooms::part_at(readings, at[k]);
-        add_day(sums, day, start);
+    while k < 5 {
+        at[k] = start_of(starts, minus(request.event, days[k]));
         k += 1;
+    }
+    Places {
+        at: at,
+        count: count,
+        end: end,
+        start: minus(request.s, 96),
     }
 }
 
@@ -131,10 +122,10 @@ pub fn write(
     ensures { λ r. ⌜ Written (now (readings .entry)) chosen (now (yesterday .entry)) (now (today .entry)) (length (now (out .entry))) r (now (out .exit)) ⌝ }
 {
     let at = chosen.at;
-    let count = least(chosen.count as usize, 5);
+    let count = least(chosen.count, 5) as usize;
     let own = window::window_sum(chosen.end, yesterday, today);
     let adjustment = adjustment(readings, at, count, chosen.end, own);
-    sum_days(readings, at, count, chosen.start as usize, out);
+    quarters::sum_days(readings, at, chosen.count as usize, chosen.start as usize, out);
     floor(out, adjustment);
     adjustment
 }

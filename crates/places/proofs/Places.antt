@@ -7,8 +7,8 @@ use mathlib.Core.Logic.{⊎-elim}
 use native.Mathlib.Nat.{add-zero, add-suc}
 use native.Mathlib.Numerals.{add-one}
 use native.Mathlib.Omega.{arith}
-use borrow.Author.Tests.{lt-ltb, le-ltb, le-leb, lt-leb, eqb-true, eqb-false}
-use lib.Dec.{leb, ltb, eqb}
+use borrow.Author.Tests.{lt-ltb, le-ltb, eqb-true, eqb-false}
+use lib.Dec.{ltb, eqb}
 use lib.ListN.{length, getD, set, drop, length-set, length-map, length-append, length-drop}
 use lib.Seq.{ext-getD, getD-set-same, getD-set-other, getD-drop, getD-append-add, drop-cons, drop-length, set-at, append-snoc}
 use Rattle.lists.proofs.Bools.{bool-cases, lt-or-le}
@@ -71,14 +71,11 @@ module _ (f : ℕ → ℕ) (n : ℕ) where
               (⊎-elim (λ l. let l′ : k < i + 1 = omega arith in rw (lt-ltb k i l, lt-ltb k (i + 1) l′))
               (λ l. let l′ : i + 1 ≤ k = omega (arith, eqb-false k i t) in rw (le-ltb k i l, le-ltb k (i + 1) l′)) (lt-or-le k i))
 
-  -- filled up to and with place `h`
-  pub filled-to : (i h : ℕ) → i ≡ h + 1 → filled f n i ≡ map (λ j. cond (leb j h) (f j) 0) (places n 0)
+  -- every place is filled
+  pub filled-all : (i : ℕ) → n ≤ i → filled f n i ≡ map f (places n 0)
   unfolding filled
-  filled-to i h e =
-      over-same (λ j. cond (ltb j i) (f j) 0) (λ j. cond (leb j h) (f j) 0) n 0
-      (λ k a b.
-      ⊎-elim (λ l. let l′ : k ≤ h = omega arith in rw (lt-ltb k i l, le-leb k h l′))
-      (λ l. let l′ : h < k = omega arith in rw (le-ltb k i l, lt-leb k h l′)) (lt-or-le k i))
+  filled-all i h =
+      over-same (λ j. cond (ltb j i) (f j) 0) f n 0 (λ k a b. let l : k < i = omega arith in rw (lt-ltb k i l))
 
 -- one place more, at the end
 pub over-snoc : {A : Type 0} (f : ℕ → A) (n t : ℕ) → map f (places (suc n) t) ≡ map f (places n t) ++ (f (t + n) ∷ [])
@@ -91,6 +88,15 @@ pub over-shift : {A : Type 0} (f : ℕ → A) (s n t : ℕ) → map f (places n 
 unfolding places
 over-shift f s zero t = refl
 over-shift f s (suc n) t = ap (λ l. f (s + t) ∷ l) (rw (← add-suc s t) (over-shift f s n (suc t)))
+
+-- a list by its places
+pub over-list : {A : Type 0} (f : ℕ → A) (l : List ℕ) → map (λ k. f (getD l k 0)) (places (length l) 0) ≡ map f l
+unfolding places
+over-list f [] = refl
+over-list f (x ∷ xs) =
+    ap (λ l. f x ∷ l) (over-shift (λ k. f (getD (x ∷ xs) k 0)) 1 (length xs) 0 ∙
+    over-same (λ k. f (getD (x ∷ xs) (1 + k) 0)) (λ k. f (getD xs k 0)) (length xs) 0
+    (λ k a b. let e : 1 + k ≡ suc k = omega arith in ap (λ n. f (getD (x ∷ xs) n 0)) e) ∙ over-list f xs)
 
 -- a buffer of which a loop has set the first `i` places to `f`
 unfoldable stored : (ℕ → ℕ) → List ℕ → ℕ → List ℕ

@@ -6,7 +6,7 @@ use borrow.Author.Needs.{needs}
 use lib.ListN.{take}
 use Rattle.lists.specs.Lists.{sumOf}
 use Rattle.numerators.specs.Numerators.{windowSums}
-use Rattle.numerators.proofs.Adding.{all-small, windows-few, windows-next}
+use Rattle.numerators.proofs.Windows.{all-small, windows-few, windows-next}
 use Rattle.numerators.proofs.sum_windows.Statement.{statement}
 use Rattle.numerators.proofs.sum_windows.Tie as tie
 

@@ -7,22 +7,22 @@ use lib.ListN.{length}
 use lib.Signed.{mag}
 use mir.Syntax.{w64}
 use mir.ValLaws.{toZ-ofZ}
-use Rattle.numerators.proofs.Adding.{all-small, ruler-most, written}
+use Rattle.numerators.proofs.Windows.{all-small, ruler-most, written}
 use Rattle.numerators.proofs.write.Statement.{statement}
 use Rattle.numerators.proofs.write.Tie as tie
 
-cast-least : tie.Need-cast-least
-cast-least c = search needs
-
 least-requires : tie.Need-least-requires
 least-requires c κs = search needs
+
+cast-count : tie.Need-cast-count
+cast-count c = search needs
 
 window-sum-requires : tie.Need-window-sum-requires
 window-sum-requires c κs = search needs
 
 adjustment-requires : tie.Need-adjustment-requires
 adjustment-requires c κs =
-    let today = c .before .before .before .before .before in
+    let today = c .before .before .before .before in
     let yesterday = today .before in
     let a = yesterday .before .before .args in (
       omega arith,
@@ -37,6 +37,9 @@ adjustment-requires c κs =
 cast-sum-days : tie.Need-cast-sum-days
 cast-sum-days c = search needs
 
+cast-sum-days-2 : tie.Need-cast-sum-days-2
+cast-sum-days-2 c = search needs
+
 sum-days-requires : tie.Need-sum-days-requires
 sum-days-requires c κs = search needs
 
@@ -49,8 +52,8 @@ same-length c = search needs
 returns : tie.Need-returns
 returns c =
     let d = c .before .before .before .before .before .before in
-    let e = d .before .before .before in
-    let s = e .before .before .before .before .before .before .before .before .before in
+    let e = d .before .before .before .before in
+    let s = e .before .before .before .before .before .before .before .before in
     let a = s .args in
     let near : mag (e .adjustment .result) < 2 ^ 63 = omega (arith, e .adjustment .ensures .1) in
     let back = toZ-ofZ w64 (e .adjustment .result) (sfits-of near) in
@@ -63,11 +66,12 @@ pub write-spec : {M : Type 1} → statement M
 write-spec =
     tie.close
     (tie.spec
-    cast-least
     least-requires
+    cast-count
     window-sum-requires
     adjustment-requires
     cast-sum-days
+    cast-sum-days-2
     sum-days-requires
     floor-requires
     same-length

@@ -1,85 +1,29 @@
--- Sums over chosen days that are taken one after the other: of quarters, and of the adjustment window.
-use Prim.Native.Nat.{ℕ, zero, suc, _+_, _-_, _*_, _%_, _^_, _≤_, _<_, min}
-use mathlib.Core.Path.{_≡_, refl, ap, sym, _∙_}
-use mathlib.Core.Bool.{Bool, true, false, cond}
+-- Sums over days that are taken one after the other.
+use Prim.Native.Nat.{ℕ, zero, suc, _+_, _-_, _%_, _^_, _≤_, _<_, min}
+use mathlib.Core.Path.{_≡_, ap, sym, _∙_}
 use mathlib.Core.List.{List, [], _∷_, _++_, map}
 use mathlib.Core.Logic.{⊎-elim}
-use native.Mathlib.Nat.{mul-suc}
 use native.Mathlib.Numerals.{add-one}
 use native.Mathlib.Omega.{arith}
-use borrow.Author.Tests.{le-leb}
-use lib.Dec.{leb}
 use lib.ListN.{length, getD, take, drop, length-take, length-drop, length-append, List·getD-append, List·getD-eq-default}
 use lib.Seq.{ext-getD, getD-take, getD-drop}
 use mir.Syntax.{w32}
 use mir.Val.{Fits}
-use Rattle.lists.specs.Lists.{all, sumOf}
-use Rattle.lists.proofs.All.{all-append, all-take, all-drop}
+use Rattle.lists.specs.Lists.{sumOf}
 use Rattle.lists.proofs.Bools.{lt-or-le}
 use Rattle.lists.proofs.Parts.{getD-append-past}
-use Rattle.lists.proofs.Sums.{part-most}
-use lib.IntN.{ℤ}
-use Rattle.method.specs.Adjustment.{places, A, adjustment, unfloored, floored}
+use Rattle.method.specs.Adjustment.{places}
 use Rattle.rooms.specs.Rooms.{partAt}
 use Rattle.places.proofs.Places.{length-over, at-place, over-same}
-use Rattle.numerators.specs.declared.Places.{Places}
-use Rattle.numerators.specs.Numerators.{quarterSum, windowSums, counted, chosenAt, adjustmentOf, numeratorsOf, Written}
-
--- ---- how large they get
-
-abbrev pub small : ℕ → Bool
-small x = leb x 4294967295
-
--- numbers of 32 bits
-pub all-small : (xs : List ℕ) → ((i : ℕ) → Fits w32 (getD xs i 0)) → all small xs ≡ true
-unfolding all
-all-small [] h = refl
-all-small (x ∷ xs) h =
-    let o : x ≤ 4294967295 = omega (arith, h 0) in
-    rw (le-leb x 4294967295 o) (all-small xs (λ i. h (suc i)))
-
--- twelve of them
-pub twelve-most : (l : List ℕ) (end : ℕ) → all small l ≡ true → A l end ≤ 51539607540
-unfolding A
-twelve-most l end h = part-most 4294967295 l (end - 12) 12 h
-
-pub ruler-most : (ys ts : List ℕ) (end : ℕ) → all small ys ≡ true → all small ts ≡ true → A (ys ++ ts) end ≤ 51539607540
-ruler-most ys ts end h k = twelve-most (ys ++ ts) end (rw (all-append small ys ts, h, k))
-
--- a rule of all readings is one of a part
-pub part-all : (p : ℕ → Bool) (readings : List ℕ) (at : ℕ) → all p readings ≡ true → all p (partAt readings at) ≡ true
-unfolding partAt
-part-all p readings at h = go (leb (at + 96) (length readings))
-  where
-    go : (b : Bool) → all p (cond b (take 96 (drop at readings)) []) ≡ true
-    go true = all-take p 96 (drop at readings) (all-drop p at readings h)
-    go false = unfold all in refl
-
-pub windows-most : (readings at : List ℕ) (end : ℕ) → all small readings ≡ true → windowSums readings at end ≤ 51539607540 * length at
-unfolding windowSums sumOf
-windows-most readings [] end h = omega arith
-windows-most readings (a ∷ at) end h =
-    let p = part-all small readings a h in
-    omega (arith, ruler-most (partAt readings a) (partAt readings a) end p p, windows-most readings at end h, mul-suc 51539607540 (length at))
-
-pub windows-few : (readings at : List ℕ) (end k : ℕ) → all small readings ≡ true → k ≤ 5 → windowSums readings (take k at) end ≤ 257698037700
-windows-few readings at end k h few = omega (arith, windows-most readings (take k at) end h, length-take k at)
+use Rattle.quarters.specs.Quarters.{quarterSum}
 
 -- ---- one day more
-sum-more : (f : ℕ → ℕ) (at : List ℕ) (k : ℕ) → k < length at
+pub sum-more : (f : ℕ → ℕ) (at : List ℕ) (k : ℕ) → k < length at
     → sumOf (map f (take (suc k) at)) ≡ sumOf (map f (take k at)) + f (getD at k 0)
 unfolding sumOf
 sum-more f [] k h = absurd (omega arith)
 sum-more f (a ∷ at) zero h = omega arith
 sum-more f (a ∷ at) (suc k) h = omega (arith, sum-more f at k (omega arith))
-
-module _ (readings at : List ℕ) (end : ℕ) where
-  pub windows-next : (total k x : ℕ) {day : List ℕ} → k < length at → total ≡ windowSums readings (take k at) end
-      → day ≡ partAt readings (getD at k 0) → x ≡ A (day ++ day) end → total + x ≡ windowSums readings (take (k + 1) at) end
-  unfolding windowSums
-  windows-next total k x h e o f =
-      let m = sum-more (λ a. A (partAt readings a ++ partAt readings a) end) at k h in
-      rw (add-one k) (omega (arith, m, e, rw o at f))
 
 module _ (readings at : List ℕ) (start n : ℕ) where
   -- the invariant of the loop that adds days: the sums of the first `k` of them, as numbers of 32 bits
@@ -161,28 +105,3 @@ module _ (sums day : List ℕ) (start from n : ℕ) (bound : (i : ℕ) → Fits 
               let z : n + (q - length ys) ≡ q = omega (arith, long) in
               let none : getD day (start + q) 0 ≡ 0 = List·getD-eq-default day 0 (omega (arith, inside)) in
               getD-append-past ys (drop n sums) q 0 o ∙ getD-drop n sums (q - length ys) 0 ∙ rw z (omega (arith, none, bound q))
-
--- ---- the whole of it
-pub written : (readings : List ℕ) (chosen : Places) (ys ts : List ℕ) (n : ℕ) {count own : ℕ} {adj : ℤ} {sums out : List ℕ}
-    → count ≡ counted chosen → own ≡ A (ys ++ ts) (chosen .end)
-    → adj ≡ adjustment count own (windowSums readings (take count (chosen .at)) (chosen .end))
-    → sums ≡ map (λ q. quarterSum readings (take count (chosen .at)) (chosen .start + q) % 2 ^ 32) (places n 0)
-    → out ≡ map (λ q. floored (unfloored (getD sums q 0) adj) % 2 ^ 32) (places (length sums) 0) → Written readings chosen ys ts n adj out
-unfolding adjustmentOf numeratorsOf
-written readings chosen ys ts n {count} {own} {adj} {sums} {out} c o a s f =
-    let e : adj ≡ adjustmentOf readings chosen ys ts = rw (c, o) at a in
-    record { adjusted = e; output = f ∙ rw size (over-same _ _ n 0 each) ∙ ap (λ z. numeratorsOf readings (chosenAt chosen) (chosen .start) z n) e }
-  where
-    same : sums ≡ map (λ q. quarterSum readings (chosenAt chosen) (chosen .start + q) % 2 ^ 32) (places n 0)
-    same = rw c at s
-
-    size : length sums ≡ n
-    size = ap length same ∙ length-over (λ q. quarterSum readings (chosenAt chosen) (chosen .start + q) % 2 ^ 32) n 0
-
-    each : (q : ℕ) → 0 ≤ q → q < 0 + n → floored (unfloored (getD sums q 0) adj) % 2 ^ 32 ≡ floored
-        (unfloored (quarterSum readings (chosenAt chosen) (chosen .start + q) % 2 ^ 32) adj) % 2 ^ 32
-    each q a b =
-        let z : 0 + q ≡ q = omega arith in
-        let i : q < n = omega arith in
-        let here = ap (λ l. getD l q 0) same ∙ at-place (λ q. quarterSum readings (chosenAt chosen) (chosen .start + q) % 2 ^ 32) 0 n 0 q i in
-        ap (λ (x : ℕ). floored (unfloored x adj) % 2 ^ 32) (rw z at here)

@@ -1,5 +1,5 @@
--- `numerators::sum_days` meets its contract. The loop's invariant: the sums of the first `k` days (`Added`).
-use Prim.Native.Nat.{ℕ, _-_, _≤_}
+-- `quarters::sum_days` meets its contract. The loop's invariant: the sums of the first `k` days (`Added`).
+use Prim.Native.Nat.{ℕ, _-_, _≤_, min}
 use mathlib.Core.Path.{_≡_, ap, sym, _∙_}
 use mathlib.Core.List.{List, map}
 use native.Mathlib.Omega.{arith}
@@ -7,27 +7,30 @@ use borrow.Author.Needs.{needs}
 use lib.ListN.{length}
 use Rattle.method.specs.Adjustment.{places}
 use Rattle.places.proofs.Places.{length-over}
-use Rattle.numerators.proofs.Adding.{Added, added-begin, added-next}
-use Rattle.numerators.proofs.sum_days.Statement.{statement}
-use Rattle.numerators.proofs.sum_days.Tie as tie
+use Rattle.quarters.proofs.Adding.{Added, added-begin, added-next}
+use Rattle.quarters.proofs.sum_days.Statement.{statement}
+use Rattle.quarters.proofs.sum_days.Tie as tie
 
 -- the cleared sums are as many as there were
 cleared : (n : ℕ) {after : List ℕ} → after ≡ map (λ q. 0) (places n 0) → length after ≡ n
 cleared n e = ap length e ∙ length-over (λ q. 0) n 0
 
 abbrev Inv-loop : tie.InvT-loop
-Inv-loop readings count start sums₀ at k₀ sums k = (k ≤ count) × Added readings at start (length sums₀) sums k
+Inv-loop readings count start sums₀ at days k₀ sums k = (k ≤ days) × Added readings at start (length sums₀) sums k
 
 abbrev μ-loop : tie.MeasureT-loop
-μ-loop readings count start sums₀ at k₀ sums k = count - k
+μ-loop readings count start sums₀ at days k₀ sums k = days - k
 
 clear-requires : tie.Need-clear-requires Inv-loop μ-loop
 clear-requires c κs = search needs
 
+least-requires : tie.Need-least-requires Inv-loop μ-loop
+least-requires c κs = search needs
+
 loop-holds : tie.Need-loop-holds Inv-loop μ-loop
 loop-holds c =
-    let e = c .before .before .clear .ensures in
-    let n = length (c .before .before .before .before .before .before .args .sums .now) in
+    let e = c .before .before .before .clear .ensures in
+    let n = length (c .before .before .before .before .before .before .before .args .sums .now) in
     (omega arith, added-begin _ _ _ _ (e ∙ ap (λ (n : ℕ). map (λ q. 0) (places n 0)) (sym (cleared n e))))
 
 mul-part-at : tie.Need-mul-part-at Inv-loop μ-loop
@@ -55,15 +58,15 @@ loop-again c =
 
 same-length : tie.Need-same-length Inv-loop μ-loop
 same-length c =
-    let n = length (c .before .before .before .before .before .before .before .before .args .sums .now) in
-    c .before .loop .inv .1 .size ∙ cleared n (c .before .before .before .before .clear .ensures)
+    let n = length (c .before .before .before .before .before .before .before .before .before .args .sums .now) in
+    c .before .loop .inv .1 .size ∙ cleared n (c .before .before .before .before .before .clear .ensures)
 
 returns : tie.Need-returns Inv-loop μ-loop
 returns c =
     let l = c .before .loop in
-    let a = c .before .before .before .before .before .before .before .before .args in
-    let k : l .k ≡ a .count = omega arith in
-    rw (cleared (length (a .sums .now)) (c .before .before .before .before .clear .ensures), k) at (l .inv .1 .done)
+    let a = c .before .before .before .before .before .before .before .before .before .args in
+    let k : l .k ≡ min (a .count) 5 = omega (arith, l .inv .0, c .loop-test .left, c .before .before .least .ensures) in
+    rw (cleared (length (a .sums .now)) (c .before .before .before .before .before .clear .ensures), k) at (l .inv .1 .done)
 
 pub sum-days-spec : {M : Type 1} → statement M
 sum-days-spec =
@@ -72,6 +75,7 @@ sum-days-spec =
     Inv-loop
     μ-loop
     clear-requires
+    least-requires
     loop-holds
     mul-part-at
     array-read-part-at

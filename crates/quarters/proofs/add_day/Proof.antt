@@ -1,10 +1,10 @@
--- `numerators::add_day` meets its contract: the law is `clipped`.
+-- `quarters::add_day` meets its contract: the law is `clipped`.
 use native.Mathlib.Omega.{arith}
 use borrow.Author.Needs.{needs}
 use lib.ListN.{length-take, length-drop}
-use Rattle.numerators.proofs.Adding.{clipped}
-use Rattle.numerators.proofs.add_day.Statement.{statement}
-use Rattle.numerators.proofs.add_day.Tie as tie
+use Rattle.quarters.proofs.Adding.{clipped}
+use Rattle.quarters.proofs.add_day.Statement.{statement}
+use Rattle.quarters.proofs.add_day.Tie as tie
 
 least-requires : tie.Need-least-requires
 least-requires c κs = search needs

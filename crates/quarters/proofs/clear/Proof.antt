@@ -1,12 +1,12 @@
--- `numerators::clear` meets its contract.
+-- `quarters::clear` meets its contract.
 use Prim.Native.Nat.{_-_}
 use native.Mathlib.Omega.{arith}
 use borrow.Author.Needs.{needs}
 use lib.ListN.{length}
 use mathlib.Core.Path.{refl}
 use Rattle.places.proofs.Places.{Storing, storing-begin, storing-next, storing-end}
-use Rattle.numerators.proofs.clear.Statement.{statement}
-use Rattle.numerators.proofs.clear.Tie as tie
+use Rattle.quarters.proofs.clear.Statement.{statement}
+use Rattle.quarters.proofs.clear.Tie as tie
 
 abbrev Inv-loop : tie.InvT-loop
 Inv-loop sums₀ q₀ sums q = Storing (λ q. 0) sums₀ sums q
