@@ -64,9 +64,8 @@ fn finish(
     if end == 0 {
         return refuse(Refusal::NoAdjustmentWindow(chosen.reach));
     }
-    let starts = rooms.at;
     let days = chosen.days;
-    let places = numerators::placed(request, starts, days, chosen.count, end);
+    let places = numerators::placed(request, rooms, days, chosen.count, end);
     let length = (request.e - request.s) as usize;
     let part = &mut out[..length];
     let adjustment = numerators::write(readings, places, yesterday, today, part);

@@ -8,6 +8,7 @@ ghost use lib.Signed.{mag};
 ghost use Rattle.method.specs.Adjustment.{places, unfloored, floored, adjustment as adjusted};
 ghost use Rattle.numerators.specs.Numerators.{windowSums, placedOf, Written};
 use method::Request;
+use rooms::Directory;
 
 // Where the chosen days stand, how many of the five they are, where the adjustment window ends, and the event's first quarter of the day.
 pub struct Places {
@@ -38,16 +39,11 @@ fn start_of(starts: [u32; 46], back: u32) -> u32
     if back < 46 { starts[back as usize] } else { 0 }
 }
 
-// The places of chosen days, by where the days before an event start.
-pub fn placed(
-    request: Request,
-    starts: [u32; 46],
-    days: [u32; 5],
-    count: u32,
-    end: u32,
-) -> Places
-    ensures { λ r. ⌜ r ≡ placedOf request starts days count end ⌝ }
+// The places of chosen days, by the directory of the days before an event.
+pub fn placed(request: Request, rooms: Directory, days: [u32; 5], count: u32, end: u32) -> Places
+    ensures { λ r. ⌜ r ≡ placedOf request (rooms .at) days count end ⌝ }
 {
+    let starts = rooms.at;
     let mut at = [0u32; 5];
     let mut k = 0;
     while k < 5 {
@@ -125,7 +121,13 @@ pub fn write(
     let count = least(chosen.count, 5) as usize;
     let own = window::window_sum(chosen.end, yesterday, today);
     let adjustment = adjustment(readings, at, count, chosen.end, own);
-    quarters::sum_days(readings, at, chosen.count as usize, chosen.start as usize, out);
+    quarters::sum_days(
+        readings,
+        at,
+        chosen.count as usize,
+        chosen.start as usize,
+        out,
+    );
     floor(out, adjustment);
     adjustment
 }

@@ -40,7 +40,7 @@ placed-requires c κs = search needs
 
 sub-length : tie.Need-sub-length
 sub-length c =
-    let s = c .before .before .before .before .before .before .before .before .before .before .before .before in
+    let s = c .before .before .before .before .before .before .before .before .before .before .before in
     let a = s .args in
     let room = length (a .out .now) in
     omega (arith, ranges (a .request) (a .t2) (a .readings .now) room (a .chosen) (s .pre) .some)
@@ -50,14 +50,14 @@ cast-length c = search needs
 
 slice-relend-prefix-part : tie.Need-slice-relend-prefix-part
 slice-relend-prefix-part c =
-    let s = c .before .before .before .before .before .before .before .before .before .before .before .before in
+    let s = c .before .before .before .before .before .before .before .before .before .before .before in
     let a = s .args in
     let room = length (a .out .now) in
     room-enough (a .request) (a .t2) (a .readings .now) room (a .chosen) (s .pre)
 
 slice-aggregate-part : tie.Need-slice-aggregate-part
 slice-aggregate-part c =
-    let s = c .before .before .before .before .before .before .before .before .before .before .before .before .before in
+    let s = c .before .before .before .before .before .before .before .before .before .before .before .before in
     let a = s .args in
     let room = length (a .out .now) in
     sym (room-long (a .request) (a .t2) (a .readings .now) room (a .chosen) (s .pre) (a .out .now) refl)
@@ -65,8 +65,8 @@ slice-aggregate-part c =
 write-requires : tie.Need-write-requires
 write-requires c κs = search needs
 
-mul-t18 : tie.Need-mul-t18
-mul-t18 c = omega (arith, c .before .before .before .before .before .before .before .before .before .before .before .before .before .before .before .before .before .pre .few)
+mul-t17 : tie.Need-mul-t17
+mul-t17 c = omega (arith, c .before .before .before .before .before .before .before .before .before .before .before .before .before .before .before .before .pre .few)
 
 same-length : tie.Need-same-length
 same-length c = search needs
@@ -75,14 +75,14 @@ returns-2 : tie.Need-returns-2
 returns-2 c =
     let w = c .before .before .before .write .ensures in
     let p = c .before .before .before .before .before .before in
-    let e = c .before .before .before .before .before .before .before .before .before .before in
-    let s = c .before .before .before .before .before .before .before .before .before .before .before .before .before .before .before .before .before in
+    let e = c .before .before .before .before .before .before .before .before .before in
+    let s = c .before .before .before .before .before .before .before .before .before .before .before .before .before .before .before .before in
     let a = s .args in
     let room = length (a .out .now) in
     rw (adjusted-back (a .request) (a .t2) (a .readings .now) room (a .chosen) (s .pre) (e .before .before .before .part-at .ensures .list) (e .before .part-at2 .ensures .list) (e .adjustment-end .ensures)
-    (p .before .before .before .if1 .left) (p .placed .ensures) w)
+    (p .before .before .if1 .left) (p .placed .ensures) w)
     (answers (a .request) (a .t2) (a .readings .now) room (a .chosen) (s .pre) (e .before .before .before .part-at .ensures .list) (e .before .part-at2 .ensures .list) (e .adjustment-end .ensures)
-    (p .before .before .before .if1 .left) (p .placed .ensures) w
+    (p .before .before .if1 .left) (p .placed .ensures) w
     (room-long (a .request) (a .t2) (a .readings .now) room (a .chosen) (s .pre) (a .out .now) refl) refl)
 
 pub finish-spec : {M : Type 1} → statement M
@@ -102,6 +102,6 @@ finish-spec =
     slice-relend-prefix-part
     slice-aggregate-part
     write-requires
-    mul-t18
+    mul-t17
     same-length
     returns-2)

@@ -10,10 +10,10 @@ use Rattle.numerators.proofs.placed.Statement.{statement}
 use Rattle.numerators.proofs.placed.Tie as tie
 
 abbrev Inv-loop : tie.InvT-loop
-Inv-loop request starts count end days at₀ k₀ at k = (k ≤ 5) × (at ≡ filled (λ j. getD starts (request .event - getD days j 0) 0) 5 k)
+Inv-loop request count end days starts at₀ k₀ at k = (k ≤ 5) × (at ≡ filled (λ j. getD starts (request .event - getD days j 0) 0) 5 k)
 
 abbrev μ-loop : tie.MeasureT-loop
-μ-loop request starts count end days at₀ k₀ at k = 5 - k
+μ-loop request count end days starts at₀ k₀ at k = 5 - k
 
 loop-holds : tie.Need-loop-holds Inv-loop μ-loop
 unfolding filled places
@@ -45,11 +45,11 @@ loop-less c = omega arith
 
 loop-again : tie.Need-loop-again Inv-loop μ-loop
 loop-again c =
-    let a = c .before .before .before .before .args in
+    let a = c .before .before .before .before .before .args in
     let l = c .before .before .before .loop in (
       omega arith,
-      rw (l .inv .1) (filled-more (λ j. getD (a .starts) (a .request .event - getD (a .t3) j 0) 0) 5 (l .k) (c .start-of .result) (omega arith)
-          (c .start-of .ensures ∙ ap (λ n. getD (a .starts) n 0) (c .before .minus .ensures))),
+      rw (l .inv .1) (filled-more (λ j. getD (a .rooms .at) (a .request .event - getD (a .t3) j 0) 0) 5 (l .k) (c .start-of .result) (omega arith)
+          (c .start-of .ensures ∙ ap (λ n. getD (a .rooms .at) n 0) (c .before .minus .ensures))),
     )
 
 minus-requires-2 : tie.Need-minus-requires-2 Inv-loop μ-loop
@@ -57,9 +57,9 @@ minus-requires-2 c κs = search needs
 
 returns : tie.Need-returns Inv-loop μ-loop
 returns c =
-    let a = c .before .before .before .args in
+    let a = c .before .before .before .before .args in
     let l = c .before .before .loop in
-    let all = l .inv .1 ∙ filled-all (λ j. getD (a .starts) (a .request .event - getD (a .t3) j 0) 0) 5 (l .k) (omega arith) in
+    let all = l .inv .1 ∙ filled-all (λ j. getD (a .rooms .at) (a .request .event - getD (a .t3) j 0) 0) 5 (l .k) (omega arith) in
     λ i. record { at = all i; count = a .count; end = a .end; start = c .minus2 .ensures i }
 
 pub placed-spec : {M : Type 1} → statement M
