@@ -1,6 +1,6 @@
 -- The directory of a table that passes the refusals 1 to 7: its rooms are fit, and they say of the days before the event what the table holds.
 use Prim.Native.Nat.{ℕ}
-use mathlib.Core.Path.{_≡_, ap, _∙_}
+use mathlib.Core.Path.{_≡_}
 use native.Mathlib.Omega.{arith}
 use Rattle.calendar.specs.declared.Group.{Group}
 use Rattle.method.specs.declared.Request.{Request}
@@ -8,7 +8,6 @@ use Rattle.method.specs.Table.{Table, history}
 use Rattle.method.specs.Method.{outcome}
 use Rattle.method.specs.HighXofY.{highXofY}
 use Rattle.method.specs.Verdict.{tableRefusals, requestRefusals}
-use Rattle.rooms.specs.declared.Directory.{Directory}
 use Rattle.rooms.specs.Rooms.{heldRooms, roomHistory}
 use Rattle.choose.proofs.Rooms.{Agree, rooms-outcome}
 use Rattle.table.specs.Directory.{directoryOf}

@@ -4,7 +4,6 @@ use lib.ListN.{length}
 use lib.IntN.{pos}
 use Rattle.method.specs.Verdict.{Reply, refused, answered}
 use Rattle.choose.specs.Choice.{inFive}
-use Rattle.baseline.specs.declared.Given.{Given}
 use Rattle.baseline.specs.declared.Given.the-variants.{Answered, Refused}
 use Rattle.baseline.specs.declared.Answer.{Answer}
 

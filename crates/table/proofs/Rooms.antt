@@ -7,7 +7,6 @@ use native.Mathlib.Omega.{arith}
 use borrow.Author.Tests.{le-leb, lt-leb, lt-ltb, leb-true}
 use lib.Dec.{leb, ltb}
 use lib.ListN.{length, getD, take, drop}
-use Rattle.lists.proofs.Bools.{both}
 use Rattle.method.specs.Table.{Table, heldDays, offset, size, dayOf, held, history, isExtract}
 use Rattle.method.specs.Adjustment.{places}
 use Rattle.method.proofs.Histories.{is-held, held-first, held-last}
@@ -16,7 +15,7 @@ use Rattle.rooms.specs.Rooms.{partAt, roomDay}
 use Rattle.places.proofs.Places.{filled, at-place}
 use Rattle.table.specs.Lent.{tableOf}
 use Rattle.table.specs.Directory.{entriesOf, directoryOf}
-use Rattle.table.proofs.Extracts.{Extract, extract-is, has-day, has-inside}
+use Rattle.table.proofs.Extracts.{extract-is, has-day, has-inside}
 
 module _ (t : Table) (event : ℕ) where
   -- how many days have a room, by each way out of the code

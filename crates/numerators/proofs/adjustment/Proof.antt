@@ -1,6 +1,6 @@
 -- `numerators::adjustment` meets its contract.
-use Prim.Native.Nat.{_*_, _<_, _^_, _≤_}
-use mathlib.Core.Path.{_≡_, ap, _∙_}
+use Prim.Native.Nat.{_*_, _<_, _^_}
+use mathlib.Core.Path.{ap}
 use native.Mathlib.Nat.{mul-le-mul-right}
 use native.Mathlib.Omega.{arith}
 use borrow.Author.Needs.{needs}

@@ -1,6 +1,5 @@
 -- `numerators::floor` meets its contract.
 use Prim.Native.Nat.{_-_, _%_, _^_}
-use native.Mathlib.Omega.{arith}
 use borrow.Author.Needs.{needs}
 use lib.ListN.{length, getD}
 use mathlib.Core.Path.{ap, _∙_}

@@ -1,5 +1,4 @@
 -- `numerators::write` meets its contract: the law is `written`.
-use mathlib.Core.Path.{_≡_}
 use Prim.Native.Nat.{_<_, _^_}
 use native.Mathlib.Omega.{arith}
 use borrow.Author.Needs.{needs, sfits-of}
