@@ -1,4 +1,4 @@
--- What the choice of days says: the outcome it stands for, and of chosen days that they are whole days of the table, N of them.
+-- What the choice of days says: the outcome it stands for, and of chosen days that they are whole days of the history, N of them.
 use Prim.Native.Nat.{ℕ, zero, suc, _-_, _≤_, _<_}
 use mathlib.Core.Path.{_≡_, refl, sym, ap, ap₂, _∙_}
 use mathlib.Core.Bool.{Bool, true, false, cond, not, _&&_, true≢false}
@@ -8,29 +8,28 @@ use borrow.Author.Tests.{ltb-false}
 use lib.Dec.{ltb, eqb}
 use lib.ListN.{length, take, replicate, length-take, length-map}
 use lib.Seq.{take-take, take-append-seam}
-use Rattle.lists.specs.Lists.{all, keep, member}
+use Rattle.lists.specs.Lists.{all, keep}
 use Rattle.lists.proofs.Bools.{both}
-use Rattle.lists.proofs.Keep.{member-head}
 use Rattle.calendar.specs.declared.Group.{Group}
-use Rattle.calendar.specs.declared.Group.the-variants.{Weekday, Saturday, HolidayGroup}
 use Rattle.method.specs.declared.Request.{Request}
-use Rattle.method.specs.Table.{Table, Day, History, dayOf, held, history, eventBit, outageBit}
+use Rattle.method.specs.Table.{Day, History, held, eventBit, outageBit}
 use Rattle.method.specs.Adjustment.{baseline}
 use Rattle.method.specs.HighXofY.{highXofY, higher, insertBy, sortBy, eligible, spare, complete, N}
 use Rattle.method.specs.Method.{Method, Outcome, short, few, chose, outcome, dated, wholeReach, seen, eligibles, spares, window, chosen}
 use Rattle.method.specs.Method.{reach, isShort}
 use Rattle.method.proofs.HighXofY.{lawful}
 use Rattle.method.proofs.Stable.{yesterday-held}
-use Rattle.method.proofs.Seen.{window-seen, seen-before}
 use Rattle.method.specs.Verdict.{closing}
 use Rattle.method.proofs.Sort.{length-sorted}
+use Rattle.rooms.specs.declared.Directory.{Directory}
+use Rattle.rooms.specs.Rooms.{roomHistory}
 use Rattle.choose.specs.declared.Chosen.{Chosen}
 use Rattle.choose.specs.declared.Choosing.the-variants.{Short, Few, Days}
 use Rattle.choose.specs.declared.Choice.{Choice}
 use Rattle.choose.specs.Choice.{choiceOf, noDays, inFive}
 use Rattle.choose.proofs.WholeChoice.{chosen-few}
-use Rattle.baseline.specs.Sums.{withDays}
-use Rattle.baseline.specs.Ready.{isWhole, Passes, Ready, replyOf}
+use Rattle.baseline.specs.Ready.{isWhole, withDays, Fit, Ready, replyOf}
+use Rattle.baseline.proofs.Whole.{event-held}
 
 -- ---- a choice and its outcome
 module _ {A O : Type 0} (m : Method A O) (h : History A) where
@@ -128,38 +127,30 @@ every-keep P Q q f (x ∷ xs) e = go (q x) refl (every-keep P Q q f xs (e .1))
     go true t later = (f x (e .0) t, later)
     go false t later = later
 
--- ---- the chosen days of a table
-some-chosen : (g : Group) → 0 < N g
-some-chosen Weekday = omega arith
-some-chosen Saturday = omega arith
-some-chosen HolidayGroup = omega arith
-
-module _ (group : ℕ → Group) (r : Request) (t : Table) where
+-- ---- the chosen days of a history
+module _ (group : ℕ → Group) (r : Request) (h : History Day) where
   abbrev method : Method Day (mathlib.Core.Option.Option Rattle.method.specs.Adjustment.Baseline)
   method = highXofY group r
 
   abbrev Known : ℕ × Day → Type 0
-  Known p = (p .1 ≡ dayOf t (p .0)) × (held (history t) (p .0) ≡ true)
+  Known p = (p .1 ≡ h .day (p .0)) × (held h (p .0) ≡ true)
 
   abbrev Whole : ℕ × Day → Type 0
-  Whole p = (p .1 ≡ dayOf t (p .0)) × (isWhole t (p .0) ≡ true)
+  Whole p = (p .1 ≡ h .day (p .0)) × (isWhole h (p .0) ≡ true)
 
-  known : (ds : List ℕ) → Every Known (map {B = ℕ × Day} (λ d. (d, dayOf t d)) (keep (held (history t)) ds))
+  known : (ds : List ℕ) → Every Known (map {B = ℕ × Day} (λ d. (d, h .day d)) (keep (held h) ds))
   unfolding keep
   known [] = tt
-  known (d ∷ ds) = go (held (history t) d) refl (known ds)
+  known (d ∷ ds) = go (held h d) refl (known ds)
     where
-      go : (b : Bool) → held (history t) d ≡ b → Every Known (map {B = ℕ × Day} (λ d. (d, dayOf t d)) (keep (held (history t)) ds))
-          → Every Known (map {B = ℕ × Day} (λ d. (d, dayOf t d)) (cond b (d ∷ keep (held (history t)) ds) (keep (held (history t)) ds)))
+      go : (b : Bool) → held h d ≡ b → Every Known (map {B = ℕ × Day} (λ d. (d, h .day d)) (keep (held h) ds))
+          → Every Known (map {B = ℕ × Day} (λ d. (d, h .day d)) (cond b (d ∷ keep (held h) ds) (keep (held h) ds)))
       go true e later = ((refl, e), later)
       go false e later = later
 
   whole-of : (q : Day → Bool) → ((d : Day) → q d ≡ true → complete d ≡ true) → (p : ℕ × Day) → Known p → q (p .1) ≡ true → Whole p
   unfolding isWhole
   whole-of q f p k e = (k .0, rw (k .1) (ap complete (sym (k .0)) ∙ f (p .1) e))
-
-  abbrev h : History Day
-  h = history t
 
   complete-first : (a b c : Bool) → ((a && b) && c) ≡ true → a ≡ true
   complete-first a b c e = both a b (both (a && b) c e .0) .0
@@ -196,7 +187,7 @@ module _ (group : ℕ → Group) (r : Request) (t : Table) where
       every-take Whole (method .taken (length (window method h))) (sortBy (higher r) (window method h))
       (every-sorted Whole (higher r) (window method h) window-whole)
 
-  days-whole : (l : List (ℕ × Day)) → Every Whole l → (all (isWhole t) (dated l) ≡ true) × (withDays t (dated l) ≡ l)
+  days-whole : (l : List (ℕ × Day)) → Every Whole l → (all (isWhole h) (dated l) ≡ true) × (withDays h (dated l) ≡ l)
   unfolding all withDays
   days-whole [] e = (refl, refl)
   days-whole (p ∷ ps) e =
@@ -222,35 +213,26 @@ module _ (group : ℕ → Group) (r : Request) (t : Table) where
         rw (window-enough, length-take, length-sorted (higher r) (window method h))
         (omega (arith, ltb-false (length (window method h)) n window-enough))
 
-    -- the day before the event is held, and the event is not on day 0
-    pub day-before : held h (r .event) ≡ true → held h (r .event - 1) ≡ true
+    -- the event is not on day 0
+    pub some-before : held h (r .event) ≡ true → 0 < r .event
     unfolding highXofY
-    day-before holds = yesterday-held method (lawful group r) h holds enough .1
-
-    pub some-before : 0 < r .event
-    some-before = go (window method h) refl
-      where
-        go : (w : List (ℕ × Day)) → window method h ≡ w → 0 < r .event
-        go [] e = absurd (omega (arith, ltb-false (length (window method h)) n window-enough, ap length e, some-chosen (group (r .event))))
-        go (p ∷ ps) e =
-            let m : member (p .0) (dated (window method h)) ≡ true = rw e (member-head (p .0) (dated ps)) in
-            omega (arith, before (p .0) (window-seen method (lawful group r) h (p .0) m))
-          where
-            before : (d : ℕ) → member d (dated (seen method h)) ≡ true → d < r .event
-            before d s = unfold highXofY in seen-before method (lawful group r) h d s
+    some-before holds = yesterday-held method (lawful group r) h holds enough .0
 
 -- days in five places are as many as there are
 five-take : (l : List ℕ) → length l ≤ 5 → take (length l) (inFive l) ≡ l
 five-take l h = take-take (length l) 5 (l ++ replicate 5 0) h ∙ take-append-seam l (replicate 5 0)
 
 -- what `finish` asks, and its reply
-module _ (group : ℕ → Group) (r : Request) (t : Table) (room : ℕ) (passes : Passes t r room) (c : Choice)
-    (x : Chose (highXofY group r) (history t) c) (holds : held (history t) (r .event) ≡ true) where
+module _ (group : ℕ → Group) (r : Request) (rooms : Directory) (readings : List ℕ) (room : ℕ) (fit : Fit r rooms readings room) (c : Choice)
+    (x : Chose (highXofY group r) (roomHistory r rooms readings) c) where
+  abbrev h : History Day
+  h = roomHistory r rooms readings
+
   abbrev ch : List (ℕ × Day)
-  ch = chosen (highXofY group r) (history t)
+  ch = chosen (highXofY group r) h
 
   few-days : length (dated ch) ≤ 5
-  few-days = omega (arith, length-map ch (λ (p : ℕ × Day). p .0), chosen-size group r t (x .taken), chosen-few (group (r .event)))
+  few-days = omega (arith, length-map ch (λ (p : ℕ × Day). p .0), chosen-size group r h (x .taken), chosen-few (group (r .event)))
 
   same-count : length (dated ch) ≡ length ch
   same-count = length-map ch (λ (p : ℕ × Day). p .0)
@@ -258,28 +240,27 @@ module _ (group : ℕ → Group) (r : Request) (t : Table) (room : ℕ) (passes 
   listed : take (c .chosen .count) (c .chosen .days) ≡ dated ch
   listed = rw (x .chosen, ← same-count) (five-take (dated ch) few-days)
 
-  pub ready : Ready t r room (c .chosen)
+  pub ready : Ready r rooms readings room (c .chosen)
   ready =
       record {
-        passes = passes;
-        some = some-before group r t (x .taken);
-        yesterday = day-before group r t (x .taken) holds;
+        fit = fit;
+        some = some-before group r h (x .taken) (event-held r rooms readings);
         few = rw (x .chosen) (omega (arith, few-days, same-count));
         five = rw listed (rw (x .chosen));
-        whole = rw listed (days-whole group r t ch (chosen-whole group r t) .0);
+        whole = rw listed (days-whole group r h ch (chosen-whole group r h) .0);
       }
 
-  pub reply-is : replyOf t r (c .chosen) ≡ closing (outcome (highXofY group r) (history t))
+  pub reply-is : replyOf r h (c .chosen) ≡ closing (outcome (highXofY group r) h)
   unfolding highXofY
   reply-is =
-      ap closing ((λ i. chose (listed i) (reaches i) (baseline r (counted i) (same i) (dayOf t (r .event - 1)) (dayOf t (r .event)))) ∙
+      ap closing ((λ i. chose (listed i) (reaches i) (baseline r (counted i) (same i) (h .day (r .event - 1)) (h .day (r .event)))) ∙
       sym (x .outcome))
     where
-      reaches : c .chosen .reach ≡ reach (highXofY group r) (history t)
+      reaches : c .chosen .reach ≡ reach (highXofY group r) h
       reaches = ap (λ (k : Chosen). k .reach) (x .chosen)
 
       counted : c .chosen .count ≡ N (group (r .event))
-      counted = ap (λ (k : Chosen). k .count) (x .chosen) ∙ chosen-size group r t (x .taken)
+      counted = ap (λ (k : Chosen). k .count) (x .chosen) ∙ chosen-size group r h (x .taken)
 
-      same : withDays t (take (c .chosen .count) (c .chosen .days)) ≡ ch
-      same = ap (withDays t) listed ∙ days-whole group r t ch (chosen-whole group r t) .1
+      same : withDays h (take (c .chosen .count) (c .chosen .days)) ≡ ch
+      same = ap (withDays h) listed ∙ days-whole group r h ch (chosen-whole group r h) .1

@@ -1,36 +1,41 @@
 -- Laws beside the contracts: there is one outcome and one result, what the numerators are without signs or division, and how large they get.
 use Prim.Native.Nat.{ℕ, _+_, _-_, _*_}
-use mathlib.Core.Path.{_≡_, refl, sym, ap, _∙_}
+use mathlib.Core.Path.{_≡_, refl, ap, _∙_}
 use mathlib.Core.Bool.{true, false}
 use mathlib.Core.List.{List, [], _∷_, _++_, map}
 use mathlib.Core.Logic.{_⊎_, inl, inr, ⊎-elim}
 use native.Mathlib.Omega.{arith}
 use borrow.Author.Tests.{eqb-true, eqb-false}
 use lib.Dec.{leb, eqb}
+use lib.ListN.{getD}
 use Rattle.lists.specs.Lists.{all}
 use Rattle.lists.proofs.Bools.{bool-cases}
 use Rattle.lists.proofs.Unique.{unique}
 use Rattle.calendar.specs.declared.Group.{Group}
 use Rattle.method.specs.declared.Request.{Request}
 use Rattle.method.specs.declared.Refusal.{Refusal}
-use Rattle.method.specs.Table.{Table, Day, dayPart, history}
+use Rattle.method.specs.Table.{Table, Day, History}
 use Rattle.method.specs.Adjustment.{places, adjustmentEnd, A, S, adjustment, unfloored, floored, baselineAt}
 use Rattle.method.specs.Method.{outcome}
 use Rattle.method.specs.HighXofY.{highXofY}
-use Rattle.method.specs.Verdict.{Reply, Answer as Numbers, refused, answered, tableRefusals, requestRefusals, closing, verdict}
+use Rattle.method.specs.Verdict.{Reply, Answer as Numbers, refused, answered, closing, verdict}
+use Rattle.rooms.specs.declared.Directory.{Directory}
+use Rattle.rooms.specs.Rooms.{partAt, roomHistory}
 use Rattle.choose.specs.declared.Choosing.{Choosing}
 use Rattle.choose.specs.declared.Choosing.the-variants.{Short, Few, Days}
 use Rattle.choose.specs.declared.Chosen.{Chosen}
 use Rattle.choose.specs.Choice.{choiceOf}
 use Rattle.baseline.specs.declared.Answer.{Answer}
-use Rattle.baseline.specs.declared.Tested.{Tested}
-use Rattle.baseline.specs.declared.Tested.the-variants.{Passed, Failed}
-use Rattle.baseline.specs.Part.{DayPart}
-use Rattle.baseline.specs.Tests.{tested}
-use Rattle.baseline.specs.Ready.{Answers, Passes, Ready, replyOf}
+use Rattle.refusals.specs.declared.Tested.{Tested}
+use Rattle.refusals.specs.declared.Tested.the-variants.{Passed, Failed}
+use Rattle.table.specs.Directory.{directoryOf}
+use Rattle.table.specs.Part.{DayPart}
+use Rattle.numerators.proofs.Signed.{numerator-is}
+use Rattle.refusals.specs.Tests.{tested, callRefusals}
+use Rattle.baseline.specs.Ready.{Answers, Ready, replyOf}
+use Rattle.baseline.proofs.Rooms.{fit}
 use Rattle.baseline.proofs.Choosing.{short-is, few-is, days-is, ready, reply-is}
-use Rattle.baseline.proofs.Signed.{numerator-is}
-use Rattle.baseline.proofs.Steps.{table-refused, request-refused, none-refused, passed-holds, no-window, numbers-most}
+use Rattle.baseline.proofs.Steps.{call-refused, over-table, no-window, numbers-most}
 
 -- ---- one outcome
 pub one-outcome : (reply : Reply) → ((w : Refusal) × (reply ≡ refused w)) ⊎ ((a : Numbers) × (reply ≡ answered a))
@@ -66,39 +71,41 @@ module _ (group : ℕ → Group) (t : Table) (r : Request) (room : ℕ) where
   abbrev Most : Numbers → Type 0
   Most a = all (λ x. leb x 1200000000) (a .numerators) ≡ true
 
-  chosen-most : {a : Numbers} (chosen : Chosen) → Ready t r room chosen → replyOf t r chosen ≡ answered a → Most a
-  chosen-most {a} chosen k e = ⊎-elim refusal answer (bool-cases
-      (eqb (adjustmentEnd r (dayPart t (r .event - 1) ++ dayPart t (r .event))) 0))
-    where
-      refusal : eqb (adjustmentEnd r (dayPart t (r .event - 1) ++ dayPart t (r .event))) 0 ≡ true → Most a
-      refusal z =
-          absurd (never-both (no-window t r room chosen k refl refl refl
-          (eqb-true (adjustmentEnd r (dayPart t (r .event - 1) ++ dayPart t (r .event))) 0 z)) e)
+  module _ (p : tested (callRefusals t r room) ≡ Passed) where
+    abbrev rooms : Directory
+    rooms = directoryOf t (r .event)
 
-      answer : eqb (adjustmentEnd r (dayPart t (r .event - 1) ++ dayPart t (r .event))) 0 ≡ false → Most a
-      answer z =
-          numbers-most t r room chosen k refl refl refl (eqb-false (adjustmentEnd r (dayPart t (r .event - 1) ++ dayPart t (r .event))) 0 z)
-          refl refl e
+    abbrev h : History Day
+    h = roomHistory r rooms (t .readings)
 
-  passed-most : {a : Numbers} → Passes t r room → closing (outcome (highXofY group r) (history t)) ≡ answered a → Most a
-  unfolding closing
-  passed-most {a} p e = go (choiceOf (highXofY group r) (history t) .choosing) refl
-    where
-      go : (c : Choosing) → choiceOf (highXofY group r) (history t) .choosing ≡ c → Most a
-      go (Short d) q = absurd (never-both (ap closing (short-is (highXofY group r) (history t) refl q)) e)
-      go (Few n d) q = absurd (never-both (ap closing (few-is (highXofY group r) (history t) refl q)) e)
-      go Days q =
-          let x = days-is (highXofY group r) (history t) refl q in
-          let c = choiceOf (highXofY group r) (history t) in
-          chosen-most (c .chosen) (ready group r t room p c x (passed-holds t r room p))
-          (reply-is group r t room p c x (passed-holds t r room p) ∙ e)
+    abbrev end : ℕ
+    end = adjustmentEnd r (partAt (t .readings) (getD (rooms .at) 1 0) ++ partAt (t .readings) (getD (rooms .at) 0 0))
+
+    chosen-most : {a : Numbers} (chosen : Chosen) → Ready r rooms (t .readings) room chosen → replyOf r h chosen ≡ answered a → Most a
+    chosen-most {a} chosen k e = ⊎-elim refusal answer (bool-cases (eqb end 0))
+      where
+        refusal : eqb end 0 ≡ true → Most a
+        refusal z = absurd (never-both (no-window r rooms (t .readings) room chosen k refl refl refl (eqb-true end 0 z)) e)
+
+        answer : eqb end 0 ≡ false → Most a
+        answer z = numbers-most r rooms (t .readings) room chosen k refl refl refl (eqb-false end 0 z) e
+
+    passed-most : {a : Numbers} → closing (outcome (highXofY group r) h) ≡ answered a → Most a
+    unfolding closing
+    passed-most {a} e = go (choiceOf (highXofY group r) h .choosing) refl
+      where
+        go : (c : Choosing) → choiceOf (highXofY group r) h .choosing ≡ c → Most a
+        go (Short d) q = absurd (never-both (ap closing (short-is (highXofY group r) h refl q)) e)
+        go (Few n d) q = absurd (never-both (ap closing (few-is (highXofY group r) h refl q)) e)
+        go Days q =
+            let x = days-is (highXofY group r) h refl q in
+            let c = choiceOf (highXofY group r) h in
+            chosen-most (c .chosen) (ready group r rooms (t .readings) room (fit t r room p) c x)
+            (reply-is group r rooms (t .readings) room (fit t r room p) c x ∙ e)
 
   pub never-above : (a : Numbers) → verdict group t r room ≡ answered a → Most a
-  never-above a e = go (tested (tableRefusals t)) (tested (requestRefusals t r room)) refl refl
+  never-above a e = go (tested (callRefusals t r room)) refl
     where
-      go : (x y : Tested) → tested (tableRefusals t) ≡ x → tested (requestRefusals t r room) ≡ y → Most a
-      go (Failed w) y p q = absurd (never-both (table-refused group t r room p) e)
-      go Passed (Failed w) p q = absurd (never-both (request-refused group t r room p q) e)
-      go Passed Passed p q =
-          let k : Passes t r room = record { table = p; request = q } in
-          passed-most k (sym (none-refused group t r room k) ∙ e)
+      go : (x : Tested) → tested (callRefusals t r room) ≡ x → Most a
+      go (Failed w) p = absurd (never-both (call-refused group t r room p) e)
+      go Passed p = passed-most p (over-table group t r room p refl ∙ e)

@@ -1,9 +1,4 @@
-pub mod Places
-pub mod Signed
-pub mod Extracts
 pub mod Rooms
-pub mod FirstRefusal
-pub mod DaySums
 pub mod Whole
 pub mod Choosing
 pub mod Steps

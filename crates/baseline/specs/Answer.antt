@@ -1,17 +1,11 @@
 -- What the call gives back for the verdict over its table.
-use Prim.Native.Nat.{ℕ}
-use mathlib.Core.List.{List, []}
+use mathlib.Core.List.{[]}
 use lib.ListN.{length}
 use lib.IntN.{pos}
-use Rattle.method.specs.Table.{Table}
 use Rattle.method.specs.Verdict.{Reply, refused, answered}
 use Rattle.choose.specs.Choice.{inFive}
-use Rattle.baseline.specs.declared.Given.{Given}
 use Rattle.baseline.specs.declared.Given.the-variants.{Answered, Refused}
 use Rattle.baseline.specs.declared.Answer.{Answer}
-
-abbrev pub tableOf : ℕ → List ℕ → List ℕ → Table
-tableOf first marks readings = record { first = first; marks = marks; readings = readings }
 
 unfoldable pub answerOf : Reply → Answer
 answerOf (refused w) =

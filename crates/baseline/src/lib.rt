@@ -1,33 +1,24 @@
-// The baseline over a lent table: the public call, and the part of a day.
-mod numerators;
-mod refusals;
-mod table;
-
-ghost use denote.Ref.{ptr};
+// The baseline over a lent table: the public call.
 ghost use mathlib.Core.Path.{_≡_};
 ghost use lib.ListN.{length};
 ghost use Rattle.calendar.specs.Holidays.{group};
-ghost use Rattle.method.specs.Table.{history};
 ghost use Rattle.method.specs.Method.{outcome};
 ghost use Rattle.method.specs.HighXofY.{highXofY};
 ghost use Rattle.method.specs.Verdict.{refused, closing, verdict};
-ghost use Rattle.baseline.specs.Answer.{tableOf, answerOf};
-ghost use Rattle.baseline.specs.Part.{DayPart};
-ghost use Rattle.baseline.specs.Ready.{Answers, Passes, Ready, replyOf};
+ghost use Rattle.rooms.specs.Rooms.{roomHistory};
+ghost use Rattle.table.specs.Lent.{tableOf};
+ghost use Rattle.baseline.specs.Answer.{answerOf};
+ghost use Rattle.baseline.specs.Ready.{Answers, Fit, Ready, replyOf};
 use choose::Choosing;
 use choose::Chosen;
 use method::Refusal;
 use method::Request;
+use refusals::Tested;
+use rooms::Directory;
 
 pub enum Given {
     Answered,
     Refused(Refusal),
-}
-
-// What refusals that are tested one after the other come to.
-enum Tested {
-    Passed,
-    Failed(Refusal),
 }
 
 // What a call answers. Where it is refused, every field but `given` is nought.
@@ -58,30 +49,26 @@ fn refuse(refusal: Refusal) -> Answer
 
 // Days are chosen: refusal 10, or the answer, with the numerators in the output.
 fn finish(
-    first: u32,
-    marks: &[u8],
-    readings: &[u32],
     request: Request,
+    rooms: Directory,
+    readings: &[u32],
     chosen: Chosen,
     out: &mut [u32],
 ) -> Answer
-    requires { ⌜ Ready (tableOf first (now marks) (now readings)) request (length (now out)) chosen ⌝ }
-    ensures { λ r. ⌜ Answers (replyOf (tableOf first (now (marks .entry)) (now (readings .entry))) request chosen) r (now (out .entry)) (now (out .exit)) ⌝ }
+    requires { ⌜ Ready request rooms (now readings) (length (now out)) chosen ⌝ }
+    ensures { λ r. ⌜ Answers (replyOf request (roomHistory request rooms (now (readings .entry))) chosen) r (now (out .entry)) (now (out .exit)) ⌝ }
 {
-    let yesterday = day_part(first, marks, readings, request.event - 1);
-    let today = day_part(first, marks, readings, request.event);
+    let yesterday = rooms::part_at(readings, rooms.at[1]);
+    let today = rooms::part_at(readings, rooms.at[0]);
     let end = window::adjustment_end(request, yesterday, today);
     if end == 0 {
         return refuse(Refusal::NoAdjustmentWindow(chosen.reach));
     }
     let days = chosen.days;
-    let count = chosen.count as usize;
-    let own = window::window_sum(end, yesterday, today);
-    let adjustment = numerators::adjustment(first, readings, days, count, end, own);
-    let start = (request.s - 96) as usize;
+    let places = numerators::placed(request, rooms, days, chosen.count, end);
     let length = (request.e - request.s) as usize;
     let part = &mut out[..length];
-    numerators::write(first, readings, days, count, start, adjustment, part);
+    let adjustment = numerators::write(readings, places, yesterday, today, part);
     Answer {
         given: Given::Answered,
         chosen: chosen,
@@ -91,17 +78,10 @@ fn finish(
 }
 
 // None of the refusals 1 to 7 applies: the days are chosen, and refusal 8 or 9 given, or the answer.
-fn choose_days(
-    first: u32,
-    marks: &[u8],
-    readings: &[u32],
-    request: Request,
-    out: &mut [u32],
-) -> Answer
-    requires { ⌜ Passes (tableOf first (now marks) (now readings)) request (length (now out)) ⌝ }
-    ensures { λ r. ⌜ Answers (closing (outcome (highXofY group request) (history (tableOf first (now (marks .entry)) (now (readings .entry)))))) r (now (out .entry)) (now (out .exit)) ⌝ }
+fn choose_days(request: Request, rooms: Directory, readings: &[u32], out: &mut [u32]) -> Answer
+    requires { ⌜ Fit request rooms (now readings) (length (now out)) ⌝ }
+    ensures { λ r. ⌜ Answers (closing (outcome (highXofY group request) (roomHistory request rooms (now (readings .entry))))) r (now (out .entry)) (now (out .exit)) ⌝ }
 {
-    let rooms = table::directory(first, marks, request.event);
     let choice = choose::choose(request, rooms, readings);
     let choosing = choice.choosing;
     match choosing {
@@ -112,7 +92,7 @@ fn choose_days(
         }),
         Choosing::Days => {
             let chosen = choice.chosen;
-            finish(first, marks, readings, request, chosen, out)
+            finish(request, rooms, readings, chosen, out)
         }
     }
 }
@@ -127,30 +107,12 @@ pub fn baseline(
 ) -> Answer
     ensures { λ r. ⌜ Answers (verdict group (tableOf first (now (marks .entry)) (now (readings .entry))) request (length (now (out .entry)))) r (now (out .entry)) (now (out .exit)) ⌝ }
 {
-    let of_table = refusals::of_table(first, marks, readings);
-    match of_table {
+    let of_call = refusals::of_call(first, marks, readings, request, out.len());
+    match of_call {
         Tested::Failed(refusal) => refuse(refusal),
         Tested::Passed => {
-            let of_request = refusals::of_request(first, marks, request, out.len());
-            match of_request {
-                Tested::Failed(refusal) => refuse(refusal),
-                Tested::Passed => choose_days(first, marks, readings, request, out),
-            }
+            let rooms = table::directory(first, marks, request.event);
+            choose_days(request, rooms, readings, out)
         }
-    }
-}
-
-// The ninety-six readings of a day, as that part of the lent readings itself; an empty part for a day that is not held, or a table that
-// refusal 1 turns away.
-pub fn day_part<'a>(first: u32, marks: &[u8], readings: &'a [u32], day: u32) -> &'a [u32]
-    ensures { λ r. ⌜ DayPart (tableOf first (now (marks .entry)) (now (readings .entry))) day (ptr (readings .entry)) (now r) (ptr r) ⌝ }
-{
-    if table::has(first, marks, readings, day) {
-        let at = table::offset(first, day);
-        let end = at + 96;
-        &readings[at..end]
-    } else {
-        let none = 0;
-        &readings[none..none]
     }
 }

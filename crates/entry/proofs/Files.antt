@@ -14,7 +14,8 @@ use Rattle.method.specs.Table.{Table, heldDays}
 use Rattle.method.specs.Verdict.{Reply, refused, answered, verdict, written}
 use Rattle.baseline.specs.declared.Given.the-variants.{Answered, Refused as RefusedGiven}
 use Rattle.baseline.specs.declared.Answer.{Answer}
-use Rattle.baseline.specs.Answer.{tableOf, answerOf}
+use Rattle.table.specs.Lent.{tableOf}
+use Rattle.baseline.specs.Answer.{answerOf}
 use Rattle.baseline.specs.Ready.{Answers}
 use Rattle.record.specs.declared.Shape.{Shape}
 use Rattle.record.specs.declared.Read.{Read}

@@ -20,9 +20,9 @@ use Rattle.method.specs.Method.{chose, chosen, dated, few, isShort, outcome, re
 use Rattle.method.specs.HighXofY.{N, highXofY}
 use Rattle.method.specs.Verdict.{Answer, Reply, refused, answered, goodRequest, tableRefusals, requestRefusals, closing, firstOf}
 use Rattle.method.specs.Verdict.{methodology, verdict}
-use Rattle.baseline.proofs.FirstRefusal.{GoodRequest, good-request}
+use Rattle.refusals.proofs.FirstRefusal.{GoodRequest, good-request}
 use Rattle.baseline.proofs.Laws.{never-both}
-use Rattle.baseline.proofs.Places.{length-places}
+use Rattle.places.proofs.Places.{length-places}
 
 -- more room than a day's quarters changes no test
 most-room : (n k : ℕ) → k ≤ 96 → ltb (min n 96) k ≡ ltb n k

@@ -3,7 +3,7 @@ ghost use mathlib.Core.Path.{_≡_};
 ghost use lib.ListN.{length};
 ghost use Rattle.calendar.specs.Holidays.{group};
 ghost use Rattle.method.specs.Verdict.{verdict};
-ghost use Rattle.baseline.specs.Answer.{tableOf};
+ghost use Rattle.table.specs.Lent.{tableOf};
 ghost use Rattle.record.specs.Reader.{readFile, eventAtPlace};
 ghost use Rattle.entry.specs.Entry.{fileReply};
 ghost use Rattle.telling.specs.Telling.{toldFirst};

@@ -17,8 +17,8 @@ use Rattle.method.specs.Method.{Method, short, few, chose, outcome, window, cho
 use Rattle.method.specs.Adjustment.{ruler, adjustmentEnd, A, B, adjustment, Baseline, floored, baseline, baselineAt}
 use Rattle.method.specs.HighXofY.{N, highXofY}
 use Rattle.method.specs.Verdict.{Answer, Reply, refused, answered, goodRequest, requestRefusals, tableRefusals, closing, firstOf, methodology, verdict}
-use Rattle.baseline.proofs.FirstRefusal.{GoodRequest, good-request}
-use Rattle.baseline.proofs.Places.{length-places}
+use Rattle.refusals.proofs.FirstRefusal.{GoodRequest, good-request}
+use Rattle.places.proofs.Places.{length-places}
 
 pub record Sound (r : Request) (a : Answer) : Type 0 where
   pub few : length (a .days) ≤ 5

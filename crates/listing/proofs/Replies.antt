@@ -15,7 +15,7 @@ use Rattle.baseline.specs.declared.Given.the-variants.{Answered, Refused}
 use Rattle.baseline.specs.declared.Answer.{Answer}
 use Rattle.baseline.specs.Answer.{answerOf}
 use Rattle.baseline.specs.Ready.{Answers}
-use Rattle.baseline.proofs.FirstRefusal.{GoodRequest}
+use Rattle.refusals.proofs.FirstRefusal.{GoodRequest}
 use Rattle.listing.specs.Lines.{lineText, linesText}
 use Rattle.listing.specs.Listing.{refusalLine, eventLines, repliedLines, eventText}
 use Rattle.listing.specs.Writes.{CanPut, answerLines}

@@ -7,7 +7,7 @@ mod refusal_line;
 
 ghost use Prim.Native.Nat.{_≤_};
 ghost use lib.ListN.{length};
-ghost use Rattle.baseline.specs.Answer.{tableOf};
+ghost use Rattle.table.specs.Lent.{tableOf};
 ghost use Rattle.listing.specs.Lines.{lineText, linesText};
 ghost use Rattle.listing.specs.Listing.{openingLine, eventText};
 ghost use Rattle.listing.specs.Writes.{room, Writes, Begins, CanPut, answerLines};

@@ -1,22 +1,15 @@
--- `baseline::choose_days` meets its contract: the choice over the directory (known at `d`) is the choice over the table.
+-- `baseline::choose_days` meets its contract: the choice is known at `d`.
 use mathlib.Core.Path.{ap}
 use borrow.Author.Needs.{needs}
 use lib.ListN.{length}
 use Rattle.calendar.specs.Holidays.{group}
 use Rattle.method.specs.HighXofY.{highXofY}
-use Rattle.method.specs.Table.{history}
 use Rattle.method.specs.Verdict.{closing}
-use Rattle.baseline.specs.Answer.{tableOf}
+use Rattle.rooms.specs.Rooms.{roomHistory}
 use Rattle.baseline.proofs.Choosing.{short-is, few-is, days-is, ready, reply-is}
-use Rattle.baseline.proofs.Steps.{refuses, event-inside, passed-holds, rooms-choice}
+use Rattle.baseline.proofs.Steps.{refuses}
 use Rattle.baseline.proofs.choose_days.Statement.{statement}
 use Rattle.baseline.proofs.choose_days.Tie as tie
-
-directory-requires : tie.Need-directory-requires
-directory-requires c κs =
-    let s = c .before .before .before in
-    let a = s .args in
-    event-inside (tableOf (a .first) (a .marks .now) (a .readings .now)) (a .request) (length (a .out .now)) (s .pre)
 
 choose-requires : tie.Need-choose-requires
 choose-requires c κs = search needs
@@ -38,67 +31,52 @@ enum-told c = search needs
 
 finish-requires : tie.Need-finish-requires
 finish-requires c κs =
-    let d = c .before .before .before .before .before in
-    let s = d .before .before .before .before in
+    let d = c .before .before .before .before in
+    let s = d .before .before .before in
     let a = s .args in
-    let t = tableOf (a .first) (a .marks .now) (a .readings .now) in
-    let room = length (a .out .now) in
     let m = highXofY group (a .request) in
-    let same = rooms-choice group t (a .request) room (s .pre) (d .directory .ensures (a .readings .now))
-    (c .before .before .before .before .choose .ensures) in
-    ready group (a .request) t room (s .pre) (c .before .before .before .before .choose .result)
-    (days-is m (history t) same (c .before .before .enum-told .given .1))
-    (passed-holds t (a .request) room (s .pre))
+    let h = roomHistory (a .request) (a .rooms) (a .readings .now) in
+    ready group (a .request) (a .rooms) (a .readings .now) (length (a .out .now)) (s .pre) (d .choose .result)
+    (days-is m h (d .choose .ensures) (c .before .before .enum-told .given .1))
 
 returns : tie.Need-returns
 unfolding closing
 returns c =
-    let d = c .before .before .before .before .before in
-    let s = d .before .before .before .before in
+    let d = c .before .before .before .before in
+    let s = d .before .before .before in
     let a = s .args in
-    let t = tableOf (a .first) (a .marks .now) (a .readings .now) in
-    let room = length (a .out .now) in
     let m = highXofY group (a .request) in
-    let same = rooms-choice group t (a .request) room (s .pre) (d .directory .ensures (a .readings .now))
-    (c .before .before .before .before .choose .ensures) in
-    refuses (a .out .now) (c .refuse .ensures) (ap closing (short-is m (history t) same (c .before .before .choosing .given .1)))
+    let h = roomHistory (a .request) (a .rooms) (a .readings .now) in
+    refuses (a .out .now) (c .refuse .ensures) (ap closing (short-is m h (d .choose .ensures) (c .before .before .choosing .given .1)))
 
 returns-2 : tie.Need-returns-2
 unfolding closing
 returns-2 c =
-    let d = c .before .before .before .before .before in
-    let s = d .before .before .before .before in
+    let d = c .before .before .before .before in
+    let s = d .before .before .before in
     let a = s .args in
-    let t = tableOf (a .first) (a .marks .now) (a .readings .now) in
-    let room = length (a .out .now) in
     let m = highXofY group (a .request) in
-    let same = rooms-choice group t (a .request) room (s .pre) (d .directory .ensures (a .readings .now))
-    (c .before .before .before .before .choose .ensures) in
-    refuses (a .out .now) (c .refuse2 .ensures) (ap closing (few-is m (history t) same (c .before .before .choosing2 .given .1)))
+    let h = roomHistory (a .request) (a .rooms) (a .readings .now) in
+    refuses (a .out .now) (c .refuse2 .ensures) (ap closing (few-is m h (d .choose .ensures) (c .before .before .choosing2 .given .1)))
 
 same-length : tie.Need-same-length
 same-length c = search needs
 
 returns-3 : tie.Need-returns-3
 returns-3 c =
-    let d = c .before .before .before .before .before .before .before .before in
-    let s = d .before .before .before .before in
+    let d = c .before .before .before .before .before .before .before in
+    let s = d .before .before .before in
     let a = s .args in
-    let t = tableOf (a .first) (a .marks .now) (a .readings .now) in
-    let room = length (a .out .now) in
     let m = highXofY group (a .request) in
-    let same = rooms-choice group t (a .request) room (s .pre) (d .directory .ensures (a .readings .now))
-    (c .before .before .before .before .before .before .before .choose .ensures) in
-    let days = days-is m (history t) same (c .before .before .before .before .before .enum-told .given .1) in
-    rw (reply-is group (a .request) t room (s .pre) (c .before .before .before .before .before .before .before .choose .result) days
-    (passed-holds t (a .request) room (s .pre))) at
+    let h = roomHistory (a .request) (a .rooms) (a .readings .now) in
+    let days = days-is m h (d .choose .ensures) (c .before .before .before .before .before .enum-told .given .1) in
+    rw (reply-is group (a .request) (a .rooms) (a .readings .now) (length (a .out .now)) (s .pre) (d .choose .result) days) at
     (c .before .before .finish .ensures)
 
 pub choose-days-spec : {M : Type 1} → statement M
 choose-days-spec =
     tie.close
     (tie.spec
-    directory-requires
     choose-requires
     enum-known-choosing
     refuse-requires

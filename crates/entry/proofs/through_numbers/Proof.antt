@@ -1,7 +1,7 @@
 -- `entry::through_numbers` meets its contract: a refusal keeps the bytes, and an answer's numerators are put (`Numerators`).
 use mathlib.Core.Path.{sym}
 use native.Mathlib.Omega.{arith}
-use Rattle.baseline.specs.Answer.{tableOf}
+use Rattle.table.specs.Lent.{tableOf}
 use Rattle.entry.proofs.Files.{Numerators, kept, numerators}
 use borrow.Author.Needs.{needs}
 use Rattle.entry.proofs.through_numbers.Statement.{statement}

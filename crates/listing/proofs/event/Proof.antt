@@ -4,7 +4,7 @@ use mathlib.Core.Path.{sym}
 use native.Mathlib.Omega.{arith}
 use lib.ListN.{take}
 use borrow.Author.Needs.{needs}
-use Rattle.baseline.specs.Answer.{tableOf}
+use Rattle.table.specs.Lent.{tableOf}
 use Rattle.listing.proofs.Writing.{named}
 use Rattle.listing.proofs.Lines.{too-short, begins}
 use Rattle.listing.proofs.Replies.{refusal-text, Listed, listed}

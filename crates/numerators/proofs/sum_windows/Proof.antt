@@ -1,0 +1,87 @@
+-- `numerators::sum_windows` meets its contract. The loop's invariant: the total of the first `k` days.
+use Prim.Native.Nat.{_+_, _-_, _≤_}
+use mathlib.Core.Path.{_≡_, refl}
+use native.Mathlib.Omega.{arith}
+use borrow.Author.Needs.{needs}
+use lib.ListN.{take}
+use Rattle.lists.specs.Lists.{sumOf}
+use Rattle.numerators.specs.Numerators.{windowSums}
+use Rattle.numerators.proofs.Windows.{all-small, windows-few, windows-next}
+use Rattle.numerators.proofs.sum_windows.Statement.{statement}
+use Rattle.numerators.proofs.sum_windows.Tie as tie
+
+abbrev Inv-loop : tie.InvT-loop
+Inv-loop readings count end at total₀ k₀ total k = (k ≤ count) × (total ≡ windowSums readings (take k at) end)
+
+abbrev μ-loop : tie.MeasureT-loop
+μ-loop readings count end at total₀ k₀ total k = count - k
+
+loop-holds : tie.Need-loop-holds Inv-loop μ-loop
+unfolding windowSums sumOf
+loop-holds c = (omega arith, refl)
+
+mul-part-at : tie.Need-mul-part-at Inv-loop μ-loop
+mul-part-at c = search needs
+
+array-read-part-at : tie.Need-array-read-part-at Inv-loop μ-loop
+array-read-part-at c = omega arith
+
+part-at-requires : tie.Need-part-at-requires Inv-loop μ-loop
+part-at-requires c κs = search needs
+
+window-sum-requires : tie.Need-window-sum-requires Inv-loop μ-loop
+window-sum-requires c κs = search needs
+
+add-total : tie.Need-add-total Inv-loop μ-loop
+add-total c =
+    let s = c .before .before .before .before .before in
+    let a = s .args in
+    let l = c .before .before .before .loop in
+    let next = windows-next (a .readings .now) (a .t2) (a .end) (l .total) (l .k) (c .window-sum .result) (omega arith) (l .inv .1)
+    (c .before .part-at .ensures .list) (c .window-sum .ensures) in
+    let few = windows-few (a .readings .now) (a .t2) (a .end) (l .k + 1)
+    (all-small (a .readings .now) (c .before .before .before .before .shared-slice-known .given)) (omega arith) in
+    omega (arith, next, few)
+
+add-k : tie.Need-add-k Inv-loop μ-loop
+add-k c = omega arith
+
+loop-less : tie.Need-loop-less Inv-loop μ-loop
+loop-less c = omega arith
+
+loop-again : tie.Need-loop-again Inv-loop μ-loop
+loop-again c =
+    let a = c .before .before .before .before .before .args in
+    let l = c .before .before .before .loop in (
+      omega arith,
+      windows-next (a .readings .now) (a .t2) (a .end) (l .total) (l .k) (c .window-sum .result) (omega arith) (l .inv .1)
+          (c .before .part-at .ensures .list) (c .window-sum .ensures),
+    )
+
+returns : tie.Need-returns Inv-loop μ-loop
+returns c =
+    let s = c .before .before .before in
+    let a = s .args in
+    let l = c .before .loop in
+    let e : l .k ≡ a .count = omega arith in
+    let total = rw e at (l .inv .1) in
+    let few = windows-few (a .readings .now) (a .t2) (a .end) (a .count)
+    (all-small (a .readings .now) (c .before .before .shared-slice-known .given)) (s .pre) in
+    (total, omega (arith, total, few))
+
+pub sum-windows-spec : {M : Type 1} → statement M
+sum-windows-spec =
+    tie.close
+    (tie.spec
+    Inv-loop
+    μ-loop
+    loop-holds
+    mul-part-at
+    array-read-part-at
+    part-at-requires
+    window-sum-requires
+    add-total
+    add-k
+    loop-less
+    loop-again
+    returns)

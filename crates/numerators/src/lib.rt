@@ -1,0 +1,133 @@
+// The adjustment and the numerators of days that are read where they stand in lent readings. Total: a day that runs past the end has no
+// readings, and numbers of 32 bits wrap.
+ghost use mathlib.Core.Path.{_≡_};
+ghost use mathlib.Core.List.{map};
+ghost use Prim.Native.Nat.{_-_, _%_, _^_, _≤_, _<_, min};
+ghost use lib.ListN.{length, getD, take};
+ghost use lib.Signed.{mag};
+ghost use Rattle.method.specs.Adjustment.{places, unfloored, floored, adjustment as adjusted};
+ghost use Rattle.numerators.specs.Numerators.{windowSums, placedOf, Written};
+use method::Request;
+use rooms::Directory;
+
+// Where the chosen days stand, how many of the five they are, where the adjustment window ends, and the event's first quarter of the day.
+pub struct Places {
+    pub at: [u32; 5],
+    pub count: u32,
+    pub end: u32,
+    pub start: u32,
+}
+
+// The lesser of two numbers.
+fn least(a: u32, b: u32) -> u32
+    ensures { λ r. ⌜ r ≡ min a b ⌝ }
+{
+    if a < b { a } else { b }
+}
+
+// The first number less the second; 0 where it is not above it.
+fn minus(a: u32, b: u32) -> u32
+    ensures { λ r. ⌜ r ≡ a - b ⌝ }
+{
+    if b <= a { a - b } else { 0 }
+}
+
+// Where the readings of the day so many days before the event start; 0 past the directory.
+fn start_of(starts: [u32; 46], back: u32) -> u32
+    ensures { λ r. ⌜ r ≡ getD starts back 0 ⌝ }
+{
+    if back < 46 { starts[back as usize] } else { 0 }
+}
+
+// The places of chosen days, by the directory of the days before an event.
+pub fn placed(request: Request, rooms: Directory, days: [u32; 5], count: u32, end: u32) -> Places
+    ensures { λ r. ⌜ r ≡ placedOf request (rooms .at) days count end ⌝ }
+{
+    let starts = rooms.at;
+    let mut at = [0u32; 5];
+    let mut k = 0;
+    while k < 5 {
+        at[k] = start_of(starts, minus(request.event, days[k]));
+        k += 1;
+    }
+    Places {
+        at: at,
+        count: count,
+        end: end,
+        start: minus(request.s, 96),
+    }
+}
+
+// A numerator: twelve times a sum and the adjustment's numerator, floored at zero.
+fn numerator(sum: u32, adjustment: i64) -> u32
+    requires { ⌜ mag adjustment < 2 ^ 40 ⌝ }
+    ensures { λ r. ⌜ r ≡ floored (unfloored sum adjustment) % 2 ^ 32 ⌝ }
+{
+    let raw = 12 * (sum as i64) + adjustment;
+    if raw < 0 {
+        0
+    } else {
+        ((raw as u64) % 4294967296) as u32
+    }
+}
+
+// Every sum becomes its numerator.
+fn floor(sums: &mut [u32], adjustment: i64)
+    requires { ⌜ mag adjustment < 2 ^ 40 ⌝ }
+    ensures { λ _. ⌜ now (sums .exit) ≡ map (λ q. floored (unfloored (getD (now (sums .entry)) q 0) adjustment) % 2 ^ 32) (places (length (now (sums .entry))) 0) ⌝ }
+{
+    let mut q = 0;
+    while q < sums.len() {
+        sums[q] = numerator(sums[q], adjustment);
+        q += 1;
+    }
+}
+
+// B: what the chosen days have in the adjustment window.
+fn sum_windows(readings: &[u32], at: [u32; 5], count: usize, end: u32) -> u64
+    requires { ⌜ count ≤ 5 ⌝ }
+    ensures { λ r. ⌜ (r ≡ windowSums (now (readings .entry)) (take count at) end) × (r ≤ 257698037700) ⌝ }
+{
+    let mut total: u64 = 0;
+    let mut k = 0;
+    while k < count {
+        let day = rooms::part_at(readings, at[k]);
+        total += window::window_sum(end, day, day);
+        k += 1;
+    }
+    total
+}
+
+// The adjustment's numerator, N·A - B, of A and the chosen days.
+fn adjustment(readings: &[u32], at: [u32; 5], count: usize, end: u32, own: u64) -> i64
+    requires { ⌜ (count ≤ 5) × (own ≤ 51539607540) ⌝ }
+    ensures { λ r. ⌜ (r ≡ adjusted count own (windowSums (now (readings .entry)) (take count at) end)) × (mag r < 2 ^ 40) ⌝ }
+{
+    let usual = sum_windows(readings, at, count, end);
+    (((count as u64) * own) as i64) - (usual as i64)
+}
+
+// The adjustment's numerator, and into the output the numerators of the quarters from the event's first on.
+pub fn write(
+    readings: &[u32],
+    chosen: Places,
+    yesterday: &[u32],
+    today: &[u32],
+    out: &mut [u32],
+) -> i64
+    ensures { λ r. ⌜ Written (now (readings .entry)) chosen (now (yesterday .entry)) (now (today .entry)) (length (now (out .entry))) r (now (out .exit)) ⌝ }
+{
+    let at = chosen.at;
+    let count = least(chosen.count, 5) as usize;
+    let own = window::window_sum(chosen.end, yesterday, today);
+    let adjustment = adjustment(readings, at, count, chosen.end, own);
+    quarters::sum_days(
+        readings,
+        at,
+        chosen.count as usize,
+        chosen.start as usize,
+        out,
+    );
+    floor(out, adjustment);
+    adjustment
+}

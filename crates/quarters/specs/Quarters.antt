@@ -1,0 +1,10 @@
+-- The sum of a quarter over days that are read where they stand in lent readings.
+use Prim.Native.Nat.{ℕ}
+use mathlib.Core.List.{List, map}
+use lib.ListN.{getD}
+use Rattle.lists.specs.Lists.{sumOf}
+use Rattle.rooms.specs.Rooms.{partAt}
+
+-- S: the sum, over days, of the reading at a quarter of the day
+unfoldable pub quarterSum : List ℕ → List ℕ → ℕ → ℕ
+quarterSum readings at q = sumOf (map (λ a. getD (partAt readings a) q 0) at)

@@ -1,0 +1,2 @@
+pub mod Extracts
+pub mod Rooms

@@ -1,0 +1,94 @@
+-- `table::day_part` meets its contract: a part of the lent readings, at its place. Whether the day is held is known at `d`.
+use mathlib.Core.Path.{refl, sym, _∙_}
+use native.Mathlib.Omega.{arith}
+use borrow.Author.Needs.{needs}
+use Rattle.table.specs.Lent.{tableOf}
+use Rattle.table.proofs.Extracts.{has-inside, part-held, part-none}
+use Rattle.table.proofs.day_part.Statement.{statement}
+use Rattle.table.proofs.day_part.Tie as tie
+
+has-requires : tie.Need-has-requires
+has-requires c κs = search needs
+
+offset-requires : tie.Need-offset-requires
+offset-requires c κs =
+    let d = c .before in
+    let a = d .before .before .before .args in
+    let t = tableOf (a .first) (a .marks .now) (a .readings .now) in
+    let held = sym (d .has .ensures) ∙ c .if1 .taken in
+    has-inside t (a .day) held .0
+
+add-end : tie.Need-add-end
+add-end c =
+    let d = c .before .before in
+    let a = d .before .before .before .args in
+    let t = tableOf (a .first) (a .marks .now) (a .readings .now) in
+    let held = sym (d .has .ensures) ∙ c .before .if1 .taken in
+    omega (arith, has-inside t (a .day) held)
+
+mul-result : tie.Need-mul-result
+mul-result c =
+    let d = c .before .before in
+    let a = d .before .before .before .args in
+    let t = tableOf (a .first) (a .marks .now) (a .readings .now) in
+    let held = sym (d .has .ensures) ∙ c .before .if1 .taken in
+    omega (arith, has-inside t (a .day) held)
+
+sub-result : tie.Need-sub-result
+sub-result c = search needs
+
+part-result-start : tie.Need-part-result-start
+part-result-start c = search needs
+
+part-result-end : tie.Need-part-result-end
+part-result-end c =
+    let d = c .before .before in
+    let a = d .before .before .before .args in
+    let t = tableOf (a .first) (a .marks .now) (a .readings .now) in
+    let held = sym (d .has .ensures) ∙ c .before .if1 .taken in
+    omega (arith, has-inside t (a .day) held)
+
+mul-result-2 : tie.Need-mul-result-2
+mul-result-2 c = search needs
+
+sub-result-2 : tie.Need-sub-result-2
+sub-result-2 c = search needs
+
+part-result-start-2 : tie.Need-part-result-start-2
+part-result-start-2 c = search needs
+
+part-result-end-2 : tie.Need-part-result-end-2
+part-result-end-2 c = search needs
+
+returns : tie.Need-returns
+returns c =
+    let d = c .before .before .before in
+    let a = d .before .before .before .args in
+    let t = tableOf (a .first) (a .marks .now) (a .readings .now) in
+    let held = sym (d .has .ensures) ∙ c .before .before .if1 .taken in
+    part-held t (a .day) (a .readings .ptr) _ _ refl (c .before .offset .result) (c .before .offset .ensures) held refl (omega arith)
+
+returns-2 : tie.Need-returns-2
+returns-2 c =
+    let d = c .before .before in
+    let a = d .before .before .before .args in
+    let t = tableOf (a .first) (a .marks .now) (a .readings .now) in
+    part-none t (a .day) (a .readings .ptr) _ _ refl (sym (d .has .ensures) ∙ c .before .if1 .left) refl (omega arith)
+
+pub day-part-spec : {M : Type 1} → statement M
+day-part-spec =
+    tie.close
+    (tie.spec
+    has-requires
+    offset-requires
+    add-end
+    mul-result
+    sub-result
+    part-result-start
+    part-result-end
+    mul-result-2
+    sub-result-2
+    part-result-start-2
+    part-result-end-2
+    returns
+    returns-2)
