@@ -4,11 +4,12 @@ SHELL := bash
 .DEFAULT_GOAL := all
 .DELETE_ON_ERROR:
 .NOTPARALLEL:
-.PHONY: all help demo check test examples samples install bench fuzz search fmt changed clean
+.PHONY: all help demo check test part examples samples install bench fuzz search fmt changed clean
 
 PREFIX ?= /usr/local
 FUZZ_SECONDS ?= 600
 FIRST ?= 5000000
+CRATES ?= method vectors
 proved_from := crates.txt $(shell find crates -name '*.rt' -o -name '*.antt' -o -path '*/list/std*')
 version := $(shell sed -n 's/^\#define HP_VERSION "\(.*\)"/\1/p' include/honeyplank.h)
 library := build/lib/libhoneyplank.a build/include/honeyplank.h build/lib/pkgconfig/honeyplank.pc
@@ -32,6 +33,9 @@ check: ## prove every crate that changed, and run the programs
 
 test: ## the gate: everything from nothing; the last line is 'N passed, 0 failed'
 	@tests/gate
+
+part: ## prove some crates and what they are built on, and try their must-fail edits (CRATES='method vectors')
+	rt must-fail $(CRATES)
 
 examples: $(library) ## build the example programs, under build/examples/
 	@mkdir -p build/examples

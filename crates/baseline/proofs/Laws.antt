@@ -29,7 +29,6 @@ use Rattle.baseline.specs.declared.Answer.{Answer}
 use Rattle.refusals.specs.declared.Tested.{Tested}
 use Rattle.refusals.specs.declared.Tested.the-variants.{Passed, Failed}
 use Rattle.table.specs.Directory.{directoryOf}
-use Rattle.table.specs.Part.{DayPart}
 use Rattle.numerators.proofs.Signed.{numerator-is}
 use Rattle.refusals.specs.Tests.{tested, callRefusals}
 use Rattle.baseline.specs.Ready.{Answers, Ready, replyOf}
@@ -49,11 +48,6 @@ never-both e f = let z : _≡_ {A = ℕ} 0 1 = cc in omega arith
 pub answers-unique : {reply : Reply} {r r′ : Answer} {out after after′ : List ℕ} → Answers reply r out after → Answers reply r′ out after′
     → (r ≡ r′) × (after ≡ after′)
 answers-unique p q = (unique (p .answer) (q .answer), unique (p .output) (q .output))
-
-pub part-unique : {t : Table} {day : ℕ} {whole : ℕ × ℕ} {part part′ : List ℕ} {at at′ : ℕ × ℕ} → DayPart t day whole part at
-    → DayPart t day whole part′ at′
-    → (part ≡ part′) × (at .0 ≡ at′ .0) × (at .1 ≡ at′ .1)
-part-unique p q = (unique (p .list) (q .list), unique (p .block) (q .block), unique (p .byte) (q .byte))
 
 -- ---- a numerator over 12N is max(0, initial + adjustment), that is max(0, S/N + (N·A - B)/(12N)): cut-off subtraction floors it at zero
 pub numerators-are : (r : Request) (n : ℕ) (chosen : List (ℕ × Day)) (a b : ℕ)

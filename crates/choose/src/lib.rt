@@ -2,7 +2,7 @@
 // (document 01, "Choosing the days"). A table, a ring and a shared store make a directory; the choice is the same function.
 ghost use mathlib.Core.Path.{_≡_};
 ghost use mathlib.Core.List.{map};
-ghost use Prim.Native.Nat.{_-_, _%_, _≤_, _<_, min};
+ghost use Prim.Native.Nat.{_-_, _%_, _≤_, _<_};
 ghost use lib.ListN.{length, take};
 ghost use Rattle.calendar.specs.Holidays.{group as groupOf};
 ghost use Rattle.method.specs.Method.{wholeReach};
@@ -14,6 +14,7 @@ ghost use Rattle.choose.specs.Look.{roomsOf, nearest, ifRelevant, Furthe
 use calendar::Group;
 use judging::Judged;
 use method::Request;
+use numbers::counts;
 use rooms::Directory;
 
 // The chosen days in rank order, the first `count` of the five, and the reach.
@@ -48,20 +49,6 @@ struct Found {
 
 // How far back a day may lie.
 const LOOK_BACK: u32 = 45;
-
-// The first number less the second; 0 where it is not above it.
-fn less(a: u32, b: u32) -> u32
-    ensures { λ r. ⌜ r ≡ a - b ⌝ }
-{
-    if b <= a { a - b } else { 0 }
-}
-
-// The lesser of two numbers.
-fn lesser(a: u32, b: u32) -> u32
-    ensures { λ r. ⌜ r ≡ min a b ⌝ }
-{
-    if a < b { a } else { b }
-}
 
 // Y: how many eligible days fill the window.
 fn most(group: Group) -> u32
@@ -153,7 +140,7 @@ fn look(request: Request, group: Group, rooms: Directory, readings: &[u32], held
 fn day_of(event: u32, word: u64) -> u32
     ensures { λ r. ⌜ r ≡ event - (46 - word % 64) ⌝ }
 {
-    less(event, less(46, ranking::nearness_of(word)))
+    counts::minus(event, counts::minus(46, ranking::nearness_of(word)))
 }
 
 // The days of the first words of a row, up to five.
@@ -215,7 +202,7 @@ fn choose_among_few(request: Request, group: Group, found: Found, held: u32) -> 
     }
     let spare = found.spare;
     let eligible = found.eligible;
-    let row = ranking::insert_all(spare, less(wanted, found.count) as usize, eligible);
+    let row = ranking::insert_all(spare, counts::minus(wanted, found.count) as usize, eligible);
     first_of(request.event, row, wanted, reach)
 }
 
@@ -225,7 +212,7 @@ pub fn choose(request: Request, rooms: Directory, readings: &[u32]) -> Choice
 {
     let event = request.event;
     let group = calendar::group_of(event);
-    let held = lesser(rooms.held, lesser(LOOK_BACK, event));
+    let held = counts::least(rooms.held, counts::least(LOOK_BACK, event));
     let found = look(request, group, rooms, readings, held);
     if found.count < most(group) {
         choose_among_few(request, group, found, held)

@@ -1,9 +1,10 @@
 // What a day's mark and readings make of it: eligible or spare with its word, or neither (document 01, "Choosing the days").
 ghost use mathlib.Core.Path.{_≡_};
-ghost use Prim.Native.Nat.{_-_, _%_, _^_};
+ghost use Prim.Native.Nat.{_%_, _^_};
 ghost use Rattle.method.specs.HighXofY.{eventSum};
 ghost use Rattle.judging.specs.Judging.{room, judgedAt};
 use method::Request;
+use numbers::counts;
 
 // What the readings and marks of a relevant day make of it, with its word.
 pub enum Judged {
@@ -12,19 +13,12 @@ pub enum Judged {
     Neither,
 }
 
-// The first number less the second; 0 where it is not above it.
-fn less(a: u32, b: u32) -> u32
-    ensures { λ r. ⌜ r ≡ a - b ⌝ }
-{
-    if b <= a { a - b } else { 0 }
-}
-
 // The sum of a day's readings over the event's own quarters, as a number of 64 bits.
 fn event_sum(request: Request, part: &[u32]) -> u64
     ensures { λ r. ⌜ r ≡ eventSum request (room 0 (now (part .entry))) % 2 ^ 64 ⌝ }
 {
-    let start = less(request.s, 96) as usize;
-    let end = start + less(request.e, request.s) as usize;
+    let start = counts::minus(request.s, 96) as usize;
+    let end = start + counts::minus(request.e, request.s) as usize;
     sums::sum_between(part, start, end)
 }
 
@@ -36,7 +30,7 @@ pub fn judge(request: Request, mark: u8, part: &[u32], back: u32) -> Judged
         return Judged::Neither;
     }
     if readings::complete(part) {
-        let word = ranking::word(event_sum(request, part), less(46, back));
+        let word = ranking::word(event_sum(request, part), counts::minus(46, back));
         if marks::is_event(mark) {
             Judged::Spare(word)
         } else {

@@ -2,12 +2,13 @@
 // readings, and numbers of 32 bits wrap.
 ghost use mathlib.Core.Path.{_≡_};
 ghost use mathlib.Core.List.{map};
-ghost use Prim.Native.Nat.{_-_, _%_, _^_, _≤_, _<_, min};
+ghost use Prim.Native.Nat.{_%_, _^_, _≤_, _<_};
 ghost use lib.ListN.{length, getD, take};
 ghost use lib.Signed.{mag};
 ghost use Rattle.method.specs.Adjustment.{places, unfloored, floored, adjustment as adjusted};
 ghost use Rattle.numerators.specs.Numerators.{windowSums, placedOf, Written};
 use method::Request;
+use numbers::counts;
 use rooms::Directory;
 
 // Where the chosen days stand, how many of the five they are, where the adjustment window ends, and the event's first quarter of the day.
@@ -16,20 +17,6 @@ pub struct Places {
     pub count: u32,
     pub end: u32,
     pub start: u32,
-}
-
-// The lesser of two numbers.
-fn least(a: u32, b: u32) -> u32
-    ensures { λ r. ⌜ r ≡ min a b ⌝ }
-{
-    if a < b { a } else { b }
-}
-
-// The first number less the second; 0 where it is not above it.
-fn minus(a: u32, b: u32) -> u32
-    ensures { λ r. ⌜ r ≡ a - b ⌝ }
-{
-    if b <= a { a - b } else { 0 }
 }
 
 // Where the readings of the day so many days before the event start; 0 past the directory.
@@ -47,14 +34,14 @@ pub fn placed(request: Request, rooms: Directory, days: [u32; 5], count: u32, en
     let mut at = [0u32; 5];
     let mut k = 0;
     while k < 5 {
-        at[k] = start_of(starts, minus(request.event, days[k]));
+        at[k] = start_of(starts, counts::minus(request.event, days[k]));
         k += 1;
     }
     Places {
         at: at,
         count: count,
         end: end,
-        start: minus(request.s, 96),
+        start: counts::minus(request.s, 96),
     }
 }
 
@@ -118,7 +105,7 @@ pub fn write(
     ensures { λ r. ⌜ Written (now (readings .entry)) chosen (now (yesterday .entry)) (now (today .entry)) (length (now (out .entry))) r (now (out .exit)) ⌝ }
 {
     let at = chosen.at;
-    let count = least(chosen.count, 5) as usize;
+    let count = counts::least(chosen.count, 5) as usize;
     let own = window::window_sum(chosen.end, yesterday, today);
     let adjustment = adjustment(readings, at, count, chosen.end, own);
     quarters::sum_days(

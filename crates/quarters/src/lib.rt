@@ -6,13 +6,7 @@ ghost use Prim.Native.Nat.{_+_, _%_, _^_, min};
 ghost use lib.ListN.{length, getD, take};
 ghost use Rattle.method.specs.Adjustment.{places};
 ghost use Rattle.quarters.specs.Quarters.{quarterSum};
-
-// The lesser of two numbers.
-fn least(a: usize, b: usize) -> usize
-    ensures { λ r. ⌜ r ≡ min a b ⌝ }
-{
-    if a < b { a } else { b }
-}
+use numbers::sizes;
 
 // Every sum becomes nought.
 fn clear(sums: &mut [u32])
@@ -41,8 +35,8 @@ fn add_part(sums: &mut [u32], part: &[u32])
 fn add_day(sums: &mut [u32], day: &[u32], start: usize)
     ensures { λ _. ⌜ now (sums .exit) ≡ map (λ q. (getD (now (sums .entry)) q 0 + getD (now (day .entry)) (start + q) 0) % 2 ^ 32) (places (length (now (sums .entry))) 0) ⌝ }
 {
-    let from = least(start, day.len());
-    let length = least(day.len() - from, sums.len());
+    let from = sizes::least(start, day.len());
+    let length = sizes::least(day.len() - from, sums.len());
     let end = from + length;
     let part = &mut sums[..length];
     add_part(part, &day[from..end]);
@@ -53,7 +47,7 @@ pub fn sum_days(readings: &[u32], at: [u32; 5], count: usize, start: usize, sums
     ensures { λ _. ⌜ now (sums .exit) ≡ map (λ q. quarterSum (now (readings .entry)) (take (min count 5) at) (start + q) % 2 ^ 32) (places (length (now (sums .entry))) 0) ⌝ }
 {
     clear(sums);
-    let days = least(count, 5);
+    let days = sizes::least(count, 5);
     let mut k = 0;
     while k < days {
         let day = rooms::part_at(readings, at[k]);

@@ -1,7 +1,6 @@
 // Which days are relevant to an event, and how far back they go (document 01, "Choosing the days"). The calendar alone decides: no reading and
 // no mark plays a part.
 ghost use mathlib.Core.Path.{_≡_};
-ghost use Prim.Native.Nat.{min};
 ghost use Rattle.calendar.specs.Holidays.{group as groupOf};
 ghost use Rattle.method.specs.Relevant.{groupNumber, sameGroup};
 ghost use Rattle.method.specs.Method.{wholeReach};
@@ -9,6 +8,7 @@ ghost use Rattle.method.specs.HighXofY.{highXofY};
 ghost use Rattle.relevance.specs.Relevance.{relevantTo};
 use calendar::Group;
 use method::Request;
+use numbers::counts;
 
 // How far back a day may lie.
 const LOOK_BACK: u32 = 45;
@@ -61,20 +61,13 @@ pub fn relevant(request: Request, group: Group, day: u32) -> bool
     in_group(group, day)
 }
 
-// The lesser of two numbers.
-fn lesser(a: u32, b: u32) -> u32
-    ensures { λ r. ⌜ r ≡ min a b ⌝ }
-{
-    if a < b { a } else { b }
-}
-
 // How far back the oldest relevant day lies; 0 where none is relevant. It is looked for from the farthest day on.
 pub fn whole_reach(request: Request) -> u32
     ensures { λ r. ⌜ r ≡ wholeReach (highXofY groupOf request) ⌝ }
 {
     let event = request.event;
     let group = calendar::group_of(event);
-    let mut back = lesser(LOOK_BACK, event);
+    let mut back = counts::least(LOOK_BACK, event);
     while 0 < back {
         if relevant(request, group, event - back) {
             return back;

@@ -1,8 +1,9 @@
 // Sums of lent readings. Total functions over slices of any length and any values.
 ghost use mathlib.Core.Path.{_≡_};
-ghost use Prim.Native.Nat.{_-_, min};
+ghost use Prim.Native.Nat.{_-_};
 ghost use lib.ListN.{take, drop};
 ghost use Rattle.sums.specs.Sums.{Summed};
+use numbers::sizes;
 
 // The sum of numbers, as a number of 64 bits: of fewer than 2 ^ 32 numbers it is exact.
 pub fn sum(xs: &[u32]) -> u64
@@ -15,18 +16,11 @@ pub fn sum(xs: &[u32]) -> u64
     total
 }
 
-// The lesser of two numbers.
-fn least(a: usize, b: usize) -> usize
-    ensures { λ r. ⌜ r ≡ min a b ⌝ }
-{
-    if a < b { a } else { b }
-}
-
 // The sum of what there is from `start` up to `end`.
 pub fn sum_between(xs: &[u32], start: usize, end: usize) -> u64
     ensures { λ r. ⌜ Summed (take (end - start) (drop start (now (xs .entry)))) r ⌝ }
 {
-    let last = least(end, xs.len());
+    let last = sizes::least(end, xs.len());
     if start < last {
         sum(&xs[start..last])
     } else {

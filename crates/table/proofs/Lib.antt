@@ -1,2 +1,3 @@
 pub mod Extracts
 pub mod Rooms
+pub mod Laws

@@ -2,11 +2,12 @@
 ghost use denote.Ref.{ptr};
 ghost use mathlib.Core.Path.{_≡_};
 ghost use mathlib.Core.List.{List};
-ghost use Prim.Native.Nat.{ℕ, _-_, _≤_, min};
+ghost use Prim.Native.Nat.{ℕ, _-_, _≤_};
 ghost use Rattle.method.specs.Table.{isExtract, held, history, offset};
 ghost use Rattle.table.specs.Lent.{tableOf};
 ghost use Rattle.table.specs.Directory.{entriesOf, directoryOf};
 ghost use Rattle.table.specs.Part.{hasDay, DayPart};
+use numbers::counts;
 use rooms::Directory;
 
 // 31 December 2099
@@ -51,20 +52,6 @@ fn has(first: u32, marks: &[u8], readings: &[u32], day: u32) -> bool
     }
 }
 
-// The lesser of two numbers.
-fn least(a: u32, b: u32) -> u32
-    ensures { λ r. ⌜ r ≡ min a b ⌝ }
-{
-    if a < b { a } else { b }
-}
-
-// The first number less the second; 0 where it is not above it.
-fn minus(a: u32, b: u32) -> u32
-    ensures { λ r. ⌜ r ≡ a - b ⌝ }
-{
-    if b <= a { a - b } else { 0 }
-}
-
 // Where a day's readings start: the one function that knows where a table keeps a day.
 fn offset(first: u32, day: u32) -> usize
     requires { ⌜ first ≤ day ⌝ }
@@ -81,7 +68,7 @@ fn entries(first: u32, marks: &[u8], event: u32) -> u32
         return 0;
     }
     if is_held(first, marks, event) {
-        least(46, event - first + 1)
+        counts::least(46, event - first + 1)
     } else {
         0
     }
@@ -107,7 +94,7 @@ pub fn directory(first: u32, marks: &[u8], event: u32) -> Directory
     Directory {
         at: at,
         marks: kept,
-        held: minus(entries, 1),
+        held: counts::minus(entries, 1),
     }
 }
 

@@ -1,11 +1,12 @@
 // The adjustment window on the ruler of two days: where it ends, and the sum of its twelve readings. Total functions over days of any length.
 ghost use mathlib.Core.Path.{_≡_};
 ghost use mathlib.Core.List.{_++_};
-ghost use Prim.Native.Nat.{_-_, _≤_};
+ghost use Prim.Native.Nat.{_≤_};
 ghost use lib.ListN.{getD};
 ghost use Rattle.method.specs.Adjustment.{A as twelveSum, windowEnds, latestEnd, adjustmentEnd};
 ghost use Rattle.window.specs.Steps.{RunBefore};
 use method::Request;
+use numbers::sizes;
 
 // 01: "4,294,967,295 means missing"
 const MISSING: u32 = 4294967295;
@@ -74,23 +75,16 @@ pub fn adjustment_end(request: Request, yesterday: &[u32], today: &[u32]) -> u32
     }
 }
 
-// The first number less the second; 0 where it is not above it.
-fn minus(a: usize, b: usize) -> usize
-    ensures { λ r. ⌜ r ≡ a - b ⌝ }
-{
-    if b <= a { a - b } else { 0 }
-}
-
 // The sum of the twelve readings that end at a place of the ruler. Twelve numbers of 32 bits are
 // added up exactly.
 pub fn window_sum(end: u32, yesterday: &[u32], today: &[u32]) -> u64
     ensures { λ r. ⌜ r ≡ twelveSum (now (yesterday .entry) ++ now (today .entry)) end ⌝ }
 {
-    let start = minus(end as usize, 12);
+    let start = sizes::minus(end as usize, 12);
     let last = start + 12;
     let day = yesterday.len();
     std::num::wrapping_add_u64(
         sums::sum_between(yesterday, start, last),
-        sums::sum_between(today, minus(start, day), minus(last, day)),
+        sums::sum_between(today, sizes::minus(start, day), sizes::minus(last, day)),
     )
 }

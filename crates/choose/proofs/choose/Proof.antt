@@ -10,11 +10,11 @@ use Rattle.choose.proofs.choose.Tie as tie
 group-of-requires : tie.Need-group-of-requires
 group-of-requires c κs = search needs
 
-lesser-requires : tie.Need-lesser-requires
-lesser-requires c κs = search needs
+least-requires : tie.Need-least-requires
+least-requires c κs = search needs
 
-lesser-requires-2 : tie.Need-lesser-requires-2
-lesser-requires-2 c κs = search needs
+least-requires-2 : tie.Need-least-requires-2
+least-requires-2 c κs = search needs
 
 look-requires : tie.Need-look-requires
 look-requires c κs = search needs
@@ -36,7 +36,7 @@ returns : tie.Need-returns
 returns c =
     let a = c .before .before .before .before .before .before .before .before .before .args in
     let own = c .before .before .before .before .before .before .before .group-of .ensures in
-    let held = held-is (a .request) (a .rooms) (c .before .before .before .before .before .before .lesser .ensures) (c .before .before .before .before .before .lesser2 .ensures) in
+    let held = held-is (a .request) (a .rooms) (c .before .before .before .before .before .before .least .ensures) (c .before .before .before .before .before .least2 .ensures) in
     let found = c .before .before .before .before .look in
     c .choose-among-few .ensures
     ∙ rw (held, own)
@@ -47,7 +47,7 @@ returns-2 : tie.Need-returns-2
 returns-2 c =
     let a = c .before .before .before .before .before .before .before .before .before .before .before .args in
     let own = c .before .before .before .before .before .before .before .before .before .group-of .ensures in
-    let held = held-is (a .request) (a .rooms) (c .before .before .before .before .before .before .before .before .lesser .ensures) (c .before .before .before .before .before .before .before .lesser2 .ensures) in
+    let held = held-is (a .request) (a .rooms) (c .before .before .before .before .before .before .before .before .least .ensures) (c .before .before .before .before .before .before .before .least2 .ensures) in
     let found = c .before .before .before .before .before .before .look in
     c .first-of .ensures
     ∙ rw (c .before .fill .ensures, own)
@@ -59,8 +59,8 @@ choose-spec =
     tie.close
     (tie.spec
     group-of-requires
-    lesser-requires
-    lesser-requires-2
+    least-requires
+    least-requires-2
     look-requires
     most-requires
     choose-among-few-requires

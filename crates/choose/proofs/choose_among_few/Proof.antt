@@ -37,8 +37,8 @@ returns-2 c =
     c .refused2 .ensures ∙ few-days (a .request) (N (a .group)) (a .found) (a .held) (far .result) (c .before .before .before .before .if1 .left) too-few
     ∙ ap (amongFew (a .request) (N (a .group)) (a .found) (a .held)) (far .ensures)
 
-less-requires : tie.Need-less-requires
-less-requires c κs = search needs
+minus-requires : tie.Need-minus-requires
+minus-requires c κs = search needs
 
 cast-insert-all : tie.Need-cast-insert-all
 cast-insert-all c = search needs
@@ -54,7 +54,7 @@ returns-3 c =
     let a = c .before .before .before .before .before .before .before .before .before .before .args in
     let far = c .before .before .before .before .before .before .before .before .before .whole-reach in
     let wanted = c .before .before .before .before .before .before .before .fill .ensures in
-    c .first-of .ensures ∙ rw (c .before .insert-all .ensures, c .before .before .less .ensures, wanted)
+    c .first-of .ensures ∙ rw (c .before .insert-all .ensures, c .before .before .minus .ensures, wanted)
     (enough-days (a .request) (N (a .group)) (a .found) (a .held) (far .result) (c .before .before .before .before .before .before .before .before .if1 .left) (rw wanted at (c .before .before .before .before .before .if2 .left))
     ∙ ap (amongFew (a .request) (N (a .group)) (a .found) (a .held)) (far .ensures))
 
@@ -69,7 +69,7 @@ choose-among-few-spec =
     add-size
     refused-requires-2
     returns-2
-    less-requires
+    minus-requires
     cast-insert-all
     insert-all-requires
     first-of-requires

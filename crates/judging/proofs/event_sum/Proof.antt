@@ -4,14 +4,14 @@ use Rattle.judging.proofs.Judging.{event-part}
 use Rattle.judging.proofs.event_sum.Statement.{statement}
 use Rattle.judging.proofs.event_sum.Tie as tie
 
-less-requires : tie.Need-less-requires
-less-requires c κs = search needs
+minus-requires : tie.Need-minus-requires
+minus-requires c κs = search needs
 
 cast-start : tie.Need-cast-start
 cast-start c = search needs
 
-less-requires-2 : tie.Need-less-requires-2
-less-requires-2 c κs = search needs
+minus-requires-2 : tie.Need-minus-requires-2
+minus-requires-2 c κs = search needs
 
 cast-end : tie.Need-cast-end
 cast-end c = search needs
@@ -25,16 +25,16 @@ sum-between-requires c κs = search needs
 returns : tie.Need-returns
 returns c =
     let a = c .before .before .before .before .args in
-    event-part (a .request) (a .part .now) (c .before .before .less .result) (c .before .less2 .result) (c .sum-between .result)
-    (c .before .before .less .ensures) (c .before .less2 .ensures) (c .sum-between .ensures)
+    event-part (a .request) (a .part .now) (c .before .before .minus .result) (c .before .minus2 .result) (c .sum-between .result)
+    (c .before .before .minus .ensures) (c .before .minus2 .ensures) (c .sum-between .ensures)
 
 pub event-sum-spec : {M : Type 1} → statement M
 event-sum-spec =
     tie.close
     (tie.spec
-    less-requires
+    minus-requires
     cast-start
-    less-requires-2
+    minus-requires-2
     cast-end
     add-end
     sum-between-requires

@@ -19,8 +19,8 @@ complete-requires c κs = search needs
 event-sum-requires : tie.Need-event-sum-requires
 event-sum-requires c κs = search needs
 
-less-requires : tie.Need-less-requires
-less-requires c κs = search needs
+minus-requires : tie.Need-minus-requires
+minus-requires c κs = search needs
 
 word-requires : tie.Need-word-requires
 word-requires c κs = search needs
@@ -34,7 +34,7 @@ returns-2 c =
     let a = s .args in
     let whole = sym (c .before .before .before .before .before .before .complete .ensures) ∙ c .before .before .before .before .before .if2 .taken in
     let on = sym (c .before .before .before .before .before .before .before .before .is-out .ensures) ∙ c .before .before .before .before .before .before .before .if1 .left in
-    judged-as-spare (a .request) (a .back) (a .mark) (a .part .now) (c .before .before .before .before .event-sum .ensures) (c .before .before .before .less .ensures)
+    judged-as-spare (a .request) (a .back) (a .mark) (a .part .now) (c .before .before .before .before .event-sum .ensures) (c .before .before .before .minus .ensures)
     (c .before .before .word .ensures) whole on (sym (c .before .is-event .ensures) ∙ c .if3 .taken)
 
 returns-3 : tie.Need-returns-3
@@ -43,7 +43,7 @@ returns-3 c =
     let a = s .args in
     let whole = sym (c .before .before .before .before .before .before .complete .ensures) ∙ c .before .before .before .before .before .if2 .taken in
     let on = sym (c .before .before .before .before .before .before .before .before .is-out .ensures) ∙ c .before .before .before .before .before .before .before .if1 .left in
-    judged-as-eligible (a .request) (a .back) (a .mark) (a .part .now) (c .before .before .before .before .event-sum .ensures) (c .before .before .before .less .ensures)
+    judged-as-eligible (a .request) (a .back) (a .mark) (a .part .now) (c .before .before .before .before .event-sum .ensures) (c .before .before .before .minus .ensures)
     (c .before .before .word .ensures) whole on (sym (c .before .is-event .ensures) ∙ c .if3 .left)
 
 returns-4 : tie.Need-returns-4
@@ -59,7 +59,7 @@ judge-spec =
     returns
     complete-requires
     event-sum-requires
-    less-requires
+    minus-requires
     word-requires
     is-event-requires
     returns-2

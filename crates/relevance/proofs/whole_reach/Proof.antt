@@ -21,13 +21,13 @@ abbrev μ-loop : tie.MeasureT-loop
 group-of-requires : tie.Need-group-of-requires Inv-loop μ-loop
 group-of-requires c κs = search needs
 
-lesser-requires : tie.Need-lesser-requires Inv-loop μ-loop
-lesser-requires c κs = search needs
+least-requires : tie.Need-least-requires Inv-loop μ-loop
+least-requires c κs = search needs
 
 loop-holds : tie.Need-loop-holds Inv-loop μ-loop
 loop-holds c =
     let a = c .before .before .args in
-    (omega (arith, c .lesser .ensures), reach-start groupOf (a .request) ∙ ap (reachWithin groupOf (a .request)) (sym (c .lesser .ensures)))
+    (omega (arith, c .least .ensures), reach-start groupOf (a .request) ∙ ap (reachWithin groupOf (a .request)) (sym (c .least .ensures)))
 
 sub-relevant : tie.Need-sub-relevant Inv-loop μ-loop
 sub-relevant c = search needs
@@ -70,7 +70,7 @@ whole-reach-spec =
     Inv-loop
     μ-loop
     group-of-requires
-    lesser-requires
+    least-requires
     loop-holds
     sub-relevant
     relevant-requires
