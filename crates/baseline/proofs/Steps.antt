@@ -41,9 +41,9 @@ use Rattle.table.specs.Directory.{directoryOf}
 use Rattle.refusals.specs.declared.Tested.the-variants.{Passed, Failed}
 use Rattle.refusals.specs.Tests.{tested, callRefusals}
 use Rattle.refusals.proofs.FirstRefusal.{GoodRequest, good-request, first-append, first-failed, first-passed}
-use Rattle.baseline.specs.declared.Answer.{Answer}
-use Rattle.baseline.specs.declared.Given.the-variants.{Answered}
-use Rattle.baseline.specs.Answer.{answerOf}
+use Rattle.answer.specs.declared.Answer.{Answer}
+use Rattle.answer.specs.declared.Given.the-variants.{Answered}
+use Rattle.answer.specs.Answer.{answerOf}
 use Rattle.baseline.specs.Ready.{Answers, startOf, withDays, Ready, replyOf}
 use Rattle.baseline.proofs.Rooms.{outcome-is}
 use Rattle.baseline.proofs.Whole.{map-map, day-part, day-good, quarter-most, windows-most, S-is, B-is}

@@ -15,8 +15,8 @@ use Rattle.rooms.specs.declared.Directory.{Directory}
 use Rattle.rooms.specs.Rooms.{heldRooms, roomHistory}
 use Rattle.choose.specs.declared.Chosen.{Chosen}
 use Rattle.choose.specs.Choice.{inFive}
-use Rattle.baseline.specs.declared.Answer.{Answer}
-use Rattle.baseline.specs.Answer.{answerOf}
+use Rattle.answer.specs.declared.Answer.{Answer}
+use Rattle.answer.specs.Answer.{answerOf}
 
 -- the answer and the output of a reply
 pub record Answers (reply : Reply) (given : Answer) (before after : List ℕ) : Type 0 where

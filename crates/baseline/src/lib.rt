@@ -4,48 +4,18 @@ ghost use lib.ListN.{length};
 ghost use Rattle.calendar.specs.Holidays.{group};
 ghost use Rattle.method.specs.Method.{outcome};
 ghost use Rattle.method.specs.HighXofY.{highXofY};
-ghost use Rattle.method.specs.Verdict.{refused, closing, verdict};
+ghost use Rattle.method.specs.Verdict.{closing, verdict};
 ghost use Rattle.rooms.specs.Rooms.{roomHistory};
 ghost use Rattle.table.specs.Lent.{tableOf};
-ghost use Rattle.baseline.specs.Answer.{answerOf};
 ghost use Rattle.baseline.specs.Ready.{Answers, Fit, Ready, replyOf};
+use answer::Answer;
+use answer::Given;
 use choose::Choosing;
 use choose::Chosen;
 use method::Refusal;
 use method::Request;
 use refusals::Tested;
 use rooms::Directory;
-
-pub enum Given {
-    Answered,
-    Refused(Refusal),
-}
-
-// What a call answers. Where it is refused, every field but `given` is nought.
-pub struct Answer {
-    pub given: Given,
-    pub chosen: Chosen,
-    // 12N, under every numerator
-    pub denominator: u32,
-    // the adjustment's numerator
-    pub adjustment: i64,
-}
-
-// Refused: every other field is nought.
-fn refuse(refusal: Refusal) -> Answer
-    ensures { λ r. ⌜ r ≡ answerOf (refused refusal) ⌝ }
-{
-    Answer {
-        given: Given::Refused(refusal),
-        chosen: Chosen {
-            days: [0; 5],
-            count: 0,
-            reach: 0,
-        },
-        denominator: 0,
-        adjustment: 0,
-    }
-}
 
 // Days are chosen: refusal 10, or the answer, with the numerators in the output.
 fn finish(
@@ -62,7 +32,7 @@ fn finish(
     let today = rooms::part_at(readings, rooms.at[0]);
     let end = window::adjustment_end(request, yesterday, today);
     if end == 0 {
-        return refuse(Refusal::NoAdjustmentWindow(chosen.reach));
+        return answer::refuse(Refusal::NoAdjustmentWindow(chosen.reach));
     }
     let days = chosen.days;
     let places = numerators::placed(request, rooms, days, chosen.count, end);
@@ -85,8 +55,8 @@ fn choose_days(request: Request, rooms: Directory, readings: &[u32], out: &mut [
     let choice = choose::choose(request, rooms, readings);
     let choosing = choice.choosing;
     match choosing {
-        Choosing::Short(days) => refuse(Refusal::MarginTooShort(days)),
-        Choosing::Few { size, reach } => refuse(Refusal::TooFew {
+        Choosing::Short(days) => answer::refuse(Refusal::MarginTooShort(days)),
+        Choosing::Few { size, reach } => answer::refuse(Refusal::TooFew {
             size: size,
             reach: reach,
         }),
@@ -109,7 +79,7 @@ pub fn baseline(
 {
     let of_call = refusals::of_call(first, marks, readings, request, out.len());
     match of_call {
-        Tested::Failed(refusal) => refuse(refusal),
+        Tested::Failed(refusal) => answer::refuse(refusal),
         Tested::Passed => {
             let rooms = table::directory(first, marks, request.event);
             choose_days(request, rooms, readings, out)

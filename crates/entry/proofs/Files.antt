@@ -12,10 +12,10 @@ use Rattle.method.specs.declared.Refusal.{Refusal}
 use Rattle.method.specs.declared.Refusal.the-variants.{BadFile, NoEvent}
 use Rattle.method.specs.Table.{Table, heldDays}
 use Rattle.method.specs.Verdict.{Reply, refused, answered, verdict, written}
-use Rattle.baseline.specs.declared.Given.the-variants.{Answered, Refused as RefusedGiven}
-use Rattle.baseline.specs.declared.Answer.{Answer}
+use Rattle.answer.specs.declared.Given.the-variants.{Answered, Refused as RefusedGiven}
+use Rattle.answer.specs.declared.Answer.{Answer}
 use Rattle.table.specs.Lent.{tableOf}
-use Rattle.baseline.specs.Answer.{answerOf}
+use Rattle.answer.specs.Answer.{answerOf}
 use Rattle.baseline.specs.Ready.{Answers}
 use Rattle.record.specs.declared.Shape.{Shape}
 use Rattle.record.specs.declared.Read.{Read}

@@ -9,7 +9,7 @@ use lib.Dec.{ltb}
 use Rattle.lists.proofs.Bools.{lt-or-le}
 use Rattle.lists.proofs.Unique.{unique}
 use Rattle.method.specs.Verdict.{Reply}
-use Rattle.baseline.specs.declared.Answer.{Answer}
+use Rattle.answer.specs.declared.Answer.{Answer}
 use Rattle.entry.specs.Entry.{FileAnswers}
 
 -- no two differing results meet the contract

@@ -8,8 +8,8 @@ use Rattle.calendar.specs.Holidays.{group}
 use Rattle.method.specs.declared.Refusal.the-variants.{BadFile, NoEvent}
 use Rattle.method.specs.Table.{Table}
 use Rattle.method.specs.Verdict.{Reply, refused, answered, verdict}
-use Rattle.baseline.specs.declared.Answer.{Answer}
-use Rattle.baseline.specs.Answer.{answerOf}
+use Rattle.answer.specs.declared.Answer.{Answer}
+use Rattle.answer.specs.Answer.{answerOf}
 use Rattle.record.specs.declared.EventAt.{EventAt}
 use Rattle.record.specs.declared.EventAt.the-variants.{Event, NoEvent as NoneThere, Refused}
 use Rattle.record.specs.declared.Read.the-variants.{Refused as RefusedFile}

@@ -4,15 +4,13 @@ ghost use mathlib.Core.Path.{_≡_};
 ghost use mathlib.Core.List.{_++_};
 ghost use lib.ListN.{length, drop};
 ghost use Rattle.calendar.specs.Holidays.{group};
-ghost use Rattle.method.specs.Verdict.{refused, verdict};
+ghost use Rattle.method.specs.Verdict.{verdict};
 ghost use Rattle.table.specs.Lent.{tableOf};
-ghost use Rattle.baseline.specs.Answer.{answerOf};
 ghost use Rattle.record.specs.Layout.{bytes, readingBytes};
 ghost use Rattle.record.specs.Reader.{tableIn};
 ghost use Rattle.entry.specs.Entry.{fileReply, FileAnswers, LaidDown};
-use baseline::Answer;
-use baseline::Given;
-use choose::Chosen;
+use answer::Answer;
+use answer::Given;
 use method::Refusal;
 use method::Request;
 use record::EventAt;
@@ -20,22 +18,6 @@ use record::Loaded;
 
 // An event has at most a day's quarters.
 const QUARTERS: usize = 96;
-
-// Refused: every other field is nought.
-fn refuse(refusal: Refusal) -> Answer
-    ensures { λ r. ⌜ r ≡ answerOf (refused refusal) ⌝ }
-{
-    Answer {
-        given: Given::Refused(refusal),
-        chosen: Chosen {
-            days: [0; 5],
-            count: 0,
-            reach: 0,
-        },
-        denominator: 0,
-        adjustment: 0,
-    }
-}
 
 // How many numerators a buffer of so many bytes holds, up to a day's.
 fn room_of(size: usize) -> usize
@@ -128,8 +110,8 @@ fn loaded_baseline(file: &[u8], request: Request, out: &mut [u8]) -> Answer
     let mut readings = [0u32; 12288];
     let loaded = record::load(file, &mut marks, &mut readings);
     match loaded {
-        Loaded::Refused(at) => refuse(Refusal::BadFile(at)),
-        Loaded::NoRoom => refuse(Refusal::BadTable),
+        Loaded::Refused(at) => answer::refuse(Refusal::BadFile(at)),
+        Loaded::NoRoom => answer::refuse(Refusal::BadTable),
         Loaded::File(shape) => {
             let days = shape.days as usize;
             let count = QUARTERS * days;
@@ -150,8 +132,8 @@ pub fn file_baseline(file: &[u8], place: usize, out: &mut [u8]) -> Answer
     ensures { λ r. ⌜ FileAnswers (fileReply (now (file .entry)) place (length (now (out .entry)))) r (now (out .entry)) (now (out .exit)) ⌝ }
 {
     match record::event_at(file, place) {
-        EventAt::Refused(at) => refuse(Refusal::BadFile(at)),
-        EventAt::NoEvent => refuse(Refusal::NoEvent),
+        EventAt::Refused(at) => answer::refuse(Refusal::BadFile(at)),
+        EventAt::NoEvent => answer::refuse(Refusal::NoEvent),
         EventAt::Event(request) => loaded_baseline(file, request, out),
     }
 }

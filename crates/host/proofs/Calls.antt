@@ -5,7 +5,7 @@ use mathlib.Core.List.{List}
 use lib.IntN.{ℤ}
 use Rattle.method.specs.declared.Request.{Request}
 use Rattle.method.specs.Verdict.{Reply}
-use Rattle.baseline.specs.declared.Answer.{Answer}
+use Rattle.answer.specs.declared.Answer.{Answer}
 use Rattle.baseline.specs.Ready.{Answers}
 use Rattle.record.specs.declared.Shape.{Shape}
 use Rattle.record.specs.declared.Read.{Read}

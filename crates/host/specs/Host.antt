@@ -6,7 +6,7 @@ use lib.IntN.{ℤ}
 use Rattle.method.specs.declared.Request.{Request}
 use Rattle.method.specs.declared.Refusal.the-variants.{BadFile, NoEvent}
 use Rattle.method.specs.Verdict.{number, Reply, written}
-use Rattle.baseline.specs.Answer.{answerOf}
+use Rattle.answer.specs.Answer.{answerOf}
 use Rattle.record.specs.declared.Shape.{Shape}
 use Rattle.record.specs.declared.Read.{Read}
 use Rattle.record.specs.declared.Read.the-variants.{File, Refused}

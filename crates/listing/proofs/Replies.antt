@@ -11,9 +11,9 @@ use Rattle.method.specs.declared.Refusal.{Refusal}
 use Rattle.method.specs.Table.{Table}
 use Rattle.method.specs.Verdict.{Answer as Numbers, Reply, refused, answered, written, verdict}
 use Rattle.choose.specs.Choice.{inFive}
-use Rattle.baseline.specs.declared.Given.the-variants.{Answered, Refused}
-use Rattle.baseline.specs.declared.Answer.{Answer}
-use Rattle.baseline.specs.Answer.{answerOf}
+use Rattle.answer.specs.declared.Given.the-variants.{Answered, Refused}
+use Rattle.answer.specs.declared.Answer.{Answer}
+use Rattle.answer.specs.Answer.{answerOf}
 use Rattle.baseline.specs.Ready.{Answers}
 use Rattle.refusals.proofs.FirstRefusal.{GoodRequest}
 use Rattle.listing.specs.Lines.{lineText, linesText}

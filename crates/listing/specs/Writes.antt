@@ -7,7 +7,7 @@ use lib.ListN.{length, take, drop}
 use lib.Dec.{leb}
 use Rattle.text.specs.Text.{put}
 use Rattle.method.specs.declared.Request.{Request}
-use Rattle.baseline.specs.declared.Answer.{Answer}
+use Rattle.answer.specs.declared.Answer.{Answer}
 use Rattle.listing.specs.Lines.{Line}
 use Rattle.listing.specs.Listing.{eventLine, quarterLines}
 

@@ -11,8 +11,8 @@ ghost use Rattle.table.specs.Lent.{tableOf};
 ghost use Rattle.listing.specs.Lines.{lineText, linesText};
 ghost use Rattle.listing.specs.Listing.{openingLine, eventText};
 ghost use Rattle.listing.specs.Writes.{room, Writes, Begins, CanPut, answerLines};
-use baseline::Answer;
-use baseline::Given;
+use answer::Answer;
+use answer::Given;
 use method::Request;
 use record::Read;
 

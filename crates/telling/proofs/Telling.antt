@@ -11,9 +11,9 @@ use mir.Syntax.{w64}
 use mir.Val.{toZ, ofZ}
 use mir.ValLaws.{toZ-ofZ}
 use Rattle.method.specs.Adjustment.{places}
-use Rattle.baseline.specs.declared.Given.{Given}
-use Rattle.baseline.specs.declared.Given.the-variants.{Answered, Refused}
-use Rattle.baseline.specs.declared.Answer.{Answer}
+use Rattle.answer.specs.declared.Given.{Given}
+use Rattle.answer.specs.declared.Given.the-variants.{Answered, Refused}
+use Rattle.answer.specs.declared.Answer.{Answer}
 use Rattle.telling.specs.Telling.{nineAnswered, nineOf, nineRefused, toldFirst, toldTo}
 
 nine-long : (g : Given) (a : Answer) → length (nineOf g a) ≡ 9

@@ -10,9 +10,9 @@ use Rattle.method.specs.Adjustment.{places}
 use Rattle.method.specs.Verdict.{number}
 use Rattle.carried.specs.Told.{carriedAt}
 use Rattle.choose.specs.declared.Chosen.{Chosen}
-use Rattle.baseline.specs.declared.Given.{Given}
-use Rattle.baseline.specs.declared.Given.the-variants.{Answered, Refused}
-use Rattle.baseline.specs.declared.Answer.{Answer}
+use Rattle.answer.specs.declared.Given.{Given}
+use Rattle.answer.specs.declared.Given.the-variants.{Answered, Refused}
+use Rattle.answer.specs.declared.Answer.{Answer}
 
 -- "it gets 0 or the refusal number"
 abbrev pub numberOf : Given → ℕ

@@ -5,8 +5,8 @@ ghost use Prim.Native.Nat.{_≤_};
 ghost use lib.ListN.{length, drop};
 ghost use lib.IntN.{pos};
 ghost use Rattle.telling.specs.Telling.{numberOf, nineAnswered, nineRefused, toldTo};
-use baseline::Answer;
-use baseline::Given;
+use answer::Answer;
+use answer::Given;
 use method::Refusal;
 
 // 0 for an answer, else the refusal's number.

@@ -4,8 +4,8 @@ use lib.ListN.{length}
 use lib.IntN.{pos}
 use Rattle.method.specs.Verdict.{Reply, refused, answered}
 use Rattle.choose.specs.Choice.{inFive}
-use Rattle.baseline.specs.declared.Given.the-variants.{Answered, Refused}
-use Rattle.baseline.specs.declared.Answer.{Answer}
+use Rattle.answer.specs.declared.Given.the-variants.{Answered, Refused}
+use Rattle.answer.specs.declared.Answer.{Answer}
 
 unfoldable pub answerOf : Reply → Answer
 answerOf (refused w) =

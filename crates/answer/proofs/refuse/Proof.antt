@@ -1,0 +1,12 @@
+-- `answer::refuse` meets its contract.
+use mathlib.Core.Path.{refl}
+use Rattle.answer.specs.Answer.{answerOf}
+use Rattle.answer.proofs.refuse.Statement.{statement}
+use Rattle.answer.proofs.refuse.Tie as tie
+
+returns : tie.Need-returns
+unfolding answerOf
+returns c = refl
+
+pub refuse-spec : {M : Type 1} → statement M
+refuse-spec = tie.close (tie.spec returns)
