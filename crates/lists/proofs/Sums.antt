@@ -13,7 +13,6 @@ use lib.Seq.{drop-cons}
 use Rattle.lists.specs.Lists.{all, sumOf}
 use Rattle.lists.proofs.All.{all-take, all-drop}
 use Rattle.lists.proofs.Bools.{both}
-use Rattle.lists.proofs.Parts.{part-append}
 
 pub sum-take-suc : (ls : List ℕ) (k : ℕ) → sumOf (take (suc k) ls) ≡ sumOf (take k ls) + getD ls k 0
 unfolding sumOf
@@ -63,12 +62,6 @@ pub part-most : (b : ℕ) (xs : List ℕ) (a n : ℕ) → all (λ x. leb x b) xs
 part-most b xs a n t =
     let few : length (take n (drop a xs)) ≤ n = omega (arith, length-take n (drop a xs)) in
     sum-most b (take n (drop a xs)) n few (all-take (λ x. leb x b) n (drop a xs) (all-drop (λ x. leb x b) a xs t))
-
--- the part from `a` up to `e` of two lists
-pub sum-part-append : (a e : ℕ) (xs ys : List ℕ)
-    → sumOf (take (e - a) (drop a (xs ++ ys)))
-    ≡ sumOf (take (e - a) (drop a xs)) + sumOf (take (e - length xs - (a - length xs)) (drop (a - length xs) ys))
-sum-part-append a e xs ys = rw (part-append a e xs ys) (sum-append (take (e - a) (drop a xs)) _)
 
 -- a sum of sums
 pub sum-map-add : {A : Type 0} (f g : A → ℕ) (xs : List A) → sumOf (map (λ x. f x + g x) xs) ≡ sumOf (map f xs) + sumOf (map g xs)

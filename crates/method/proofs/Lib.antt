@@ -19,3 +19,4 @@ pub mod Undecided
 pub mod Demand3
 pub mod Extract
 pub mod NoPart
+pub mod InRange

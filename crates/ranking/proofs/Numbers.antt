@@ -1,17 +1,18 @@
 -- The numbers behind a day's word: two words compare as the sums and then the nearness do, the day comes back out of its word, and the sum
 -- over a part of a complete day is small.
 use Prim.Native.Nat.{ℕ, zero, suc, _+_, _-_, _*_, _%_, _<_, _≤_}
-use mathlib.Core.Path.{_≡_, refl, sym, _∙_}
-use mathlib.Core.Bool.{Bool, true, false, _&&_, _||_, not, false≢true}
+use mathlib.Core.Path.{_≡_}
+use mathlib.Core.Bool.{true, _&&_, _||_}
 use mathlib.Core.List.{List, [], _∷_}
 use mathlib.Core.Logic.{⊎-elim}
 use native.Mathlib.Omega.{arith}
 use lib.ListN.{take, drop, length}
 use lib.Seq.{take-nil}
-use lib.Dec.{leb, ltb, eqb}
+use lib.Dec.{ltb, eqb}
 use borrow.Author.Tests.{leb-true, lt-ltb, le-ltb, eq-eqb, ne-eqb}
 use Rattle.lists.specs.Lists.{all, sumOf}
-use Rattle.method.specs.Table.{present, goodReading, missing}
+use Rattle.method.specs.Table.{present, goodReading}
+use Rattle.method.proofs.InRange.{in-range}
 use Rattle.lists.proofs.Bools.{both, lt-or-le, same-test}
 
 pub sums-then-nearness : (s t m n : ℕ) → m < 64 → n < 64 → (ltb t s || (eqb s t && ltb n m)) ≡ ltb (64 * t + n) (64 * s + m)
@@ -32,12 +33,7 @@ module _ (event d : ℕ) (from-45 : event ≤ d + 45) where
   day-back s h = omega arith
 
 reading-small : (x : ℕ) → goodReading x ≡ true → present x ≡ true → x ≤ 10000000
-reading-small x g p = leb-true x 10000000 (go (leb x 10000000) (eqb x missing) g p)
-  where
-    go : (a b : Bool) → (a || b) ≡ true → not b ≡ true → a ≡ true
-    go true b t n = refl
-    go false true t n = absurd (false≢true n)
-    go false false t n = t
+reading-small x g p = leb-true x 10000000 (in-range x g p)
 
 pub part-small : (m n : ℕ) (l : List ℕ) → all goodReading l ≡ true → all present l ≡ true → sumOf (take n (drop m l)) ≤ 10000000 * length l
 unfolding all sumOf

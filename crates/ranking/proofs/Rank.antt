@@ -19,7 +19,7 @@ use Rattle.ranking.specs.Words.{word, above, insertDown, sortDown, padde
 use Rattle.lists.proofs.All.{all-append, all-replicate, all-take}
 use Rattle.lists.proofs.Bools.{both, lt-or-le}
 use Rattle.lists.proofs.Maps.{map-take}
-use Rattle.method.proofs.Sort.{same-sorted, length-sorted, all-inserted, all-sorted}
+use Rattle.method.proofs.Sort.{length-sorted, all-inserted, all-sorted}
 use Rattle.ranking.proofs.Sorting.{map-sorted}
 use Rattle.ranking.proofs.Insertion.{into-none, goes-here, goes-later, smaller-first, none-above, before-noughts}
 use Rattle.ranking.proofs.Carry.{keeps-hand, keeps-own}
@@ -38,21 +38,6 @@ pub sort-one-more : (l : List ℕ) (x : ℕ) → sortDown (l ++ (x ∷ [])) ≡ 
 unfolding sortBy
 sort-one-more [] x = refl
 sort-one-more (y ∷ l) x = ap (insertDown y) (sort-one-more l x) ∙ insertions-commute y x (sortDown l)
-
--- words put into a row one after the other, none lost
-unfoldable pub inserted : List ℕ → List ℕ → List ℕ
-inserted [] row = row
-inserted (x ∷ xs) row = inserted xs (insertDown x row)
-
-pub sort-as-they-come : (a b : List ℕ) → inserted b (sortDown a) ≡ sortDown (a ++ b)
-unfolding inserted
-sort-as-they-come a [] = ap sortDown (sym (append-nil a))
-sort-as-they-come a (x ∷ b) =
-    ap (inserted b) (sym (sort-one-more a x)) ∙ sort-as-they-come (a ++ (x ∷ [])) b ∙ ap sortDown (append-snoc a x b)
-
-pub sort-sorted : (before : ℕ → ℕ → Bool) (l : List ℕ) → sortDown (sortBy before l) ≡ sortDown l
-unfolding sortBy
-sort-sorted before = same-sorted before sortDown insertDown (λ x xs. refl) insertions-commute
 
 -- each word is at least as high as all that follow it
 unfoldable pub falling : List ℕ → Bool

@@ -1,8 +1,8 @@
--- What callers need of sums and of the adjustment window: the sums fit 32 bits where the readings are good and present, B is a sum over the
+-- What callers need of sums and of the adjustment window: how large its sums are where the readings are good and present, B is a sum over the
 -- chosen days of what each has in the window, and where the window lies.
-use Prim.Native.Nat.{ℕ, zero, suc, _+_, _-_, _*_, _%_, _^_, _≤_, _<_, max}
+use Prim.Native.Nat.{ℕ, zero, suc, _+_, _-_, _%_, _≤_, _<_, max}
 use mathlib.Core.Path.{_≡_, refl, ap, ap₂, sym, _∙_}
-use mathlib.Core.Bool.{Bool, true, false, not, _||_}
+use mathlib.Core.Bool.{Bool, true, false}
 use mathlib.Core.List.{List, _∷_, _++_, map}
 use mathlib.Core.Logic.{⊎-elim}
 use native.Mathlib.Omega.{arith}
@@ -14,31 +14,14 @@ use Rattle.lists.specs.Lists.{all, sumOf}
 use Rattle.lists.proofs.All.{all-append, all-take, all-drop, all-both, map-all}
 use Rattle.lists.proofs.Bools.{bool-cases, both}
 use Rattle.lists.proofs.Parts.{getD-append-past}
-use Rattle.lists.proofs.Sums.{sum-bounded, sum-most, part-most, sum-swap}
+use Rattle.lists.proofs.Sums.{sum-most, part-most, sum-swap}
 use Rattle.method.specs.declared.Request.{Request}
-use Rattle.method.specs.Table.{Day, present, missing, goodReading}
+use Rattle.method.specs.Table.{Day, present, goodReading}
 use Rattle.method.specs.Adjustment.{twelve, windowEnds, latestEnd, adjustmentEnd, places, S, A, B}
+use Rattle.method.proofs.InRange.{in-range}
 use Rattle.window.proofs.Windows.{latest-here, latest-earlier, latest-none}
 
 -- ---- sums
-
--- a sum of 32 bits is the sum where it cannot come to more
-pub sum-exact : (b : ℕ) (xs : List ℕ) → all (λ x. leb x b) xs ≡ true → b * length xs < 2 ^ 32 → sumOf xs % 2 ^ 32 ≡ sumOf xs
-sum-exact b xs t h = omega (arith, sum-bounded b xs t)
-
--- and so is a part of it
-pub part-exact : (b : ℕ) (xs : List ℕ) (a n : ℕ) → all (λ x. leb x b) xs ≡ true → b * n < 2 ^ 32
-    → sumOf (take n (drop a xs)) % 2 ^ 32 ≡ sumOf (take n (drop a xs))
-part-exact b xs a n t h = omega (arith, part-most b xs a n t)
-
--- a good reading that is present is at most 10,000,000
-pub in-range : (x : ℕ) → goodReading x ≡ true → present x ≡ true → leb x 10000000 ≡ true
-in-range x g p = go (leb x 10000000) (eqb x missing) g p
-  where
-    go : (a m : Bool) → (a || m) ≡ true → not m ≡ true → a ≡ true
-    go true m g p = refl
-    go false true g p = p
-    go false false g p = g
 
 pub all-in-range : (xs : List ℕ) → all goodReading xs ≡ true → all present xs ≡ true → all (λ x. leb x 10000000) xs ≡ true
 all-in-range = all-both goodReading present (λ x. leb x 10000000) in-range
@@ -58,12 +41,6 @@ unfolding A
 day-most l end g t =
     let u = all-in-range l g t in
     part-most 10000000 (l ++ l) (end - 12) 12 (rw (all-append (λ x. leb x 10000000) l l, u))
-
-pub window-exact : (l : List ℕ) (end : ℕ) → all goodReading l ≡ true → windowEnds l end ≡ true → A l end % 2 ^ 32 ≡ A l end
-window-exact l end g t = omega (arith, window-most l end g t)
-
-pub day-exact : (l : List ℕ) (end : ℕ) → all goodReading l ≡ true → all present l ≡ true → A (l ++ l) end % 2 ^ 32 ≡ A (l ++ l) end
-day-exact l end g t = omega (arith, day-most l end g t)
 
 -- the readings along a ruler, place by place
 along : (f : ℕ → ℕ) (l : List ℕ) → ((t : ℕ) → t < length l → f t ≡ getD l t 0) → (k a : ℕ) → a + k ≤ length l

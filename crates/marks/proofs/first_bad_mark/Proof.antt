@@ -1,4 +1,4 @@
--- `readings::first_bad_mark` meets its contract. The invariant: what was passed, and what is left to pass, is all that is passed.
+-- `marks::first_bad_mark` meets its contract. The invariant: what was passed, and what is left to pass, is all that is passed.
 use Prim.Native.Nat.{_+_, _-_, _≤_}
 use mathlib.Core.Path.{_≡_, sym, _∙_}
 use native.Mathlib.Omega.{arith}

@@ -1,4 +1,4 @@
--- `readings::is_event` meets its contract: the law of its mask.
+-- `marks::is_event` meets its contract: the law of its mask.
 use Rattle.marks.proofs.Marks.{event-mask}
 use Rattle.marks.proofs.is_event.Statement.{statement}
 use Rattle.marks.proofs.is_event.Tie as tie

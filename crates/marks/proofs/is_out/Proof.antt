@@ -1,4 +1,4 @@
--- `readings::is_out` meets its contract: the law of its mask.
+-- `marks::is_out` meets its contract: the law of its mask.
 use Rattle.marks.proofs.Marks.{outage-mask}
 use Rattle.marks.proofs.is_out.Statement.{statement}
 use Rattle.marks.proofs.is_out.Tie as tie

@@ -1,4 +1,4 @@
--- `readings::sum` meets its contract. The invariant: the total and what is left to add, as a number of 64 bits, is the sum;
+-- `sums::sum` meets its contract. The invariant: the total and what is left to add, as a number of 64 bits, is the sum;
 -- what was passed is at most 2 ^ 32 - 1 a number.
 use Prim.Native.Nat.{_+_, _-_, _*_, _%_, _^_, _≤_, _<_}
 use mathlib.Core.Path.{_≡_, ap}

@@ -1,4 +1,4 @@
--- `readings::sum_between` meets its contract: the part ends where the list does.
+-- `sums::sum_between` meets its contract: the part ends where the list does.
 use Prim.Native.Nat.{ℕ, _-_}
 use mathlib.Core.Path.{refl, ap, _∙_}
 use native.Mathlib.Omega.{arith}

@@ -1,4 +1,4 @@
--- `readings::adjustment_end` meets its contract, by the two callees'.
+-- `window::adjustment_end` meets its contract, by the two callees'.
 use mathlib.Core.Path.{sym, _∙_}
 use borrow.Author.Needs.{needs}
 use Rattle.method.specs.Adjustment.{adjustmentEnd}

@@ -1,4 +1,4 @@
--- `readings::latest_end` meets its contract. The invariant: the latest end from `end` down is the one asked for.
+-- `window::latest_end` meets its contract. The invariant: the latest end from `end` down is the one asked for.
 use mathlib.Core.Path.{_≡_, sym, _∙_}
 use mathlib.Core.List.{_++_}
 use borrow.Author.Needs.{needs}

@@ -1,4 +1,4 @@
--- `readings::present_before` meets its contract. The invariant: the `run` readings before `end` are present.
+-- `window::present_before` meets its contract. The invariant: the `run` readings before `end` are present.
 use Prim.Native.Nat.{_-_, _≤_}
 use mathlib.Core.Path.{_≡_, sym, _∙_}
 use mathlib.Core.Bool.{true}

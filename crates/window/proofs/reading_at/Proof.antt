@@ -1,4 +1,4 @@
--- `readings::reading_at` meets its contract: on the first day, on the second, and past both.
+-- `window::reading_at` meets its contract: on the first day, on the second, and past both.
 use mathlib.Core.Path.{sym, _∙_}
 use borrow.Author.Needs.{needs}
 use lib.ListN.{List·getD-append, List·getD-eq-default}

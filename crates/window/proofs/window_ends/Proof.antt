@@ -1,4 +1,4 @@
--- `readings::window_ends` meets its contract: too early, or by what the run of present readings says.
+-- `window::window_ends` meets its contract: too early, or by what the run of present readings says.
 use mathlib.Core.Path.{sym}
 use mathlib.Core.List.{_++_}
 use borrow.Author.Needs.{needs}

@@ -1,4 +1,4 @@
--- `readings::window_sum` meets its contract: the sums of the two days' parts, put together.
+-- `window::window_sum` meets its contract: the sums of the two days' parts, put together.
 use mathlib.Core.Path.{_∙_}
 use borrow.Author.Needs.{needs}
 use Rattle.window.proofs.Windows.{window-parts}
