@@ -1,4 +1,4 @@
-/* spawn INPUT [WORD..] -- PROGRAM..: runs each program (after the words) on INPUT, in turns, and prints its best time from start to end. */
+/* spawn INPUT PROGRAM..: runs each program on INPUT, in turns, and prints its best time from start to end. */
 #define _GNU_SOURCE
 #include <fcntl.h>
 #include <spawn.h>
@@ -19,8 +19,9 @@ static double now(void)
 }
 
 /* Microseconds, or -1 where it fails. */
-static double run(char **words, const char *input)
+static double run(char *program, const char *input)
 {
+    char *words[] = {program, NULL};
     posix_spawn_file_actions_t actions;
     double began = now();
     pid_t child;
@@ -36,26 +37,18 @@ static double run(char **words, const char *input)
 
 int main(int argc, char **argv)
 {
-    char *words[MOST + 2] = {0}, **programs;
-    int before = 0, count, i, round;
+    char **programs = argv + 2;
+    int count = argc - 2, i, round;
     double best[MOST];
-    while (2 + before < argc && before < MOST && strcmp(argv[2 + before], "--") != 0) {
-        words[before] = argv[2 + before];
-        before++;
-    }
-    programs = argv + 3 + before;
-    count = argc - 3 - before;
     if (count < 1 || count > MOST) {
-        fprintf(stderr, "usage: spawn INPUT [WORD..] -- PROGRAM..\n");
+        fprintf(stderr, "usage: spawn INPUT PROGRAM..\n");
         return 2;
     }
     for (i = 0; i < count; i++)
         best[i] = 1e18;
     for (round = 0; round < ROUNDS; round++)
         for (i = 0; i < count; i++) {
-            double took;
-            words[before] = programs[i];
-            took = run(words, argv[1]);
+            double took = run(programs[i], argv[1]);
             if (took < 0) {
                 fprintf(stderr, "spawn: %s fails\n", programs[i]);
                 return 1;
