@@ -6,22 +6,23 @@
 #include "honeyplank.h"
 #include "record.h"
 
-enum { DEEP = 1 << 20, THREADS = 4, CALLS = 200 };
+/* PLACES: the events of the largest file, and one place where there is none */
+enum { DEEP = 1 << 20, THREADS = 4, CALLS = 650, PLACES = 65 };
 
 static struct record_file file;
 static ucontext_t home, away;
 static size_t place;
 
-/* The largest file there is: 128 days and 64 events, the last one over all of its day. */
-static void put_largest(void)
+/* A file as large as there is: 128 days of about this load and 64 events, the last one over all of its day. */
+static void put_largest(struct record_file *largest, uint32_t load)
 {
     uint32_t i;
-    put_head(&file, 0, 1);
+    put_head(largest, 0, 1);
     for (i = 0; i < 128; i++)
-        put_day(&file, 8879 + i, 0, 1000 + i);
+        put_day(largest, 8879 + i, 0, load + i);
     for (i = 0; i < 63; i++)
-        put_event(&file, 9006 - i, 152, 156, 148);
-    put_event(&file, 9006, 96, 192, 96);
+        put_event(largest, 9006 - i, 152, 156, 148);
+    put_event(largest, 9006, 96, 192, 96);
 }
 
 /* Every entry once. */
@@ -54,37 +55,62 @@ static size_t depth(void)
     return DEEP - i;
 }
 
-static void *caller(void *wrong)
+/* One thread's file, with what its events gave before any thread ran. */
+struct caller {
+    struct record_file file;
+    uint32_t numbers[PLACES];
+    uint8_t due[PLACES][HP_MOST_BYTES];
+    int wrong;
+};
+
+static uint32_t baseline_of(const struct record_file *its, size_t event, uint8_t out[HP_MOST_BYTES])
 {
+    memset(out, UNTOUCHED, HP_MOST_BYTES);
+    return hp_baseline(its->bytes, its->length, event, out, HP_MOST_BYTES);
+}
+
+static void *call_often(void *given)
+{
+    struct caller *caller = given;
     int i;
     for (i = 0; i < CALLS; i++) {
-        uint8_t out[HP_MOST_BYTES], again[HP_MOST_BYTES];
-        int64_t told[HP_TOLD_LENGTH];
-        size_t event = (size_t)i % 65;
-        uint32_t number = hp_baseline(file.bytes, file.length, event, out, sizeof out);
-        uint32_t same = hp_baseline_told(file.bytes, file.length, event, again, sizeof again, told, HP_TOLD_LENGTH);
-        uint32_t due = event == 64 ? HP_NO_EVENT : HP_ANSWERED;
-        if (number != due || same != due || (due == HP_ANSWERED && memcmp(out, again, 16) != 0))
-            ++*(int *)wrong;
+        uint8_t out[HP_MOST_BYTES];
+        size_t event = (size_t)i % PLACES;
+        if (baseline_of(&caller->file, event, out) != caller->numbers[event] || memcmp(out, caller->due[event], sizeof out) != 0)
+            caller->wrong++;
     }
     return NULL;
 }
 
+/* Threads that work on different files at once get what each file gives alone. */
+static void check_threads(void)
+{
+    static struct caller callers[THREADS];
+    pthread_t threads[THREADS];
+    size_t event;
+    uint32_t i;
+    for (i = 0; i < THREADS; i++) {
+        put_largest(&callers[i].file, 1000 * (i + 1));
+        for (event = 0; event < PLACES; event++)
+            callers[i].numbers[event] = baseline_of(&callers[i].file, event, callers[i].due[event]);
+    }
+    CHECK(memcmp(callers[0].due[63], callers[1].due[63], HP_MOST_BYTES) != 0);
+    for (i = 0; i < THREADS; i++)
+        CHECK(pthread_create(&threads[i], NULL, call_often, &callers[i]) == 0);
+    for (i = 0; i < THREADS; i++)
+        CHECK(pthread_join(threads[i], NULL) == 0 && callers[i].wrong == 0);
+}
+
 int main(void)
 {
-    pthread_t threads[THREADS];
-    int wrong[THREADS] = {0}, i;
     size_t deepest = 0;
-    put_largest();
-    for (place = 0; place < 65; place++) {
+    put_largest(&file, 1000);
+    for (place = 0; place < PLACES; place++) {
         size_t deep = depth();
         deepest = deep > deepest ? deep : deepest;
     }
     printf("stack: %zu bytes\n", deepest);
     CHECK(deepest > 0 && deepest <= HP_STACK);
-    for (i = 0; i < THREADS; i++)
-        CHECK(pthread_create(&threads[i], NULL, caller, &wrong[i]) == 0);
-    for (i = 0; i < THREADS; i++)
-        CHECK(pthread_join(threads[i], NULL) == 0 && wrong[i] == 0);
+    check_threads();
     return checked("around");
 }
