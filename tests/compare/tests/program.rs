@@ -3,7 +3,7 @@
 use compare::shrink::keep;
 use reference::{gen_file, gen_small_file, listing};
 use std::fs::File;
-use std::io::{Read, Write};
+use std::io::Write;
 use std::path::PathBuf;
 use std::process::{Command, Output, Stdio};
 use std::thread::{scope, sleep};
@@ -114,18 +114,20 @@ fn longer_input_is_listed_alike() {
     assert!(agrees(&output, &file), "{output:?}");
 }
 
-/// A reader that goes away early: the program ends all the same.
+/// A reader that goes away early: the program ends all the same, killed by the signal or, where that is ignored, at the write that fails.
 #[test]
 fn a_closed_output_ends_it() {
-    let file = largest();
     let path = std::env::temp_dir().join(format!("closed-{}", std::process::id()));
-    std::fs::write(&path, &file).unwrap();
-    let input = File::open(&path).unwrap();
-    let mut child = program().stdin(input).stdout(Stdio::piped()).stderr(Stdio::piped()).spawn().unwrap();
-    drop(child.stdout.take());
-    let mut said = String::new();
-    child.stderr.take().unwrap().read_to_string(&mut said).unwrap();
-    child.wait().unwrap();
+    std::fs::write(&path, largest()).unwrap();
+    for signal in ["-", "''"] {
+        let mut command = Command::new("bash");
+        let (runner, list) = (root("tests/x86"), root("build/bin/honeyplank-list"));
+        let words = format!("trap {signal} PIPE && exec timeout 60 \"$0\" run \"$1\"");
+        command.args(["-c", &words]).arg(runner).arg(list);
+        let mut child = command.stdin(File::open(&path).unwrap()).stdout(Stdio::piped()).stderr(Stdio::piped()).spawn().unwrap();
+        drop(child.stdout.take());
+        let output = child.wait_with_output().unwrap();
+        assert!(output.status.code() != Some(124) && output.stderr.is_empty(), "trap {signal} PIPE: {output:?}");
+    }
     std::fs::remove_file(&path).unwrap();
-    assert_eq!(said, "");
 }
