@@ -1,68 +1,77 @@
+/* The record file and the host entry (document 01), in plain C99, written from 01 and the headers alone. */
 #include "file.h"
 
 #include <string.h>
 
-enum { PF_LENGTH = 8, DY_LENGTH = 390, EV_LENGTH = 8, MOST_DAYS = 128, MOST_EVENTS = 64, QUARTERS = 96 };
+/* The records' lengths in bytes, the most of each, and the quarters of a day, which are also the most an event covers. */
+enum { PF_SIZE = 8, DY_SIZE = 390, EV_SIZE = 8, MOST_DAYS = 128, MOST_EVENTS = 64, QUARTERS = 96 };
 
-static uint32_t two(const uint8_t *bytes)
+/* Whether this machine keeps numbers as the file does; where that is not known, bytes are taken one by one, which is right anywhere. */
+#if defined(__BYTE_ORDER__) && __BYTE_ORDER__ == __ORDER_LITTLE_ENDIAN__
+enum { FILE_ORDER = 1 };
+#else
+enum { FILE_ORDER = 0 };
+#endif
+
+/* A number of two bytes; the compilers make one load of it, as of the four below. */
+static uint32_t get2(const uint8_t *from)
 {
-    return bytes[0] | (uint32_t)bytes[1] << 8;
+    return (uint32_t)from[0] | (uint32_t)from[1] << 8;
 }
 
-static uint32_t four(const uint8_t *bytes)
+static uint32_t get4(const uint8_t *from)
 {
-    return two(bytes) | two(bytes + 2) << 16;
+    return get2(from) | get2(from + 2) << 16;
 }
 
-static void put_four(uint8_t *bytes, uint32_t number)
+static void put4(uint8_t *to, uint32_t number)
 {
-    int i;
-    for (i = 0; i < 4; i++)
-        bytes[i] = (uint8_t)(number >> 8 * i);
+    to[0] = (uint8_t)number;
+    to[1] = (uint8_t)(number >> 8);
+    to[2] = (uint8_t)(number >> 16);
+    to[3] = (uint8_t)(number >> 24);
 }
 
-/* Whether a record of this mark and length stands whole at this offset. */
-static int stands(const uint8_t *file, size_t length, size_t at, const char *mark, size_t size)
+/* Whether a whole record of `size` bytes with that mark stands at `at`, which is not above `length`. */
+static int stands(const uint8_t *file, size_t length, size_t at, size_t size, const char *mark)
 {
-    return length - at >= size && file[at] == (uint8_t)mark[0] && file[at + 1] == (uint8_t)mark[1];
+    return length - at >= size && memcmp(file + at, mark, 2) == 0;
 }
 
-/* A DY that follows `held` days: not one too many, the next day, and the zero byte is zero. */
-static int next_day(const uint8_t *file, size_t length, size_t at, uint32_t first, uint32_t held)
-{
-    return held < MOST_DAYS && stands(file, length, at, "DY", DY_LENGTH) && file[at + 5] == 0 &&
-           (held == 0 || two(file + at + 2) == first + held);
-}
-
-static int next_event(const uint8_t *file, size_t length, size_t at, uint32_t held)
-{
-    return held < MOST_EVENTS && stands(file, length, at, "EV", EV_LENGTH) && file[at + 7] == 0;
-}
-
+/* Takes records while they are as laid down. Where that ends is the end of the file, or the record to refuse. */
 uint32_t plain_read(const uint8_t *file, size_t length, struct plain_file *shape, size_t *offset)
 {
-    size_t at = 0;
-    memset(shape, 0, sizeof *shape);
-    if (stands(file, length, at, "PF", PF_LENGTH)) {
-        shape->p = two(file + 2);
-        shape->portfolio = four(file + 4);
-        at += PF_LENGTH;
-        if (next_day(file, length, at, 0, 0))
-            shape->first = two(file + at + 2);
-        for (; next_day(file, length, at, shape->first, shape->days); at += DY_LENGTH)
-            shape->days++;
-        for (; next_event(file, length, at, shape->events); at += EV_LENGTH)
-            shape->events++;
+    size_t at = PF_SIZE;
+    uint32_t first = 0, days = 0, events = 0;
+
+    *offset = 0;
+    if (!stands(file, length, 0, PF_SIZE, "PF"))
+        return 11;
+    if (stands(file, length, at, DY_SIZE, "DY"))
+        first = get2(file + at + 2);
+    while (days < MOST_DAYS && stands(file, length, at, DY_SIZE, "DY") && get2(file + at + 2) == first + days && file[at + 5] == 0) {
+        days++;
+        at += DY_SIZE;
     }
+    while (events < MOST_EVENTS && stands(file, length, at, EV_SIZE, "EV") && file[at + 7] == 0) {
+        events++;
+        at += EV_SIZE;
+    }
+    shape->p = get2(file + 2);
+    shape->portfolio = get4(file + 4);
+    shape->first = first;
+    shape->days = days;
+    shape->events = events;
     *offset = at;
-    return at == length && at > 0 ? 0 : 11;
+    return at == length ? 0 : 11;
 }
 
 struct plain_event plain_event_at(const uint8_t *file, const struct plain_file *shape, uint32_t place)
 {
-    const uint8_t *record = file + PF_LENGTH + (size_t)DY_LENGTH * shape->days + (size_t)EV_LENGTH * place;
+    const uint8_t *record = file + PF_SIZE + (size_t)DY_SIZE * shape->days + (size_t)EV_SIZE * place;
     struct plain_event event;
-    event.d = two(record + 2);
+
+    event.d = get2(record + 2);
     event.s = record[4];
     event.e = record[5];
     event.n = record[6];
@@ -71,22 +80,27 @@ struct plain_event plain_event_at(const uint8_t *file, const struct plain_file *
 
 void plain_load(const uint8_t *file, const struct plain_file *shape, uint8_t marks[128], uint32_t readings[128 * 96])
 {
-    uint32_t day, i;
-    for (day = 0; day < shape->days; day++) {
-        const uint8_t *record = file + PF_LENGTH + (size_t)DY_LENGTH * day;
+    const uint8_t *record = file + PF_SIZE;
+    uint32_t day, days = shape->days, i;
+
+    for (day = 0; day < days; day++, record += DY_SIZE, readings += QUARTERS) {
         marks[day] = record[4];
-        for (i = 0; i < QUARTERS; i++)
-            readings[QUARTERS * day + i] = four(record + 6 + 4 * i);
+        if (FILE_ORDER)
+            memcpy(readings, record + 6, 4 * QUARTERS);
+        else
+            for (i = 0; i < QUARTERS; i++)
+                readings[i] = get4(record + 6 + 4 * i);
     }
 }
 
+/* The numerators pass through an array of their own, for `out` may lie at any address. */
 uint32_t plain_host(const uint8_t *file, size_t length, size_t place, uint8_t *out, size_t room, struct plain_answer *answer)
 {
-    uint8_t marks[MOST_DAYS];
-    uint32_t readings[MOST_DAYS * QUARTERS], numerators[QUARTERS], number, i;
     struct plain_file shape;
     struct plain_event event;
-    size_t offset;
+    uint8_t marks[MOST_DAYS];
+    uint32_t readings[MOST_DAYS * QUARTERS], numerators[QUARTERS], number, i;
+    size_t offset, fit = room / 4 < QUARTERS ? room / 4 : QUARTERS;
 
     memset(answer, 0, sizeof *answer);
     if (plain_read(file, length, &shape, &offset)) {
@@ -98,12 +112,14 @@ uint32_t plain_host(const uint8_t *file, size_t length, size_t place, uint8_t *o
         return 12;
     event = plain_event_at(file, &shape, (uint32_t)place);
     plain_load(file, &shape, marks, readings);
-    room = room / 4 < QUARTERS ? room / 4 : QUARTERS;
     number = plain_baseline(shape.first, marks, shape.days, readings, (size_t)QUARTERS * shape.days, shape.p, event.d, event.s, event.e,
-                            event.n, numerators, room, answer);
+                            event.n, numerators, fit, answer);
     if (number)
         return number;
-    for (i = 0; i < event.e - event.s; i++)
-        put_four(out + 4 * i, numerators[i]);
+    if (FILE_ORDER)
+        memcpy(out, numerators, (size_t)4 * (event.e - event.s));
+    else
+        for (i = 0; i < event.e - event.s; i++)
+            put4(out + 4 * i, numerators[i]);
     return 0;
 }
