@@ -1,6 +1,3 @@
-pub mod Years
-pub mod Months
-pub mod Dates
 pub mod EasterSum
 pub mod EasterDates
 pub mod Holidays

@@ -4,7 +4,7 @@ use mathlib.Core.Bool.{Bool, true, false, cond, _&&_, _||_}
 use mathlib.Core.List.{List, [], _∷_, _++_}
 use lib.Dec.{leb, eqb}
 use Rattle.lists.specs.Lists.{member}
-use Rattle.calendar.specs.Days.{dayNumber, yearOf, inCalendar, lastDay}
+use Rattle.dates.specs.Days.{dayNumber, yearOf, inCalendar, lastDay}
 use Rattle.calendar.specs.declared.Group.{Group}
 use Rattle.calendar.specs.declared.Group.the-variants.{Weekday, Saturday, HolidayGroup}
 

@@ -2,7 +2,7 @@
 use Prim.Native.Nat.{ℕ}
 use mathlib.Core.Path.{_≡_, refl}
 use Rattle.lists.specs.Lists.{keep, all, any, leading, member, sumOf, leastOf}
-use Rattle.calendar.specs.Days.{leap, months, newYear, dayNumber, yearOf}
+use Rattle.dates.specs.Days.{leap, months, newYear, dayNumber, yearOf}
 use Rattle.calendar.specs.Holidays.{easter, fixedHolidays, easterHolidays, holidays, isHoliday, group}
 use Rattle.text.specs.Text.{digits, dec, decimal}
 use Rattle.method.specs.Table.{size, offset, dayOf, held, shaped, isExtract}

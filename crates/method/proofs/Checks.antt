@@ -2,7 +2,7 @@
 use mathlib.Core.Path.{refl}
 use Prim.Native.Nat.{ℕ}
 use Rattle.lists.specs.Lists.{keep, all, any, leading, member, sumOf, leastOf}
-use Rattle.calendar.specs.Days.{leap, months, newYear, dayNumber, yearOf}
+use Rattle.dates.specs.Days.{leap, months, newYear, dayNumber, yearOf}
 use Rattle.calendar.specs.Holidays.{easter, fixedHolidays, easterHolidays, holidays, isHoliday, group}
 use Rattle.method.specs.Table.{size, offset, dayOf, held, shaped, isExtract}
 use Rattle.method.specs.Relevant.{daysBefore, relevant, relevantDays}

@@ -14,7 +14,7 @@ use borrow.Author.Tests.{eqb-true, eqb-false, eq-eqb, ne-eqb, leb-true, le-leb, 
 use Rattle.lists.specs.Lists.{all}
 use Rattle.lists.proofs.All.{all-append, all-replicate, all-take, all-drop}
 use Rattle.lists.proofs.Bools.{and-left, and-right}
-use Rattle.calendar.specs.Days.{lastDay}
+use Rattle.dates.specs.Days.{lastDay}
 use Rattle.method.specs.declared.Request.{Request}
 use Rattle.method.specs.Table.{Table, heldDays, size, offset, dayOf, goodMark, goodReading, held, history, shaped}
 use Rattle.method.specs.Verdict.{wellFormed}

@@ -6,7 +6,7 @@ use Prim.Native.Nat.{ℕ, _+_, _-_, _*_}
 use lib.ListN.{take, replicate, set}
 use lib.IntN.{pos}
 use Rattle.lists.specs.Lists.{member, sumOf}
-use Rattle.calendar.specs.Days.{dayNumber}
+use Rattle.dates.specs.Days.{dayNumber}
 use Rattle.calendar.specs.Holidays.{easter, group}
 use Rattle.calendar.specs.declared.Group.{Group}
 use Rattle.calendar.specs.declared.Group.the-variants.{Weekday, Saturday, HolidayGroup}

@@ -7,7 +7,7 @@ use lib.ListN.{length, drop}
 use lib.IntN.{ℤ}
 use lib.Dec.{leb, ltb}
 use Rattle.lists.specs.Lists.{all, leading}
-use Rattle.calendar.specs.Days.{lastDay}
+use Rattle.dates.specs.Days.{lastDay}
 use Rattle.calendar.specs.declared.Group.{Group}
 use Rattle.method.specs.declared.Request.{Request}
 use Rattle.method.specs.declared.Refusal.{Refusal}

@@ -3,10 +3,10 @@ ghost use Prim.Native.Nat.{_<_};
 use crate::line::put;
 use crate::line::put_four;
 use crate::line::put_two;
-use calendar::Date;
-use calendar::Dated;
 use calendar::Group;
-use calendar::Numbered;
+use dates::Date;
+use dates::Dated;
+use dates::Numbered;
 use libc::STDOUT_FILENO;
 
 fn letter(group: Group) -> u8 {
@@ -19,7 +19,7 @@ fn letter(group: Group) -> u8 {
 
 // The letter of a date's group; nothing where there is no such date.
 fn put_letter(line: &mut [u8; 80], at: usize, date: Date) -> usize {
-    match calendar::day_number(date) {
+    match dates::day_number(date) {
         Numbered::Day(day) => put(line, at, letter(calendar::group_of(day))),
         Numbered::NoSuchDate => at,
     }
@@ -75,7 +75,7 @@ fn put_date(line: &mut [u8; 80], at: usize, date: Date) -> usize {
 }
 
 fn date_line(day: u32) {
-    let Dated::On(date) = calendar::date_of(day) else {
+    let Dated::On(date) = dates::date_of(day) else {
         return;
     };
     let mut line = [0u8; 80];
@@ -124,7 +124,7 @@ fn put_month(line: &mut [u8; 80], at: usize, month: u32) -> usize {
 
 // A day as `07-Jan`.
 fn write_day(day: u32) {
-    let Dated::On(date) = calendar::date_of(day) else {
+    let Dated::On(date) = dates::date_of(day) else {
         return;
     };
     let mut line = [0u8; 80];

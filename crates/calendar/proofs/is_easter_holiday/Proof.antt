@@ -1,76 +1,71 @@
--- `calendar::is_easter_holiday` meets its contract: the six numbers are the definition's, and Easter's bounds keep them from wrapping.
+-- `calendar::is_easter_holiday` meets its contract: each way out is a law of Holidays, at the days passed of the day's year.
 use native.Mathlib.Omega.{arith}
 use borrow.Author.Needs.{needs}
-use mathlib.Core.Bool.{or-false}
-use Rattle.lists.specs.Lists.{member}
-use Rattle.calendar.specs.Holidays.{easterHolidays}
-use Rattle.calendar.proofs.EasterSum.{easter-fits}
-use Rattle.calendar.proofs.Holidays.{far-from-easter}
+use Rattle.dates.specs.Place.{placeOf}
+use Rattle.dates.proofs.Years.{year-in-calendar, since-new-year}
+use Rattle.dates.proofs.Dates.{place-leap}
+use Rattle.calendar.proofs.Holidays.{far-from-easter, before-easter, near-easter}
 use Rattle.calendar.proofs.is_easter_holiday.Statement.{statement}
 use Rattle.calendar.proofs.is_easter_holiday.Tie as tie
 
-new-year-requires : tie.Need-new-year-requires
-new-year-requires c κs = search needs
-
-sub-passed : tie.Need-sub-passed
-sub-passed c = search needs
+place-of-requires : tie.Need-place-of-requires
+place-of-requires c κs = search needs
 
 returns : tie.Need-returns
+unfolding placeOf
 returns c =
     let s = c .before .before in
-    far-from-easter (s .args .year) (s .args .day) (s .pre .0) (s .pre .1)
-    (λ l h. omega (arith, c .if1 .taken, c .before .new-year .ensures))
+    let passed = rw (c .before .place-of .ensures) at (c .if1 .taken) in
+    far-from-easter _ (s .args .day) (year-in-calendar (s .args .day) (s .pre)) (λ l h. omega arith)
 
 returns-2 : tie.Need-returns-2
+unfolding placeOf
 returns-2 c =
     let s = c .before .before .before in
-    far-from-easter (s .args .year) (s .args .day) (s .pre .0) (s .pre .1)
-    (λ l h. omega (arith, c .if2 .taken, c .before .before .new-year .ensures))
+    let passed = rw (c .before .before .place-of .ensures) at (c .if2 .taken) in
+    far-from-easter _ (s .args .day) (year-in-calendar (s .args .day) (s .pre)) (λ l h. omega arith)
 
-easter-requires : tie.Need-easter-requires
-easter-requires c κs = search needs
+add-monday : tie.Need-add-monday
+add-monday c =
+    let m = c .before .before .before in
+    omega (arith, place-leap (m .before .args .day) (m .place-of .ensures))
 
-sub-result : tie.Need-sub-result
-sub-result c =
-    let s = c .before .before .before .before in
-    omega (arith, c .easter .ensures, easter-fits (s .args .year) (s .pre .0) (s .pre .1))
+easter-from-march-requires : tie.Need-easter-from-march-requires
+easter-from-march-requires c κs = search needs
 
-sub-result-2 : tie.Need-sub-result-2
-sub-result-2 c =
-    let s = c .before .before .before .before in
-    omega (arith, c .easter .ensures, easter-fits (s .args .year) (s .pre .0) (s .pre .1))
-
-sub-result-3 : tie.Need-sub-result-3
-sub-result-3 c =
-    let s = c .before .before .before .before in
-    omega (arith, c .easter .ensures, easter-fits (s .args .year) (s .pre .0) (s .pre .1))
-
-add-result : tie.Need-add-result
-add-result c =
-    let s = c .before .before .before .before in
-    omega (arith, c .easter .ensures, easter-fits (s .args .year) (s .pre .0) (s .pre .1))
-
-add-result-2 : tie.Need-add-result-2
-add-result-2 c =
-    let s = c .before .before .before .before in
-    omega (arith, c .easter .ensures, easter-fits (s .args .year) (s .pre .0) (s .pre .1))
+add-monday-2 : tie.Need-add-monday-2
+add-monday-2 c =
+    let m = c .before .before .before .before in
+    omega (arith, place-leap (m .before .args .day) (m .place-of .ensures))
 
 returns-3 : tie.Need-returns-3
-unfolding member easterHolidays
-returns-3 c = rw (c .easter .ensures, or-false)
+unfolding placeOf
+returns-3 c =
+    let m = c .before .before .before .before .before in
+    let s = m .before in
+    let e = m .place-of .ensures in
+    before-easter _ _ _ _ (year-in-calendar (s .args .day) (s .pre)) (since-new-year (s .args .day))
+    (rw e at (c .before .easter-from-march .ensures .0)) (rw e at (c .if3 .taken))
+
+returns-4 : tie.Need-returns-4
+unfolding placeOf
+returns-4 c =
+    let m = c .before .before .before .before .before in
+    let s = m .before in
+    let e = m .place-of .ensures in
+    rw e
+    (near-easter _ _ _ _ (year-in-calendar (s .args .day) (s .pre)) (since-new-year (s .args .day))
+    (rw e at (c .before .easter-from-march .ensures .0)) (rw e at (c .if3 .left)))
 
 pub is-easter-holiday-spec : {M : Type 1} → statement M
 is-easter-holiday-spec =
     tie.close
     (tie.spec
-    new-year-requires
-    sub-passed
+    place-of-requires
     returns
     returns-2
-    easter-requires
-    sub-result
-    sub-result-2
-    sub-result-3
-    add-result
-    add-result-2
-    returns-3)
+    add-monday
+    easter-from-march-requires
+    add-monday-2
+    returns-3
+    returns-4)

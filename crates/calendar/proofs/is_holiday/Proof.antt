@@ -1,11 +1,9 @@
 -- `calendar::is_holiday` meets its contract: by the test of the last day, and membership in two lists joined.
-use native.Mathlib.Omega.{arith}
 use borrow.Author.Needs.{needs}
 use borrow.Author.Tests.{lt-leb, le-leb}
 use Rattle.lists.proofs.Members.{member-append}
-use Rattle.calendar.specs.Days.{yearOf}
+use Rattle.dates.specs.Days.{yearOf}
 use Rattle.calendar.specs.Holidays.{fixedHolidays, easterHolidays, holidays, isHoliday}
-use Rattle.calendar.proofs.Years.{in-its-year}
 use Rattle.calendar.proofs.is_holiday.Statement.{statement}
 use Rattle.calendar.proofs.is_holiday.Tie as tie
 
@@ -13,37 +11,23 @@ returns : tie.Need-returns
 unfolding isHoliday
 returns c = simp (lt-leb _ _ (c .if1 .taken))
 
-year-of-requires : tie.Need-year-of-requires
-year-of-requires c κs = search needs
-
 is-fixed-holiday-requires : tie.Need-is-fixed-holiday-requires
-is-fixed-holiday-requires c κs =
-    let y = c .year-of .ensures in
-    (omega (arith, y), omega (arith, y), rw (y .0) (in-its-year (c .before .before .args .day) .0))
+is-fixed-holiday-requires c κs = search needs
 
 is-easter-holiday-requires : tie.Need-is-easter-holiday-requires
-is-easter-holiday-requires c κs =
-    let y = c .before .year-of .ensures in
-    (omega (arith, y), omega (arith, y), rw (y .0) (in-its-year (c .before .before .before .args .day) .0))
+is-easter-holiday-requires c κs = search needs
 
 returns-2 : tie.Need-returns-2
 unfolding isHoliday holidays
 returns-2 c =
-    let d = c .before .before .before .before .args .day in
+    let d = c .before .before .before .args .day in
     rw (
-      le-leb _ _ (c .before .before .before .if1 .left),
+      le-leb _ _ (c .before .before .if1 .left),
       c .before .is-fixed-holiday .ensures,
       c .is-easter-holiday .ensures,
-      c .before .before .year-of .ensures .0,
       member-append d (fixedHolidays (yearOf d)) (easterHolidays (yearOf d)),
     )
 
 pub is-holiday-spec : {M : Type 1} → statement M
 is-holiday-spec =
-    tie.close
-    (tie.spec
-    returns
-    year-of-requires
-    is-fixed-holiday-requires
-    is-easter-holiday-requires
-    returns-2)
+    tie.close (tie.spec returns is-fixed-holiday-requires is-easter-holiday-requires returns-2)

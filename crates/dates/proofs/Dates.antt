@@ -1,7 +1,7 @@
 -- A day number and its date: the month is found where the days before it stop short of the days passed.
-use Prim.Native.Nat.{ℕ, zero, suc, _+_, _-_, _≤_, _<_}
-use mathlib.Core.Path.{_≡_, refl, ap, sym, _∙_}
-use mathlib.Core.Bool.{true, _&&_}
+use Prim.Native.Nat.{ℕ, zero, suc, _+_, _-_, _*_, _/_, _%_, _≤_, _<_}
+use mathlib.Core.Path.{_≡_, ap, sym}
+use mathlib.Core.Bool.{true, false, _&&_}
 use mathlib.Core.List.{List, [], _∷_}
 use mathlib.Core.Logic.{⊎-elim}
 use native.Mathlib.Omega.{arith}
@@ -11,14 +11,16 @@ use borrow.Author.Tests.{lt-ltb, le-ltb, le-leb, leb-true}
 use lib.Dec.{leb}
 use lib.ListN.{getD, take}
 use Rattle.lists.specs.Lists.{sumOf}
-use Rattle.lists.proofs.Bools.{lt-or-le, both}
+use Rattle.lists.proofs.Bools.{bool-cases, lt-or-le, both}
 use Rattle.lists.proofs.Sums.{sum-take-suc, sum-take-le, held-below}
-use Rattle.calendar.specs.Days.{lastDay, inCalendar, months, newYear, yearOf, dayNumber, isDate, numbered, dateAfter, dateOf, dated}
-use Rattle.calendar.specs.declared.Date.{Date}
-use Rattle.calendar.specs.declared.Numbered.the-variants.{Day}
-use Rattle.calendar.specs.declared.Dated.the-variants.{On}
-use Rattle.calendar.proofs.Years.{in-calendar, leap-le, next-year, calendar-end, year-of-least, year-of-in, in-its-year, year-of-day}
-use Rattle.calendar.proofs.Months.{days-of-year}
+use Rattle.dates.specs.Days.{lastDay, inCalendar, months, newYear, yearOf, dayNumber, isDate, numbered, dateAfter, dateOf, dated}
+use Rattle.dates.specs.Place.{placeOf}
+use Rattle.dates.specs.declared.Date.{Date}
+use Rattle.dates.specs.declared.Place.{Place}
+use Rattle.dates.specs.declared.Numbered.the-variants.{Day, NoSuchDate}
+use Rattle.dates.specs.declared.Dated.the-variants.{On}
+use Rattle.dates.proofs.Years.{in-calendar, leap-le, next-year, calendar-end, year-of-least, year-of-in, in-its-year, year-of-day}
+use Rattle.dates.proofs.Months.{days-of-year}
 
 abbrev pub on : ℕ → ℕ → ℕ → Date
 on y m d = record { year = y; month = m; day = d }
@@ -113,11 +115,6 @@ date-in-year y m d r = (
   omega (arith, next-year y (r .first), days-of-year y, sum-take-suc (months y) (m - 1), sum-take-le (months y) (suc (m - 1))),
 )
 
-pub day-fits : (y m d : ℕ) → Real y m d → d ≤ 366
-unfolding months
-day-fits y m d r =
-    omega (arith, leap-le y, days-of-year y, sum-take-suc (months y) (m - 1), sum-take-le (months y) (suc (m - 1)))
-
 -- the date of a day of which the months over are known
 pub date-at :
     (d k j : ℕ) → d - newYear (yearOf d) ≡ sumOf (take k (months (yearOf d))) + j → j < getD (months (yearOf d)) k 0 →
@@ -125,46 +122,64 @@ pub date-at :
 unfolding dateOf
 date-at d k j e h = rw e (after-at (yearOf d) 1 (months (yearOf d)) k j h)
 
-pub numbered-day :
-    (t : Date) (n : ℕ) → isDate (t .year) (t .month) (t .day) ≡ true → n ≡ dayNumber (t .year) (t .month) (t .day) →
-    Day n ≡ numbered t
+module _ (t : Date) (n : ℕ) where
+  pub numbered-day : isDate (t .year) (t .month) (t .day) ≡ true → n ≡ dayNumber (t .year) (t .month) (t .day) → Day n ≡ numbered t
+  unfolding numbered
+  numbered-day h e = rw h (ap Day e)
+
+  -- a date that has a day number is one
+  pub numbered-is : numbered t ≡ Day n → (isDate (t .year) (t .month) (t .day) ≡ true) × (n ≡ dayNumber (t .year) (t .month) (t .day))
+  unfolding numbered
+  numbered-is e = ⊎-elim (λ h. let f = rw h at e in (h, cc)) (λ h. let f = rw h at e in absurd (never f)) (bool-cases (isDate (t .year) (t .month) (t .day)))
+    where
+      never : NoSuchDate ≡ Day n → ⊥
+      never f = let z : _≡_ {A = ℕ} 0 1 = cc in omega arith
+
+-- and one that has none is not
+pub not-numbered : (t : Date) → numbered t ≡ NoSuchDate → isDate (t .year) (t .month) (t .day) ≡ false
 unfolding numbered
-numbered-day t n h e = rw h (ap Day e)
-
-pub dated-on :
-    (d y f k s : ℕ) → d ≤ lastDay → y ≡ yearOf d → f ≡ newYear y → s ≡ sumOf (take k (months y)) → s ≤ d - f →
-    d - f < sumOf (take (k + 1) (months y)) → On (on y (k + 1) (d - f - s + 1)) ≡ dated d
-unfolding dated
-dated-on d y f k s h ey ef es l g =
-    rw (le-leb d lastDay h) (ap On (λ i. on (ey i) (month i) (d - f - s + 1)) ∙ ap On (sym (date-at d k (d - f - s) passed held)))
+not-numbered t e = ⊎-elim (λ h. let f = rw h at e in absurd (never f)) (λ h. h) (bool-cases (isDate (t .year) (t .month) (t .day)))
   where
-    month : k + 1 ≡ 1 + k
-    month = omega arith
+    never : Day (dayNumber (t .year) (t .month) (t .day)) ≡ NoSuchDate → ⊥
+    never f = let z : _≡_ {A = ℕ} 0 1 = cc in omega arith
 
-    first : f ≡ newYear (yearOf d)
-    first = rw ey at ef
+-- fewer days of its year have passed than it has
+pub year-over : (d : ℕ) → d - newYear (yearOf d) < sumOf (take 12 (months (yearOf d)))
+year-over d = omega (arith, in-its-year d, next-year (yearOf d) (year-of-least d), days-of-year (yearOf d))
 
-    before : s ≡ sumOf (take k (months (yearOf d)))
-    before = rw ey at es
+-- what four times a day leaves over whole years is four times the days passed, or up to three more
+pub passed-is : (d : ℕ) → 4 * d % 1461 / 4 ≡ d - newYear (yearOf d)
+unfolding newYear yearOf
+passed-is d = omega arith
 
-    end : d - f < sumOf (take (suc k) (months (yearOf d)))
-    end = rw (ey, add-one) at g
+-- what the code finds of a place makes the date
+module _ (d : ℕ) {p : Place} (e : p ≡ placeOf d) where
+  pub place-in-year : p .passed < sumOf (take 12 (months (p .year)))
+  unfolding placeOf
+  place-in-year = rw e (year-over d)
 
-    passed : d - newYear (yearOf d) ≡ sumOf (take k (months (yearOf d))) + (d - f - s)
-    passed = omega (arith, first, before)
+  pub place-fits : p .passed ≤ 365
+  place-fits = omega (arith, place-in-year, days-of-year (p .year), leap-le (p .year))
 
-    held : d - f - s < getD (months (yearOf d)) k 0
-    held = omega (arith, before, end, sum-take-suc (months (yearOf d)) k)
+  pub place-leap : p .leap ≤ 1
+  unfolding placeOf
+  place-leap = rw e (leap-le (yearOf d))
 
-module _ (d : ℕ) {y f : ℕ} (ey : y ≡ yearOf d) (ef : f ≡ newYear y) where
-  first : f ≡ newYear (yearOf d)
-  first = rw ey at ef
-
-  pub first-le : f ≤ d
-  first-le = omega (arith, first, in-its-year d)
-
-  pub year-over : d - f < sumOf (take 12 (months y))
-  year-over = rw ey (omega (arith, first, in-its-year d, next-year (yearOf d) (year-of-least d), days-of-year (yearOf d)))
+  pub dated-on :
+      (k s : ℕ) → d ≤ lastDay → s ≡ sumOf (take k (months (p .year))) → s ≤ p .passed →
+      p .passed < sumOf (take (k + 1) (months (p .year))) → On (on (p .year) (k + 1) (p .passed - s + 1)) ≡ dated d
+  unfolding placeOf dated
+  dated-on = rw e go
+    where
+      go :
+          (k s : ℕ) → d ≤ lastDay → s ≡ sumOf (take k (months (yearOf d))) → s ≤ d - newYear (yearOf d) →
+          d - newYear (yearOf d) < sumOf (take (k + 1) (months (yearOf d))) →
+          On (on (yearOf d) (k + 1) (d - newYear (yearOf d) - s + 1)) ≡ dated d
+      go k s h b l g =
+          let month : k + 1 ≡ 1 + k = omega arith in
+          let end = rw add-one at g in
+          rw (le-leb d lastDay h, month)
+          (ap On (sym (date-at d k (d - newYear (yearOf d) - s) (omega arith) (omega (arith, sum-take-suc (months (yearOf d)) k)))))
 
 abbrev pub SameDay : ℕ → Date → Type 0
 SameDay d t = (isDate (t .year) (t .month) (t .day) ≡ true) × (dayNumber (t .year) (t .month) (t .day) ≡ d)
@@ -172,7 +187,7 @@ SameDay d t = (isDate (t .year) (t .month) (t .day) ≡ true) × (dayNumber (t .
 -- from a day to its date and back
 pub day-date-day : (d : ℕ) → d ≤ lastDay → SameDay d (dateOf d)
 unfolding months dayNumber
-day-date-day d h = go (locate (months (yearOf d)) (d - newYear (yearOf d)) (year-over d refl refl))
+day-date-day d h = go (locate (months (yearOf d)) (d - newYear (yearOf d)) (year-over d))
   where
     go :
         (k : ℕ) × (j : ℕ) × (d - newYear (yearOf d) ≡ sumOf (take k (months (yearOf d))) + j) ×

@@ -5,11 +5,11 @@ use mathlib.Core.List.{List, [], _∷_}
 use lib.ListN.{getD, take}
 use lib.Dec.{leb, ltb, eqb}
 use Rattle.lists.specs.Lists.{sumOf}
-use Rattle.calendar.specs.declared.Date.{Date}
-use Rattle.calendar.specs.declared.Numbered.{Numbered}
-use Rattle.calendar.specs.declared.Numbered.the-variants.{Day, NoSuchDate}
-use Rattle.calendar.specs.declared.Dated.{Dated}
-use Rattle.calendar.specs.declared.Dated.the-variants.{On, PastCalendar}
+use Rattle.dates.specs.declared.Date.{Date}
+use Rattle.dates.specs.declared.Numbered.{Numbered}
+use Rattle.dates.specs.declared.Numbered.the-variants.{Day, NoSuchDate}
+use Rattle.dates.specs.declared.Dated.{Dated}
+use Rattle.dates.specs.declared.Dated.the-variants.{On, PastCalendar}
 
 abbrev pub lastDay : ℕ
 lastDay = 36524

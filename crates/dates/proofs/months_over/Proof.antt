@@ -1,9 +1,9 @@
--- `calendar::months_over` meets its contract: both ways out are laws of Months.
+-- `dates::months_over` meets its contract: both ways out are laws of Months.
 use native.Mathlib.Omega.{arith}
 use borrow.Author.Needs.{needs}
-use Rattle.calendar.proofs.Months.{over-least, over-so, over-next}
-use Rattle.calendar.proofs.months_over.Statement.{statement}
-use Rattle.calendar.proofs.months_over.Tie as tie
+use Rattle.dates.proofs.Months.{over-least, over-so, over-next}
+use Rattle.dates.proofs.months_over.Statement.{statement}
+use Rattle.dates.proofs.months_over.Tie as tie
 
 add-days-of-months : tie.Need-add-days-of-months
 add-days-of-months c = search needs

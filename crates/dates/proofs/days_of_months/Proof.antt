@@ -1,10 +1,10 @@
--- `calendar::days_of_months` meets its contract: the table of a common year, which the laws of Months tie to the months' sum.
+-- `dates::days_of_months` meets its contract: the table of a common year, which the laws of Months tie to the months' sum.
 use Prim.Native.Nat.{_<_}
 use native.Mathlib.Omega.{arith}
 use borrow.Author.Needs.{needs}
-use Rattle.calendar.proofs.Months.{common-le, days-few, days-more}
-use Rattle.calendar.proofs.days_of_months.Statement.{statement}
-use Rattle.calendar.proofs.days_of_months.Tie as tie
+use Rattle.dates.proofs.Months.{common-le, days-few, days-more}
+use Rattle.dates.proofs.days_of_months.Statement.{statement}
+use Rattle.dates.proofs.days_of_months.Tie as tie
 
 mul-common : tie.Need-mul-common
 mul-common c = search needs

@@ -1,9 +1,9 @@
--- `calendar::leap` meets its contract: the test of the code is that of the definition.
+-- `dates::leap` meets its contract: the test of the code is that of the definition.
 use borrow.Author.Needs.{needs}
 use borrow.Author.Tests.{eq-eqb, ne-eqb}
-use Rattle.calendar.specs.Days.{leap}
-use Rattle.calendar.proofs.leap.Statement.{statement}
-use Rattle.calendar.proofs.leap.Tie as tie
+use Rattle.dates.specs.Days.{leap}
+use Rattle.dates.proofs.leap.Statement.{statement}
+use Rattle.dates.proofs.leap.Tie as tie
 
 returns : tie.Need-returns
 unfolding leap

@@ -1,5 +1,5 @@
 -- Years: leap or not, how many days one has, and in which a day lies. All by linear arithmetic.
-use Prim.Native.Nat.{ℕ, suc, _+_, _%_, _≤_, _<_}
+use Prim.Native.Nat.{ℕ, suc, _+_, _-_, _%_, _≤_, _<_}
 use mathlib.Core.Path.{_≡_}
 use mathlib.Core.Bool.{true}
 use mathlib.Core.Logic.{_⊎_, inl, inr, ⊎-elim}
@@ -7,7 +7,7 @@ use native.Mathlib.Omega.{arith}
 use borrow.Author.Tests.{eqb-true, eqb-false, leb-true, le-leb}
 use lib.Dec.{leb, eqb}
 use Rattle.lists.proofs.Bools.{bool-cases, both}
-use Rattle.calendar.specs.Days.{lastDay, inCalendar, leap, newYear, yearOf}
+use Rattle.dates.specs.Days.{lastDay, inCalendar, leap, newYear, yearOf}
 
 pub in-calendar : (y : ℕ) → inCalendar y ≡ true → (2000 ≤ y) × (y ≤ 2099)
 in-calendar y h =
@@ -29,10 +29,6 @@ pub next-year : (y : ℕ) → 2000 ≤ y → newYear (y + 1) ≡ newYear y + (36
 unfolding newYear
 next-year y h = ⊎-elim (λ t. omega arith) (λ f. omega arith) (leap-cases y)
 
-pub new-year-le : (y : ℕ) → y ≤ 2099 → newYear y ≤ 36160
-unfolding newYear
-new-year-le y h = omega arith
-
 pub calendar-end : (y : ℕ) → y ≤ 2099 → newYear (y + 1) ≤ suc lastDay
 unfolding newYear
 calendar-end y h = omega arith
@@ -45,10 +41,17 @@ pub year-of-in : (d : ℕ) → d ≤ lastDay → (2000 ≤ yearOf d) × (yearOf 
 unfolding yearOf
 year-of-in d h = (omega arith, omega arith)
 
+pub year-in-calendar : (d : ℕ) → d ≤ lastDay → inCalendar (yearOf d) ≡ true
+year-in-calendar d h = let b = year-of-in d h in calendar-year (yearOf d) (b .0) (b .1)
+
 -- a day lies in its year
 pub in-its-year : (d : ℕ) → (newYear (yearOf d) ≤ d) × (d < newYear (yearOf d + 1))
 unfolding newYear yearOf
 in-its-year d = (omega arith, omega arith)
+
+-- as many days after its first as have passed
+pub since-new-year : (d : ℕ) → d ≡ newYear (yearOf d) + (d - newYear (yearOf d))
+since-new-year d = omega (arith, in-its-year d)
 
 -- and in no other
 pub year-of-day : (y d : ℕ) → 2000 ≤ y → newYear y ≤ d → d < newYear (y + 1) → yearOf d ≡ y

@@ -11,8 +11,8 @@ use lib.ListN.{getD, take}
 use Rattle.lists.specs.Lists.{sumOf}
 use Rattle.lists.proofs.Below.{below, at-each}
 use Rattle.lists.proofs.Bools.{lt-or-le}
-use Rattle.calendar.specs.Days.{leap, months}
-use Rattle.calendar.proofs.Years.{leap-cases, leap-le}
+use Rattle.dates.specs.Days.{leap, months}
+use Rattle.dates.proofs.Years.{leap-cases, leap-le}
 
 -- what holds of the months of 2000 and of 2001 holds of the months of every year
 pub of-both : (P : List ℕ → ℕ → Type 0) → P (months 2000) 1 → P (months 2001) 0 → (y : ℕ) → P (months y) (leap y)

@@ -1,9 +1,9 @@
--- `calendar::new_year` meets its contract: the definition is the code's sum, and small.
+-- `dates::new_year` meets its contract: the definition is the code's sum, and small.
 use native.Mathlib.Omega.{arith}
 use borrow.Author.Needs.{needs}
-use Rattle.calendar.specs.Days.{newYear}
-use Rattle.calendar.proofs.new_year.Statement.{statement}
-use Rattle.calendar.proofs.new_year.Tie as tie
+use Rattle.dates.specs.Days.{newYear}
+use Rattle.dates.proofs.new_year.Statement.{statement}
+use Rattle.dates.proofs.new_year.Tie as tie
 
 sub-result : tie.Need-sub-result
 sub-result c = search needs
