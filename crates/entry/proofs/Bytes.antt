@@ -8,7 +8,7 @@ use lib.ListN.{length, getD, drop, set, drop-of-length-le}
 use lib.Seq.{drop-cons}
 use borrow.Rule.Slice.PartMut.{putMid}
 use Rattle.record.specs.Layout.{bytes, readingBytes}
-use Rattle.record.proofs.Filling.{Filling, filling-part, filled}
+use Rattle.filling.proofs.Filling.{Filling, filling-part, filled}
 
 pub four-set : (l : List ℕ) (a b c d : ℕ) → length l ≡ 4 → set (set (set (set l 0 a) 1 b) 2 c) 3 d ≡ a ∷ b ∷ c ∷ d ∷ []
 four-set [] a b c d e = absurd (omega arith)

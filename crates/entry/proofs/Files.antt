@@ -22,13 +22,14 @@ use Rattle.record.specs.declared.Read.{Read}
 use Rattle.record.specs.declared.Read.the-variants.{File, Refused}
 use Rattle.record.specs.declared.EventAt.{EventAt}
 use Rattle.record.specs.declared.EventAt.the-variants.{Event, NoEvent as NoneThere, Refused as RefusedEvent}
-use Rattle.record.specs.declared.Loaded.{Loaded}
-use Rattle.record.specs.declared.Loaded.the-variants.{NoRoom, Refused as RefusedLoad}
+use Rattle.loading.specs.declared.Loaded.{Loaded}
+use Rattle.loading.specs.declared.Loaded.the-variants.{NoRoom, Refused as RefusedLoad}
 use Rattle.record.specs.Layout.{readingBytes}
-use Rattle.record.specs.Reader.{readFile, tableIn, eventAtPlace, loadedOf, loading}
+use Rattle.record.specs.Reader.{readFile, tableIn, eventAtPlace}
+use Rattle.loading.specs.Loading.{loadedOf, loading}
 use Rattle.record.proofs.Files.{shape-fits}
-use Rattle.record.proofs.Loading.{marks-held, readings-held}
-use Rattle.record.proofs.Buffers.{loaded-refused, InBuffers}
+use Rattle.record.proofs.Lengths.{marks-held, readings-held}
+use Rattle.loading.proofs.Buffers.{loaded-refused, InBuffers}
 use Rattle.entry.specs.Entry.{fileReply, bytesWritten, FileAnswers, LaidDown}
 use Rattle.entry.proofs.Rooms.{answered-size, answered-fits, room-same}
 

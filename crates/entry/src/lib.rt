@@ -11,10 +11,10 @@ ghost use Rattle.record.specs.Reader.{tableIn};
 ghost use Rattle.entry.specs.Entry.{fileReply, FileAnswers, LaidDown};
 use answer::Answer;
 use answer::Given;
+use loading::Loaded;
 use method::Refusal;
 use method::Request;
 use record::EventAt;
-use record::Loaded;
 
 // An event has at most a day's quarters.
 const QUARTERS: usize = 96;
@@ -108,7 +108,7 @@ fn loaded_baseline(file: &[u8], request: Request, out: &mut [u8]) -> Answer
 {
     let mut marks = [0u8; 128];
     let mut readings = [0u32; 12288];
-    let loaded = record::load(file, &mut marks, &mut readings);
+    let loaded = loading::load(file, &mut marks, &mut readings);
     match loaded {
         Loaded::Refused(at) => answer::refuse(Refusal::BadFile(at)),
         Loaded::NoRoom => answer::refuse(Refusal::BadTable),

@@ -7,7 +7,7 @@ use native.Mathlib.Numerals.{add-one}
 use borrow.Author.Tests.{le-leb, lt-leb}
 use lib.ListN.{length, getD, drop, set, drop-of-length-le}
 use lib.Seq.{drop-cons}
-use Rattle.record.proofs.Filling.{Filling, filling-one, filled}
+use Rattle.filling.proofs.Filling.{Filling, filling-one, filled}
 use Rattle.telling.specs.Telling.{toldFirst}
 
 module _ {before now : List ℕ} (numbers : List ℕ) (i : ℕ) (q : Filling before numbers now (drop i numbers) i) where

@@ -14,8 +14,6 @@ use Rattle.record.specs.declared.Read.{Read}
 use Rattle.record.specs.declared.Read.the-variants.{File, Refused}
 use Rattle.record.specs.declared.EventAt.{EventAt}
 use Rattle.record.specs.declared.EventAt.the-variants.{Event as AnEvent, NoEvent, Refused as RefusedEvent}
-use Rattle.record.specs.declared.Loaded.{Loaded}
-use Rattle.record.specs.declared.Loaded.the-variants.{File as LoadedFile, NoRoom, Refused as RefusedLoad}
 
 -- "numbers are little-endian": the number that stands at a place, `width` bytes wide
 unfoldable pub numberAt : ℕ → ℕ → List ℕ → ℕ
@@ -166,18 +164,3 @@ requestAt file place = requestOf (numberAt 2 2 file) (eventOf (drop (eventStart 
 abbrev pub eventAtPlace : Read → List ℕ → ℕ → EventAt
 eventAtPlace (File shape) file place = cond (ltb place (shape .events)) (AnEvent (requestAt file place)) NoEvent
 eventAtPlace (Refused at) file place = RefusedEvent at
-
--- what loading says, with so much room for marks and for readings
-abbrev pub loadedOf : Read → Table → ℕ → ℕ → Loaded
-loadedOf (File shape) table marks readings =
-    cond (leb (heldDays table) marks && leb (length (table .readings)) readings) (LoadedFile shape) NoRoom
-loadedOf (Refused at) table marks readings = RefusedLoad at
-
-unfoldable pub loading : List ℕ → ℕ → ℕ → Loaded
-loading file marks readings = loadedOf (readFile file) (tableIn file) marks readings
-
--- a buffer afterwards: where the file is loaded the values stand first and the rest is kept; else nothing changes
-abbrev pub bufferAfter : Loaded → List ℕ → List ℕ → List ℕ
-bufferAfter (LoadedFile shape) values buffer = values ++ drop (length values) buffer
-bufferAfter NoRoom values buffer = buffer
-bufferAfter (RefusedLoad at) values buffer = buffer

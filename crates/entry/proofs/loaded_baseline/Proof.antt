@@ -4,7 +4,7 @@ use native.Mathlib.Omega.{arith}
 use lib.ListN.{length}
 use Rattle.entry.proofs.Files.{never-refused, never-full, its-table}
 use borrow.Author.Needs.{needs}
-use Rattle.record.proofs.Buffers.{InBuffers, in-buffers}
+use Rattle.loading.proofs.Buffers.{InBuffers, in-buffers}
 use Rattle.entry.proofs.loaded_baseline.Statement.{statement}
 use Rattle.entry.proofs.loaded_baseline.Tie as tie
 

@@ -5,7 +5,7 @@ use native.Mathlib.Omega.{arith}
 use lib.ListN.{length, drop}
 use borrow.Rule.Slice.PartMut.{mid-len}
 use Rattle.record.specs.Layout.{readingBytes}
-use Rattle.record.proofs.Filling.{Filling, filling-none}
+use Rattle.filling.proofs.Filling.{Filling, filling-none}
 use Rattle.entry.proofs.Bytes.{number-put, numbers-put}
 use Rattle.entry.proofs.put_numbers.Statement.{statement}
 use Rattle.entry.proofs.put_numbers.Tie as tie

@@ -2,7 +2,7 @@
 use Prim.Native.Nat.{_-_, _≤_, _<_}
 use native.Mathlib.Omega.{arith}
 use lib.ListN.{length, drop}
-use Rattle.record.proofs.Filling.{Filling, filling-none}
+use Rattle.filling.proofs.Filling.{Filling, filling-none}
 use Rattle.host.proofs.Numbers.{tells-one, tells-all, tells-none}
 use Rattle.host.proofs.tell_first.Statement.{statement}
 use Rattle.host.proofs.tell_first.Tie as tie

@@ -20,9 +20,7 @@ cast-if1 : tie.Need-cast-if1
 cast-if1 c = search needs
 
 day-start-requires : tie.Need-day-start-requires
-day-start-requires c κs =
-    let q = shape-fits (c .before .before .before .before .before .before .before .args .file .now) _ (sym (c .before .before .before .before .before .read-file .ensures) ∙ c .before .before .before .shape .given .1) in
-    omega arith
+day-start-requires c κs = search needs
 
 mul-at : tie.Need-mul-at
 mul-at c = search needs

@@ -1,13 +1,14 @@
--- `record::load` meets its contract: one law for each way out.
+-- `loading::load` meets its contract: one law for each way out.
 use mathlib.Core.Path.{refl, sym, _∙_}
 use native.Mathlib.Omega.{arith}
 use lib.ListN.{length}
 use Rattle.record.specs.Reader.{tableIn}
 use Rattle.record.proofs.Files.{shape-fits}
-use Rattle.record.proofs.Loading.{load-refused, days-held, marks-held, readings-held, room-is, rest-kept, no-room, room-enough}
+use Rattle.record.proofs.Lengths.{days-held, marks-held, readings-held}
+use Rattle.loading.proofs.Loading.{load-refused, room-is, rest-kept, no-room, room-enough}
 use borrow.Author.Needs.{needs}
-use Rattle.record.proofs.load.Statement.{statement}
-use Rattle.record.proofs.load.Tie as tie
+use Rattle.loading.proofs.load.Statement.{statement}
+use Rattle.loading.proofs.load.Tie as tie
 
 read-file-requires : tie.Need-read-file-requires
 read-file-requires c κs = search needs

@@ -1,15 +1,15 @@
--- `record::load_readings` meets its contract. The loop's invariant: the days written and those left to write are the whole (`Filling`).
+-- `loading::load_readings` meets its contract. The loop's invariant: the days written and those left to write are the whole (`Filling`).
 use Prim.Native.Nat.{_+_, _*_, _-_, _≤_}
 use mathlib.Core.Path.{_∙_}
 use native.Mathlib.Omega.{arith}
 use native.Mathlib.Nat.{sub-zero, add-zero}
 use lib.ListN.{drop}
 use borrow.Rule.Slice.PartMut.{mid-len}
 use Rattle.record.specs.Reader.{firstIn, readingsFrom}
-use Rattle.record.proofs.Filling.{Filling, filling-none}
-use Rattle.record.proofs.Loading.{day-put, readings-loaded}
-use Rattle.record.proofs.load_readings.Statement.{statement}
-use Rattle.record.proofs.load_readings.Tie as tie
+use Rattle.filling.proofs.Filling.{Filling, filling-none}
+use Rattle.loading.proofs.Loading.{day-put, readings-loaded}
+use Rattle.loading.proofs.load_readings.Statement.{statement}
+use Rattle.loading.proofs.load_readings.Tie as tie
 
 abbrev Inv-loop : tie.InvT-loop
 Inv-loop file days readings₀ k₀ readings k = (k ≤ days) × Filling readings₀ (readingsFrom days (firstIn file) (drop 8 file)) readings (readingsFrom (days - k) (firstIn file + k) (drop (8 + 390 * k) file)) (96 * k)

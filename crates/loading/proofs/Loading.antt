@@ -4,22 +4,23 @@ use mathlib.Core.Path.{_≡_, refl, sym, _∙_, ap}
 use mathlib.Core.List.{List, [], _∷_, _++_, append-nil}
 use native.Mathlib.Omega.{arith}
 use native.Mathlib.Nat.{add-zero}
-use lib.ListN.{length, drop, getD, length-append, drop-of-length-le}
+use lib.ListN.{length, drop, getD, set, drop-of-length-le}
 use lib.Seq.{getD-drop, drop-drop}
 use borrow.Rule.Slice.PartMut.{putMid}
 use borrow.Author.Tests.{leb-true}
 use lib.Dec.{leb}
 use Rattle.lists.proofs.Bools.{both}
 use mathlib.Core.Bool.{true, false, _&&_}
 use Rattle.record.specs.declared.Shape.{Shape}
 use Rattle.record.specs.declared.Read.the-variants.{File, Refused}
-use Rattle.record.specs.declared.Loaded.the-variants.{File as LoadedFile, NoRoom, Refused as RefusedLoad}
-use Rattle.record.specs.Reader.{numberAt, dyLength, firstIn, daysIn, marksFrom, numbers, readingsFrom, shapeIn, tableIn, readFile, loading}
-use Rattle.record.proofs.Numbers.{number-drop}
+use Rattle.loading.specs.declared.Loaded.the-variants.{File as LoadedFile, NoRoom, Refused as RefusedLoad}
+use Rattle.record.specs.Reader.{numberAt, firstIn, daysIn, marksFrom, numbers, readingsFrom, tableIn, readFile}
+use Rattle.loading.specs.Loading.{loading}
+use Rattle.record.proofs.Numbers.{number-drop, number-four}
 use Rattle.method.proofs.Tables.{size-is}
 use Rattle.record.proofs.Records.{dy-length}
-use Rattle.record.proofs.Files.{shape-fits}
-use Rattle.record.proofs.Filling.{Filling, filling-part, filled}
+use Rattle.record.proofs.Lengths.{numbers-length, marks-held, readings-held}
+use Rattle.filling.proofs.Filling.{Filling, filling-one, filling-part, filled}
 
 module _ (file : List ℕ) (at next : ℕ) where
   pub numbers-more : (k count : ℕ) → k < count → next ≡ at + 4
@@ -62,20 +63,15 @@ module _ (k h : ℕ) (all : h ≤ k) where
   unfolding readingsFrom
   readings-none d left = rw none
 
-pub numbers-length : (count : ℕ) (left : List ℕ) → length (numbers count left) ≡ count
-unfolding numbers
-numbers-length zero left = refl
-numbers-length (suc count) left = ap suc (numbers-length count (drop 4 left))
-
-pub marks-length : (h d : ℕ) (left : List ℕ) → length (marksFrom h d left) ≡ h
-unfolding marksFrom
-marks-length zero d left = refl
-marks-length (suc h) d left = ap suc (marks-length h (suc d) (drop (dyLength d) left))
-
-pub readings-length : (h d : ℕ) (left : List ℕ) → length (readingsFrom h d left) ≡ 96 * h
-unfolding readingsFrom
-readings-length zero d left = refl
-readings-length (suc h) d left = rw (length-append, numbers-length, readings-length h, size-is) (omega arith)
+-- one more reading is put behind those that are loaded
+pub reading-put : (file : List ℕ) {before whole now : List ℕ} (at q : ℕ) {v : ℕ} → Filling before whole now (numbers (96 - q) (drop (at + 4 * q) file)) q
+    → q < 96 → q < length now
+    → v ≡ getD file (at + 4 * q) 0 + 256 * getD file (at + 4 * q + 1) 0 + 65536 * getD file (at + 4 * q + 2) 0 + 16777216 * getD file (at + 4 * q + 3) 0
+    → Filling before whole (set now q v) (numbers (96 - (q + 1)) (drop (at + 4 * (q + 1)) file)) (q + 1)
+reading-put file at q f more room e =
+    let far : at + 4 * (q + 1) ≡ at + 4 * q + 4 = omega arith in
+    rw (e, ← number-four (at + 4 * q) file)
+    (filling-one f _ _ room (numbers-more file (at + 4 * q) (at + 4 * (q + 1)) q 96 more far))
 
 -- a whole day is loaded
 pub day-loaded : (file before now : List ℕ) (start at q : ℕ) → 96 ≤ q → Filling before (numbers 96 (drop start file)) now (numbers (96 - q) (drop at file)) q
@@ -126,25 +122,12 @@ room-is days marks readings t =
     let k = both (leb days marks) (leb (96 * days) readings) t in
     (leb-true days marks (k .0), leb-true (96 * days) readings (k .1))
 
--- how long the table of an accepted file is
-module _ (file : List ℕ) {shape : Shape} (r : readFile file ≡ File shape) where
-  pub days-held : shape .days ≡ daysIn file
-  unfolding shapeIn
-  days-held = rw (shape-fits file shape r .is-shape)
+-- an accepted file, with room for its table and without
+module _ (file : List ℕ) {shape : Shape} (r : readFile file ≡ File shape) (marks readings : ℕ) where
+  pub no-room : (leb (shape .days) marks && leb (96 * shape .days) readings) ≡ false → NoRoom ≡ loading file marks readings
+  unfolding loading
+  no-room t = rw (r, marks-held, readings-held, t)
 
-  pub marks-held : length (tableIn file .marks) ≡ shape .days
-  unfolding tableIn
-  marks-held = marks-length (daysIn file) (firstIn file) (drop 8 file) ∙ sym days-held
-
-  pub readings-held : length (tableIn file .readings) ≡ 96 * shape .days
-  unfolding tableIn
-  readings-held = readings-length (daysIn file) (firstIn file) (drop 8 file) ∙ (rw days-held)
-
-  module _ (marks readings : ℕ) where
-    pub no-room : (leb (shape .days) marks && leb (96 * shape .days) readings) ≡ false → NoRoom ≡ loading file marks readings
-    unfolding loading
-    no-room t = rw (r, marks-held, readings-held, t)
-
-    pub room-enough : (leb (shape .days) marks && leb (96 * shape .days) readings) ≡ true → LoadedFile shape ≡ loading file marks readings
-    unfolding loading
-    room-enough t = rw (r, marks-held, readings-held, t)
+  pub room-enough : (leb (shape .days) marks && leb (96 * shape .days) readings) ≡ true → LoadedFile shape ≡ loading file marks readings
+  unfolding loading
+  room-enough t = rw (r, marks-held, readings-held, t)

@@ -1,13 +1,13 @@
--- `record::load_marks` meets its contract. The loop's invariant: the marks written and those left to write are the whole (`Filling`).
+-- `loading::load_marks` meets its contract. The loop's invariant: the marks written and those left to write are the whole (`Filling`).
 use Prim.Native.Nat.{_+_, _*_, _-_, _≤_}
 use native.Mathlib.Omega.{arith}
 use native.Mathlib.Nat.{sub-zero, add-zero}
 use lib.ListN.{drop}
 use Rattle.record.specs.Reader.{firstIn, marksFrom}
-use Rattle.record.proofs.Filling.{Filling, filling-none, filling-one}
-use Rattle.record.proofs.Loading.{marks-more, marks-loaded}
-use Rattle.record.proofs.load_marks.Statement.{statement}
-use Rattle.record.proofs.load_marks.Tie as tie
+use Rattle.filling.proofs.Filling.{Filling, filling-none, filling-one}
+use Rattle.loading.proofs.Loading.{marks-more, marks-loaded}
+use Rattle.loading.proofs.load_marks.Statement.{statement}
+use Rattle.loading.proofs.load_marks.Tie as tie
 
 abbrev Inv-loop : tie.InvT-loop
 Inv-loop file days marks₀ k₀ marks k = (k ≤ days) × Filling marks₀ (marksFrom days (firstIn file) (drop 8 file)) marks (marksFrom (days - k) (firstIn file + k) (drop (8 + 390 * k) file)) k

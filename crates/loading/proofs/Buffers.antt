@@ -8,14 +8,15 @@ use lib.ListN.{length, take, drop}
 use lib.Seq.{take-at}
 use lib.Dec.{leb}
 use Rattle.method.specs.Table.{Table, heldDays}
 use Rattle.record.specs.declared.Shape.{Shape}
 use Rattle.record.specs.declared.Read.{Read}
 use Rattle.record.specs.declared.Read.the-variants.{File, Refused}
-use Rattle.record.specs.declared.Loaded.{Loaded}
-use Rattle.record.specs.declared.Loaded.the-variants.{File as LoadedFile, NoRoom, Refused as RefusedLoad}
-use Rattle.record.specs.Reader.{readFile, tableIn, shapeIn, loadedOf, loading, bufferAfter}
+use Rattle.loading.specs.declared.Loaded.{Loaded}
+use Rattle.loading.specs.declared.Loaded.the-variants.{File as LoadedFile, NoRoom, Refused as RefusedLoad}
+use Rattle.record.specs.Reader.{readFile, tableIn, shapeIn}
+use Rattle.loading.specs.Loading.{loadedOf, loading, bufferAfter}
 use Rattle.record.proofs.Files.{shape-fits}
-use Rattle.record.proofs.Loading.{marks-held, readings-held}
+use Rattle.record.proofs.Lengths.{marks-held, readings-held}
 
 -- a file that is loaded is accepted
 pub loaded-accepted : (read : Read) (table : Table) (m n : ℕ) {shape : Shape} → loadedOf read table m n ≡ LoadedFile shape → read ≡ File shape
