@@ -1,88 +1,29 @@
 -- One law for each way out of the entry.
-use Prim.Native.Nat.{ℕ, _-_, _*_, _/_, _≤_, min}
-use mathlib.Core.Path.{_≡_, refl, sym, ap, _∙_}
-use mathlib.Core.List.{List, _++_}
+use Prim.Native.Nat.{ℕ, _*_, _/_, _≤_}
+use mathlib.Core.Path.{_≡_, refl, sym, _∙_}
+use mathlib.Core.List.{List}
 use native.Mathlib.Omega.{arith}
 use borrow.Author.Tests.{le-leb}
-use lib.ListN.{length, take, drop, length-append}
-use lib.Seq.{take-at}
+use lib.ListN.{length, take}
 use Rattle.calendar.specs.Holidays.{group}
 use Rattle.method.specs.declared.Request.{Request}
-use Rattle.method.specs.declared.Refusal.{Refusal}
 use Rattle.method.specs.declared.Refusal.the-variants.{BadFile, NoEvent}
-use Rattle.method.specs.Table.{Table, heldDays}
-use Rattle.method.specs.Verdict.{Reply, refused, answered, verdict, written}
-use Rattle.answer.specs.declared.Given.the-variants.{Answered, Refused as RefusedGiven}
-use Rattle.answer.specs.declared.Answer.{Answer}
+use Rattle.method.specs.Table.{heldDays}
+use Rattle.method.specs.Verdict.{refused, verdict}
 use Rattle.table.specs.Lent.{tableOf}
-use Rattle.answer.specs.Answer.{answerOf}
-use Rattle.baseline.specs.Ready.{Answers}
 use Rattle.record.specs.declared.Shape.{Shape}
 use Rattle.record.specs.declared.Read.{Read}
 use Rattle.record.specs.declared.Read.the-variants.{File, Refused}
 use Rattle.record.specs.declared.EventAt.{EventAt}
 use Rattle.record.specs.declared.EventAt.the-variants.{Event, NoEvent as NoneThere, Refused as RefusedEvent}
-use Rattle.loading.specs.declared.Loaded.{Loaded}
-use Rattle.loading.specs.declared.Loaded.the-variants.{NoRoom, Refused as RefusedLoad}
-use Rattle.record.specs.Layout.{readingBytes}
 use Rattle.record.specs.Reader.{readFile, tableIn, eventAtPlace}
-use Rattle.loading.specs.Loading.{loadedOf, loading}
 use Rattle.record.proofs.Files.{shape-fits}
 use Rattle.record.proofs.Lengths.{marks-held, readings-held}
+use Rattle.loading.specs.declared.Loaded.{Loaded}
+use Rattle.loading.specs.declared.Loaded.the-variants.{NoRoom, Refused as RefusedLoad}
+use Rattle.loading.specs.Loading.{loadedOf, loading}
 use Rattle.loading.proofs.Buffers.{loaded-refused, InBuffers}
-use Rattle.entry.specs.Entry.{fileReply, bytesWritten, FileAnswers, LaidDown}
-use Rattle.entry.proofs.Rooms.{answered-size, answered-fits, room-same}
-
--- ---- refused: the bytes are kept
-pub refuses : {reply : Reply} {given : Answer} {w : Refusal} (out : List ℕ) → given ≡ answerOf (refused w) → reply ≡ refused w
-    → FileAnswers reply given out out
-unfolding bytesWritten
-refuses out e f = record { answer = e ∙ ap answerOf (sym f); output = rw f }
-
--- ---- the baseline over a table
-module _ (t : Table) (r : Request) (out : List ℕ) {given : Answer} (before : List ℕ) {after : List ℕ} (room : length before ≡ min (length out / 4) 96)
-    (q : Answers (verdict group t r (length before)) given before after) where
-  same : verdict group t r (length before) ≡ verdict group t r (length out / 4)
-  same = ap (verdict group t r) room ∙ room-same r group t (length out / 4)
-
-  answer-is : given ≡ answerOf (verdict group t r (length out / 4))
-  answer-is = q .answer ∙ ap answerOf same
-
-  pub kept : {w : Refusal} → given .given ≡ RefusedGiven w → FileAnswers (verdict group t r (length out / 4)) given out out
-  unfolding answerOf bytesWritten
-  kept {w} g = go (verdict group t r (length out / 4)) answer-is
-    where
-      go : (reply : Reply) → given ≡ answerOf reply → FileAnswers reply given out out
-      go (refused v) x = record { answer = x; output = refl }
-      go (answered a) x = let z : _≡_ {A = ℕ} 0 1 = cc in absurd (omega arith)
-
-  -- the numerators, one for each of the event's quarters
-  pub record Numerators : Type 0 where
-    pub some : r .s ≤ r .e
-    pub within : r .e - r .s ≤ length after
-    pub size : length (take (r .e - r .s) after) ≡ r .e - r .s
-    pub enough : 4 * (r .e - r .s) ≤ length out
-    pub puts : {now : List ℕ} → now ≡ readingBytes (take (r .e - r .s) after) ++ drop (4 * length (take (r .e - r .s) after)) out
-        → FileAnswers (verdict group t r (length out / 4)) given out now
-
-  pub numerators : given .given ≡ Answered → Numerators
-  unfolding answerOf written bytesWritten
-  numerators g = go (verdict group t r (length out / 4)) refl answer-is (q .output ∙ ap (λ (x : Reply). written x before) same)
-    where
-      go : (reply : Reply) → verdict group t r (length out / 4) ≡ reply → given ≡ answerOf reply → after ≡ written reply before → Numerators
-      go (refused w) v x y = let z : _≡_ {A = ℕ} 0 1 = cc in absurd (omega arith)
-      go (answered a) v x y =
-          let fits = answered-fits r group t (length out / 4) v in
-          let size = answered-size r group t (length out / 4) v in
-          let rest = drop (length (a .numerators)) before in
-          let first : take (r .e - r .s) after ≡ a .numerators = rw y (take-at (a .numerators) rest (r .e - r .s) size) in
-          record {
-            some = omega arith;
-            within = rw (y, length-append (a .numerators) rest) (omega arith);
-            size = rw first size;
-            enough = omega arith;
-            puts = λ h. record { answer = rw v x; output = rw v (rw first at h) };
-          }
+use Rattle.entry.specs.Entry.{fileReply, LaidDown}
 
 -- ---- the event at a place
 module _ (file : List ℕ) (place room : ℕ) {at : EventAt} (s : at ≡ eventAtPlace (readFile file) file place) where

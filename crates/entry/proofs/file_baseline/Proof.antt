@@ -1,5 +1,6 @@
 -- `entry::file_baseline` meets its contract: one law for each way out.
-use Rattle.entry.proofs.Files.{refuses, refused-there, none-there, event-there, laid-down}
+use Rattle.bytewise.proofs.Puts.{refuses}
+use Rattle.entry.proofs.Files.{refused-there, none-there, event-there, laid-down}
 use lib.ListN.{length}
 use borrow.Author.Needs.{needs}
 use Rattle.entry.proofs.file_baseline.Statement.{statement}

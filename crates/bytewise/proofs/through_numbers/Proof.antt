@@ -1,11 +1,10 @@
--- `entry::through_numbers` meets its contract: a refusal keeps the bytes, and an answer's numerators are put (`Numerators`).
+-- `bytewise::through_numbers` meets its contract: a refusal keeps the bytes, and an answer's numerators are put (`Numerators`).
 use mathlib.Core.Path.{sym}
-use native.Mathlib.Omega.{arith}
 use Rattle.table.specs.Lent.{tableOf}
-use Rattle.entry.proofs.Files.{Numerators, kept, numerators}
+use Rattle.bytewise.proofs.Puts.{Numerators, kept, numerators}
 use borrow.Author.Needs.{needs}
-use Rattle.entry.proofs.through_numbers.Statement.{statement}
-use Rattle.entry.proofs.through_numbers.Tie as tie
+use Rattle.bytewise.proofs.through_numbers.Statement.{statement}
+use Rattle.bytewise.proofs.through_numbers.Tie as tie
 
 -- where the call answers, its numerators are one for each of the event's quarters
 its : (c : tie.After-enum-told2) →
@@ -41,7 +40,7 @@ slice-aggregate-put-numbers : tie.Need-slice-aggregate-put-numbers
 slice-aggregate-put-numbers c = sym (its (c .before .before .before) .size)
 
 put-numbers-requires : tie.Need-put-numbers-requires
-put-numbers-requires c κs = omega (arith, its (c .before .before .before) .enough, its (c .before .before .before) .size)
+put-numbers-requires c κs = search needs
 
 same-length : tie.Need-same-length
 same-length c = search needs

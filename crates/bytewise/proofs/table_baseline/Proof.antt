@@ -1,9 +1,9 @@
--- `entry::table_baseline` meets its contract: its own numbers have as much room as the bytes, up to a day's.
+-- `bytewise::table_baseline` meets its contract: its own numbers have as much room as the bytes, up to a day's.
 use native.Mathlib.Omega.{arith}
 use lib.ListN.{length-take}
 use borrow.Author.Needs.{needs}
-use Rattle.entry.proofs.table_baseline.Statement.{statement}
-use Rattle.entry.proofs.table_baseline.Tie as tie
+use Rattle.bytewise.proofs.table_baseline.Statement.{statement}
+use Rattle.bytewise.proofs.table_baseline.Tie as tie
 
 room-of-requires : tie.Need-room-of-requires
 room-of-requires c κs = search needs

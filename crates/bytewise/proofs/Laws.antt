@@ -10,7 +10,7 @@ use Rattle.lists.proofs.Bools.{lt-or-le}
 use Rattle.lists.proofs.Unique.{unique}
 use Rattle.method.specs.Verdict.{Reply}
 use Rattle.answer.specs.declared.Answer.{Answer}
-use Rattle.entry.specs.Entry.{FileAnswers}
+use Rattle.bytewise.specs.Bytewise.{FileAnswers}
 
 -- no two differing results meet the contract
 pub file-answers-unique : {reply : Reply} {r r′ : Answer} {out after after′ : List ℕ} → FileAnswers reply r out after → FileAnswers reply r′ out after′

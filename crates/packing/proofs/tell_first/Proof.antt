@@ -1,11 +1,11 @@
--- `host::tell_first` meets its contract. The loop's invariant: the numbers written and those left to write are the whole (`Filling`).
+-- `packing::tell_first` meets its contract. The loop's invariant: the numbers written and those left to write are the whole (`Filling`).
 use Prim.Native.Nat.{_-_, _≤_, _<_}
 use native.Mathlib.Omega.{arith}
 use lib.ListN.{length, drop}
 use Rattle.filling.proofs.Filling.{Filling, filling-none}
-use Rattle.host.proofs.Numbers.{tells-one, tells-all, tells-none}
-use Rattle.host.proofs.tell_first.Statement.{statement}
-use Rattle.host.proofs.tell_first.Tie as tie
+use Rattle.packing.proofs.Told.{tells-one, tells-all, tells-none}
+use Rattle.packing.proofs.tell_first.Statement.{statement}
+use Rattle.packing.proofs.tell_first.Tie as tie
 
 abbrev Inv-loop : tie.InvT-loop
 Inv-loop numbers buffer₀ i₀ buffer i = (i ≤ length numbers) × Filling buffer₀ numbers buffer (drop i numbers) i

@@ -1,4 +1,4 @@
--- `entry::put_numbers` meets its contract. The loop's invariant: the bytes written and those left to write are the whole (`Filling`).
+-- `packing::put_numbers` meets its contract. The loop's invariant: the bytes written and those left to write are the whole (`Filling`).
 use Prim.Native.Nat.{_+_, _*_, _-_, _≤_}
 use mathlib.Core.Path.{_∙_}
 use native.Mathlib.Omega.{arith}
@@ -6,15 +6,18 @@ use lib.ListN.{length, drop}
 use borrow.Rule.Slice.PartMut.{mid-len}
 use Rattle.record.specs.Layout.{readingBytes}
 use Rattle.filling.proofs.Filling.{Filling, filling-none}
-use Rattle.entry.proofs.Bytes.{number-put, numbers-put}
-use Rattle.entry.proofs.put_numbers.Statement.{statement}
-use Rattle.entry.proofs.put_numbers.Tie as tie
+use Rattle.packing.proofs.Bytes.{number-put, numbers-put, numbers-kept}
+use Rattle.packing.proofs.put_numbers.Statement.{statement}
+use Rattle.packing.proofs.put_numbers.Tie as tie
 
 abbrev Inv-loop : tie.InvT-loop
 Inv-loop out₀ numbers i₀ out i = (i ≤ length numbers) × Filling out₀ (readingBytes numbers) out (readingBytes (drop i numbers)) (4 * i)
 
 abbrev μ-loop : tie.MeasureT-loop
 μ-loop out₀ numbers i₀ out i = length numbers - i
+
+returns : tie.Need-returns Inv-loop μ-loop
+returns c = let a = c .before .before .before .args in numbers-kept (a .numbers .now) (a .out .now) (c .if1 .taken)
 
 loop-holds : tie.Need-loop-holds Inv-loop μ-loop
 loop-holds c = (omega arith, filling-none _ _)
@@ -54,16 +57,16 @@ loop-less c = omega arith
 loop-again : tie.Need-loop-again Inv-loop μ-loop
 loop-again c =
     let l = c .before .before .before .before .before .before .loop in
-    let a = c .before .before .before .before .before .before .before .before .before .args in
+    let a = c .before .before .before .before .before .before .before .before .before .before .args in
     (omega arith, number-put (a .numbers .now) (l .i) (l .inv .1) (omega arith) (omega arith) (c .before .before .put-number .ensures))
 
 same-length : tie.Need-same-length Inv-loop μ-loop
 same-length c = c .before .loop .inv .1 .long
 
-returns : tie.Need-returns Inv-loop μ-loop
-returns c =
+returns-2 : tie.Need-returns-2 Inv-loop μ-loop
+returns-2 c =
     let l = c .before .loop in
-    numbers-put (c .before .before .before .before .args .numbers .now) (l .i) (l .inv .1) (l .inv .0) (omega arith)
+    numbers-put (c .before .before .before .before .before .args .numbers .now) (l .i) (l .inv .1) (l .inv .0) (omega arith) (omega arith)
 
 pub put-numbers-spec : {M : Type 1} → statement M
 put-numbers-spec =
@@ -71,6 +74,7 @@ put-numbers-spec =
     (tie.spec
     Inv-loop
     μ-loop
+    returns
     loop-holds
     mul-start
     add-end
@@ -84,4 +88,4 @@ put-numbers-spec =
     loop-less
     loop-again
     same-length
-    returns)
+    returns-2)

@@ -1,9 +1,9 @@
--- `entry::put_number` meets its contract: its four bytes take the place of what was there.
+-- `packing::put_number` meets its contract: its four bytes take the place of what was there.
 use borrow.Author.Needs.{needs}
 use Rattle.record.specs.Layout.{bytes}
-use Rattle.entry.proofs.Bytes.{four-set}
-use Rattle.entry.proofs.put_number.Statement.{statement}
-use Rattle.entry.proofs.put_number.Tie as tie
+use Rattle.packing.proofs.Bytes.{four-set}
+use Rattle.packing.proofs.put_number.Statement.{statement}
+use Rattle.packing.proofs.put_number.Tie as tie
 
 cast-out : tie.Need-cast-out
 cast-out c = search needs
