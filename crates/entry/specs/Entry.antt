@@ -1,6 +1,6 @@
 -- 01, "Record file, listing, host entry": "calls one entry with the file as bytes, the event's place from 0 and a byte buffer for 4-byte
 -- little-endian numerators".
-use Prim.Native.Nat.{ℕ, _/_}
+use Prim.Native.Nat.{ℕ, _*_, _/_, _≤_}
 use mathlib.Core.Path.{_≡_}
 use mathlib.Core.List.{List}
 use Rattle.calendar.specs.Holidays.{group}
@@ -10,7 +10,7 @@ use Rattle.method.specs.Verdict.{Reply, refused, verdict}
 use Rattle.record.specs.declared.EventAt.{EventAt}
 use Rattle.record.specs.declared.EventAt.the-variants.{Event, NoEvent as NoneThere, Refused}
 use Rattle.record.specs.declared.Read.the-variants.{Refused as RefusedFile}
-use Rattle.record.specs.Reader.{readFile, tableIn, eventAtPlace}
+use Rattle.record.specs.Reader.{readFile, daysIn, tableIn, eventAtPlace}
 
 -- "tested in this order": 11, 12, then 1 to 10 over the file's table. A buffer of `room` bytes holds `room / 4` numerators.
 abbrev pub replyTo : EventAt → Table → ℕ → Reply
@@ -24,3 +24,9 @@ fileReply file place room = replyTo (eventAtPlace (readFile file) file place) (t
 -- the file is as laid down
 pub record LaidDown (file : List ℕ) : Type 0 where
   pub accepted : (at : ℕ) → readFile file ≡ RefusedFile at → ⊥
+
+-- and its table fits into buffers of so many marks and readings
+pub record Fits (file : List ℕ) (marks readings : ℕ) : Type 0 where
+  pub laid-down : LaidDown file
+  pub marks-room : daysIn file ≤ marks
+  pub readings-room : 96 * daysIn file ≤ readings

@@ -7,19 +7,21 @@ use native.Mathlib.Nat.{add-zero}
 use lib.ListN.{length, drop, getD, set, drop-of-length-le}
 use lib.Seq.{getD-drop, drop-drop}
 use borrow.Rule.Slice.PartMut.{putMid}
-use borrow.Author.Tests.{leb-true}
+use borrow.Author.Tests.{leb-true, le-leb}
 use lib.Dec.{leb}
 use Rattle.lists.proofs.Bools.{both}
-use mathlib.Core.Bool.{true, false, _&&_}
+use mathlib.Core.Bool.{Bool, true, false, _&&_}
 use Rattle.record.specs.declared.Shape.{Shape}
 use Rattle.record.specs.declared.Read.the-variants.{File, Refused}
 use Rattle.loading.specs.declared.Loaded.the-variants.{File as LoadedFile, NoRoom, Refused as RefusedLoad}
-use Rattle.record.specs.Reader.{numberAt, firstIn, daysIn, marksFrom, numbers, readingsFrom, tableIn, readFile}
-use Rattle.loading.specs.Loading.{loading}
+use Rattle.record.specs.Reader.{numberAt, marksFrom, numbers, readingsFrom, tableIn, tableWithin, readFile}
+use Rattle.loading.specs.Loading.{loading, fitsWithin}
 use Rattle.record.proofs.Numbers.{number-drop, number-four}
+use Rattle.method.specs.Table.{heldDays}
 use Rattle.method.proofs.Tables.{size-is}
 use Rattle.record.proofs.Records.{dy-length}
-use Rattle.record.proofs.Lengths.{numbers-length, marks-held, readings-held}
+use Rattle.record.proofs.Lengths.{numbers-length, marks-length, readings-length, marks-held, readings-held}
+use Rattle.record.proofs.Files.{shape-fits, day-start-is}
 use Rattle.filling.proofs.Filling.{Filling, filling-one, filling-part, filled}
 
 module _ (file : List ℕ) (at next : ℕ) where
@@ -95,19 +97,23 @@ day-put file {before} {whole} {now} {part} k days first {start} f more room s p 
     (rw (p, s) (readings-more file (8 + 390 * k) (8 + 390 * (k + 1)) k days first more far)))
 
 -- all days are loaded
-module _ (file before now : List ℕ) (days k at : ℕ) (below : k ≤ days) (all : days ≤ k) (d : days ≡ daysIn file) where
-  counted : k ≡ days
+module _ (shape : Shape) (file before now : List ℕ) (k at : ℕ) (below : k ≤ shape .days) (all : shape .days ≤ k) where
+  counted : k ≡ shape .days
   counted = omega arith
 
-  pub marks-loaded : Filling before (marksFrom days (firstIn file) (drop 8 file)) now (marksFrom (days - k) (firstIn file + k) (drop at file)) k
-      → now ≡ tableIn file .marks ++ drop days before
-  unfolding tableIn
-  marks-loaded q = rw (← counted) (filled q (marks-none k days all (firstIn file + k) (drop at file)) ∙ (rw (d) refl))
+  pub marks-loaded : Filling before (marksFrom (shape .days) (shape .first) (drop 8 file)) now (marksFrom (shape .days - k) (shape .first + k) (drop at file)) k
+      → now ≡ tableWithin shape file .marks ++ drop (shape .days) before
+  unfolding tableWithin
+  marks-loaded q =
+      filled q (marks-none k (shape .days) all (shape .first + k) (drop at file))
+      ∙ ap (λ (n : ℕ). marksFrom (shape .days) (shape .first) (drop 8 file) ++ drop n before) counted
 
-  pub readings-loaded : Filling before (readingsFrom days (firstIn file) (drop 8 file)) now (readingsFrom (days - k) (firstIn file + k) (drop at file)) (96 * k)
-      → now ≡ tableIn file .readings ++ drop (96 * days) before
-  unfolding tableIn
-  readings-loaded q = rw (← counted) (filled q (readings-none k days all (firstIn file + k) (drop at file)) ∙ (rw (d) refl))
+  pub readings-loaded : Filling before (readingsFrom (shape .days) (shape .first) (drop 8 file)) now (readingsFrom (shape .days - k) (shape .first + k) (drop at file)) (96 * k)
+      → now ≡ tableWithin shape file .readings ++ drop (96 * shape .days) before
+  unfolding tableWithin
+  readings-loaded q =
+      filled q (readings-none k (shape .days) all (shape .first + k) (drop at file))
+      ∙ ap (λ (n : ℕ). readingsFrom (shape .days) (shape .first) (drop 8 file) ++ drop (96 * n) before) counted
 
 -- the rest of a buffer starts where the values end
 pub rest-kept : {now : List ℕ} (values before : List ℕ) {n : ℕ} → length values ≡ n → now ≡ values ++ drop n before → now ≡ values ++ drop (length values) before
@@ -117,17 +123,40 @@ pub load-refused : (file : List ℕ) (marks readings : ℕ) {at : ℕ} → readF
 unfolding loading
 load-refused file marks readings r = rw r
 
-pub room-is : (days marks readings : ℕ) → (leb days marks && leb (96 * days) readings) ≡ true → (days ≤ marks) × (96 * days ≤ readings)
-room-is days marks readings t =
-    let k = both (leb days marks) (leb (96 * days) readings) t in
-    (leb-true days marks (k .0), leb-true (96 * days) readings (k .1))
+-- room for so many days, in the words of the code
+pub room-is : (days size marks readings : ℕ) → (leb (8 + 390 * days) size && (leb days marks && leb (96 * days) readings)) ≡ true
+    → (8 + 390 * days ≤ size) × (days ≤ marks) × (96 * days ≤ readings)
+room-is days size marks readings t =
+    let k = both (leb (8 + 390 * days) size) (leb days marks && leb (96 * days) readings) t in
+    let h = both (leb days marks) (leb (96 * days) readings) (k .1) in
+    (leb-true (8 + 390 * days) size (k .0), leb-true days marks (h .0), leb-true (96 * days) readings (h .1))
 
--- an accepted file, with room for its table and without
+-- how long the table of a shape is
+module _ (shape : Shape) (file : List ℕ) where
+  pub marks-within : length (tableWithin shape file .marks) ≡ shape .days
+  unfolding tableWithin
+  marks-within = marks-length (shape .days) (shape .first) (drop 8 file)
+
+  pub readings-within : length (tableWithin shape file .readings) ≡ 96 * shape .days
+  unfolding tableWithin
+  readings-within = readings-length (shape .days) (shape .first) (drop 8 file)
+
+  pub fits-is : (marks readings : ℕ) → fitsWithin shape file marks readings
+      ≡ (leb (8 + 390 * shape .days) (length file) && (leb (shape .days) marks && leb (96 * shape .days) readings))
+  unfolding fitsWithin
+  fits-is marks readings = rw (day-start-is (shape .first) (shape .days), marks-within, readings-within)
+
+-- an accepted file is long enough for its own shape
 module _ (file : List ℕ) {shape : Shape} (r : readFile file ≡ File shape) (marks readings : ℕ) where
-  pub no-room : (leb (shape .days) marks && leb (96 * shape .days) readings) ≡ false → NoRoom ≡ loading file marks readings
-  unfolding loading
-  no-room t = rw (r, marks-held, readings-held, t)
+  fits-own : {fits : Bool} → fits ≡ fitsWithin shape file marks readings → (leb (heldDays (tableIn file)) marks && leb (length (tableIn file .readings)) readings) ≡ fits
+  fits-own e =
+      let long : 8 + 390 * shape .days ≤ length file = omega (arith, shape-fits file shape r .whole) in
+      rw (e, fits-is shape file marks readings, le-leb (8 + 390 * shape .days) (length file) long, marks-held file r, readings-held file r)
 
-  pub room-enough : (leb (shape .days) marks && leb (96 * shape .days) readings) ≡ true → LoadedFile shape ≡ loading file marks readings
+  pub no-room : false ≡ fitsWithin shape file marks readings → NoRoom ≡ loading file marks readings
   unfolding loading
-  room-enough t = rw (r, marks-held, readings-held, t)
+  no-room e = rw (r, fits-own e)
+
+  pub room-enough : true ≡ fitsWithin shape file marks readings → LoadedFile shape ≡ loading file marks readings
+  unfolding loading
+  room-enough e = rw (r, fits-own e)

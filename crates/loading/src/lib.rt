@@ -5,8 +5,8 @@ ghost use mathlib.Core.Bool.{_&&_};
 ghost use mathlib.Core.List.{_++_};
 ghost use lib.ListN.{length, drop};
 ghost use lib.Dec.{leb};
-ghost use Rattle.record.specs.Reader.{daysIn, numbers, tableIn};
-ghost use Rattle.loading.specs.Loading.{loading, bufferAfter};
+ghost use Rattle.record.specs.Reader.{numbers, tableIn, tableWithin};
+ghost use Rattle.loading.specs.Loading.{loading, bufferAfter, fitsWithin, filledIf};
 use record::Read;
 use record::Shape;
 
@@ -23,12 +23,12 @@ const BEFORE_READINGS: usize = 6;
 const QUARTERS: usize = 96;
 
 // The mark bytes of the days, put first.
-fn load_marks(file: &[u8], days: u32, marks: &mut [u8])
-    requires { ⌜ (days ≡ daysIn (now file)) × (days ≤ 128) × (8 + 390 * days ≤ length (now file)) × (days ≤ length (now marks)) ⌝ }
-    ensures { λ r. ⌜ now (marks .exit) ≡ tableIn (now (file .entry)) .marks ++ drop days (now (marks .entry)) ⌝ }
+fn load_marks(file: &[u8], shape: Shape, marks: &mut [u8])
+    requires { ⌜ (8 + 390 * shape .days ≤ length (now file)) × (shape .days ≤ length (now marks)) ⌝ }
+    ensures { λ r. ⌜ now (marks .exit) ≡ tableWithin shape (now (file .entry)) .marks ++ drop (shape .days) (now (marks .entry)) ⌝ }
 {
     let mut k: u32 = 0;
-    while k < days {
+    while k < shape.days {
         marks[k as usize] = file[fields::day_start(k) + 4];
         k += 1;
     }
@@ -48,12 +48,12 @@ fn load_day(file: &[u8], at: usize, readings: &mut [u32])
 }
 
 // The readings of the days, put first.
-fn load_readings(file: &[u8], days: u32, readings: &mut [u32])
-    requires { ⌜ (days ≡ daysIn (now file)) × (days ≤ 128) × (8 + 390 * days ≤ length (now file)) × (96 * days ≤ length (now readings)) ⌝ }
-    ensures { λ r. ⌜ now (readings .exit) ≡ tableIn (now (file .entry)) .readings ++ drop (96 * days) (now (readings .entry)) ⌝ }
+fn load_readings(file: &[u8], shape: Shape, readings: &mut [u32])
+    requires { ⌜ (8 + 390 * shape .days ≤ length (now file)) × (96 * shape .days ≤ length (now readings)) ⌝ }
+    ensures { λ r. ⌜ now (readings .exit) ≡ tableWithin shape (now (file .entry)) .readings ++ drop (96 * shape .days) (now (readings .entry)) ⌝ }
 {
     let mut k: u32 = 0;
-    while k < days {
+    while k < shape.days {
         let start = QUARTERS * (k as usize);
         let end = start + QUARTERS;
         load_day(
@@ -65,12 +65,28 @@ fn load_readings(file: &[u8], days: u32, readings: &mut [u32])
     }
 }
 
-// Whether buffers of these lengths have room for the marks and the readings of so many days.
-fn has_room(days: u32, marks: usize, readings: usize) -> bool
-    requires { ⌜ days ≤ 128 ⌝ }
-    ensures { λ r. ⌜ r ≡ (leb days marks && leb (96 * days) readings) ⌝ }
+// Whether so many days stand in so many bytes, and buffers of these lengths have room for their marks and readings.
+fn has_room(days: u32, size: usize, marks: usize, readings: usize) -> bool
+    ensures { λ r. ⌜ r ≡ (leb (8 + 390 * days) size && (leb days marks && leb (96 * days) readings)) ⌝ }
 {
-    (days as usize <= marks) & (QUARTERS * (days as usize) <= readings)
+    (fields::day_start(days) <= size)
+        & ((days as usize <= marks) & (QUARTERS * (days as usize) <= readings))
+}
+
+// Puts the table of a file of this shape into lent buffers, and says whether it fits: marks and readings stand first, the rest is kept. Where it
+// does not fit nothing changes.
+pub fn load_within(file: &[u8], shape: Shape, marks: &mut [u8], readings: &mut [u32]) -> bool
+    ensures said { λ r. ⌜ r ≡ fitsWithin shape (now (file .entry)) (length (now (marks .entry))) (length (now (readings .entry))) ⌝ }
+    ensures held_marks { λ r. ⌜ now (marks .exit) ≡ filledIf r (tableWithin shape (now (file .entry)) .marks) (now (marks .entry)) ⌝ }
+    ensures held_readings { λ r. ⌜ now (readings .exit) ≡ filledIf r (tableWithin shape (now (file .entry)) .readings) (now (readings .entry)) ⌝ }
+{
+    if has_room(shape.days, file.len(), marks.len(), readings.len()) {
+        load_marks(file, shape, marks);
+        load_readings(file, shape, readings);
+        true
+    } else {
+        false
+    }
 }
 
 // Puts a file's table into lent buffers: marks and readings stand first, the rest is kept. A refused file, or buffers that the table does not
@@ -83,10 +99,7 @@ pub fn load(file: &[u8], marks: &mut [u8], readings: &mut [u32]) -> Loaded
     match record::read_file(file) {
         Read::Refused(at) => Loaded::Refused(at),
         Read::File(shape) => {
-            let days = shape.days;
-            if has_room(days, marks.len(), readings.len()) {
-                load_marks(file, days, marks);
-                load_readings(file, days, readings);
+            if load_within(file, shape, marks, readings) {
                 Loaded::File(shape)
             } else {
                 Loaded::NoRoom

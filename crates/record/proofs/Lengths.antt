@@ -7,7 +7,7 @@ use lib.ListN.{length, drop, length-append}
 use Rattle.method.proofs.Tables.{size-is}
 use Rattle.record.specs.declared.Shape.{Shape}
 use Rattle.record.specs.declared.Read.the-variants.{File}
-use Rattle.record.specs.Reader.{dyLength, firstIn, daysIn, marksFrom, numbers, readingsFrom, shapeIn, tableIn, readFile}
+use Rattle.record.specs.Reader.{dyLength, firstIn, daysIn, marksFrom, numbers, readingsFrom, shapeIn, tableIn, tableWithin, readFile}
 use Rattle.record.proofs.Files.{shape-fits}
 
 pub numbers-length : (count : ℕ) (left : List ℕ) → length (numbers count left) ≡ count
@@ -38,3 +38,8 @@ module _ (file : List ℕ) {shape : Shape} (r : readFile file ≡ File shape) wh
   pub readings-held : length (tableIn file .readings) ≡ 96 * shape .days
   unfolding tableIn
   readings-held = readings-length (daysIn file) (firstIn file) (drop 8 file) ∙ (rw days-held)
+
+  -- what it holds, by its shape
+  pub table-within : tableWithin shape file ≡ tableIn file
+  unfolding tableWithin tableIn shapeIn
+  table-within = rw (shape-fits file shape r .is-shape)

@@ -2,7 +2,7 @@
 ghost use mathlib.Core.Path.{_≡_};
 ghost use Prim.Native.Nat.{_+_, _*_, _≤_, _<_};
 ghost use lib.ListN.{length, drop, getD};
-ghost use Rattle.record.specs.Reader.{numberAt, opensWith, isRecord, isDY, isEV, isDYof, daysFrom, eventsFrom, firstIn, readFile, eventOf, requestOf, eventAtPlace};
+ghost use Rattle.record.specs.Reader.{numberAt, opensWith, isRecord, isDY, isEV, isDYof, daysFrom, eventsFrom, firstIn, readFile, eventOf, requestOf, eventAtPlace, eventWithin};
 use fields::DAY_RECORD;
 use fields::SHORT_RECORD;
 use method::Request;
@@ -196,19 +196,25 @@ fn request_of(file: &[u8], at: usize, participation: u32) -> Request
     }
 }
 
-// The event at a place, counted from 0, as a request.
+// The event at a place, counted from 0, as a request: in a file of this shape.
+pub fn event_within(file: &[u8], shape: Shape, place: usize) -> EventAt
+    ensures { λ r. ⌜ r ≡ eventWithin shape (now (file .entry)) place ⌝ }
+{
+    if place < shape.events as usize {
+        let at = fields::day_start(shape.days) + SHORT_RECORD * place;
+        if at + SHORT_RECORD <= file.len() {
+            return EventAt::Event(request_of(file, at, shape.participation));
+        }
+    }
+    EventAt::NoEvent
+}
+
+// The event at a place of a file.
 pub fn event_at(file: &[u8], place: usize) -> EventAt
     ensures { λ r. ⌜ r ≡ eventAtPlace (readFile (now (file .entry))) (now (file .entry)) place ⌝ }
 {
     match read_file(file) {
         Read::Refused(at) => EventAt::Refused(at),
-        Read::File(shape) => {
-            if place < shape.events as usize {
-                let at = fields::day_start(shape.days) + SHORT_RECORD * place;
-                EventAt::Event(request_of(file, at, shape.participation))
-            } else {
-                EventAt::NoEvent
-            }
-        }
+        Read::File(shape) => event_within(file, shape, place),
     }
 }

@@ -24,8 +24,8 @@ refuse-requires-2 c κs = search needs
 enum-known-request : tie.Need-enum-known-request
 enum-known-request c = search needs
 
-loaded-baseline-requires : tie.Need-loaded-baseline-requires
-loaded-baseline-requires c κs =
+event-baseline-requires : tie.Need-event-baseline-requires
+event-baseline-requires c κs =
     let a = c .before .before .before .before .before .before .before .args in
     laid-down (a .file .now) (a .place) (c .before .before .before .before .event-at .ensures) (c .before .before .request .given .1)
 
@@ -48,7 +48,7 @@ returns-3 : tie.Need-returns-3
 returns-3 c =
     let a = c .before .before .before .before .before .before .before .before .before .before .args in
     rw (event-there (a .file .now) (a .place) (length (a .out .now)) (c .before .before .before .before .before .before .before .event-at .ensures) (c .before .before .before .before .before .request .given .1))
-    (c .before .before .loaded-baseline .ensures)
+    (c .before .before .event-baseline .ensures)
 
 pub file-baseline-spec : {M : Type 1} → statement M
 file-baseline-spec =
@@ -60,7 +60,7 @@ file-baseline-spec =
     enum-told
     refuse-requires-2
     enum-known-request
-    loaded-baseline-requires
+    event-baseline-requires
     returns
     returns-2
     same-length

@@ -5,17 +5,17 @@ use native.Mathlib.Omega.{arith}
 use native.Mathlib.Nat.{sub-zero, add-zero}
 use lib.ListN.{drop}
 use borrow.Rule.Slice.PartMut.{mid-len}
-use Rattle.record.specs.Reader.{firstIn, readingsFrom}
+use Rattle.record.specs.Reader.{readingsFrom}
 use Rattle.filling.proofs.Filling.{Filling, filling-none}
 use Rattle.loading.proofs.Loading.{day-put, readings-loaded}
 use Rattle.loading.proofs.load_readings.Statement.{statement}
 use Rattle.loading.proofs.load_readings.Tie as tie
 
 abbrev Inv-loop : tie.InvT-loop
-Inv-loop file days readings₀ k₀ readings k = (k ≤ days) × Filling readings₀ (readingsFrom days (firstIn file) (drop 8 file)) readings (readingsFrom (days - k) (firstIn file + k) (drop (8 + 390 * k) file)) (96 * k)
+Inv-loop file shape readings₀ k₀ readings k = (k ≤ shape .days) × Filling readings₀ (readingsFrom (shape .days) (shape .first) (drop 8 file)) readings (readingsFrom (shape .days - k) (shape .first + k) (drop (8 + 390 * k) file)) (96 * k)
 
 abbrev μ-loop : tie.MeasureT-loop
-μ-loop file days readings₀ k₀ readings k = days - k
+μ-loop file shape readings₀ k₀ readings k = shape .days - k
 
 loop-holds : tie.Need-loop-holds Inv-loop μ-loop
 loop-holds c = (omega arith, rw (sub-zero, add-zero) (filling-none _ _))
@@ -48,7 +48,7 @@ part-load-day-end : tie.Need-part-load-day-end Inv-loop μ-loop
 part-load-day-end c = omega arith
 
 load-day-requires : tie.Need-load-day-requires Inv-loop μ-loop
-load-day-requires c κs = (omega arith, mid-len (96 * c .before .before .before .loop .k) (96 * c .before .before .before .loop .k + 96) (c .before .before .before .loop .readings) (omega arith) ∙ omega arith)
+load-day-requires c κs = (omega arith, mid-len (96 * c .before .before .before .before .loop .k) (96 * c .before .before .before .before .loop .k + 96) (c .before .before .before .before .loop .readings) (omega arith) ∙ omega arith)
 
 add-k : tie.Need-add-k Inv-loop μ-loop
 add-k c = omega arith
@@ -58,19 +58,19 @@ loop-less c = omega arith
 
 loop-again : tie.Need-loop-again Inv-loop μ-loop
 loop-again c =
-    let a = c .before .before .before .before .before .before .before .before .before .args in
-    let k = c .before .before .before .before .before .before .loop .k in
-    let q = c .before .before .before .before .before .before .loop .inv in
-    (omega arith, day-put (a .file .now) k (a .days) (firstIn (a .file .now)) (q .1) (omega arith) (omega arith) (c .before .before .before .before .day-start .ensures) (c .before .before .load-day .ensures))
+    let a = c .before .before .before .before .before .before .before .before .before .before .args in
+    let k = c .before .before .before .before .before .before .before .loop .k in
+    let q = c .before .before .before .before .before .before .before .loop .inv in
+    (omega arith, day-put (a .file .now) k (a .shape .days) (a .shape .first) (q .1) (omega arith) (omega arith) (c .before .before .before .before .day-start .ensures) (c .before .before .load-day .ensures))
 
 same-length : tie.Need-same-length Inv-loop μ-loop
-same-length c = c .before .loop .inv .1 .long
+same-length c = c .before .before .loop .inv .1 .long
 
 returns : tie.Need-returns Inv-loop μ-loop
 returns c =
-    let a = c .before .before .before .before .args in
-    let k = c .before .loop .k in
-    readings-loaded (a .file .now) (a .readings .now) (c .before .loop .readings) (a .days) k (8 + 390 * k) (omega arith) (omega arith) (c .before .before .before .before .pre .0) (c .before .loop .inv .1)
+    let a = c .before .before .before .before .before .args in
+    let k = c .before .before .loop .k in
+    readings-loaded (a .shape) (a .file .now) (a .readings .now) (c .before .before .loop .readings) k (8 + 390 * k) (omega arith) (omega arith) (c .before .before .loop .inv .1)
 
 pub load-readings-spec : {M : Type 1} → statement M
 load-readings-spec =
