@@ -1,7 +1,6 @@
 -- `entry::loaded_baseline` meets its contract: where the file is loaded, the buffers hold its table.
 use mathlib.Core.Path.{sym}
 use native.Mathlib.Omega.{arith}
-use lib.ListN.{length}
 use Rattle.entry.proofs.Files.{never-refused, never-full, its-table}
 use borrow.Author.Needs.{needs}
 use Rattle.loading.proofs.Buffers.{InBuffers, in-buffers}
