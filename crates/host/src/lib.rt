@@ -1,5 +1,4 @@
 // The entries for C. Each is total: any bytes, any numbers, any lengths.
-ghost use mathlib.Core.Path.{_≡_};
 ghost use lib.ListN.{length};
 ghost use Rattle.calendar.specs.Holidays.{group};
 ghost use Rattle.method.specs.Verdict.{verdict};
