@@ -9,8 +9,9 @@ use Rattle.method.specs.Table.{Table}
 use Rattle.method.specs.Verdict.{Reply, refused, verdict}
 use Rattle.record.specs.declared.EventAt.{EventAt}
 use Rattle.record.specs.declared.EventAt.the-variants.{Event, NoEvent as NoneThere, Refused}
-use Rattle.record.specs.declared.Read.the-variants.{Refused as RefusedFile}
-use Rattle.record.specs.Reader.{readFile, daysIn, tableIn, eventAtPlace}
+use Rattle.record.specs.declared.Shape.{Shape}
+use Rattle.record.specs.declared.Read.the-variants.{File}
+use Rattle.record.specs.Reader.{readFile, tableIn, eventAtPlace}
 
 -- "tested in this order": 11, 12, then 1 to 10 over the file's table. A buffer of `room` bytes holds `room / 4` numerators.
 abbrev pub replyTo : EventAt → Table → ℕ → Reply
@@ -21,12 +22,12 @@ replyTo (Event request) table room = verdict group table request (room / 4)
 unfoldable pub fileReply : List ℕ → ℕ → ℕ → Reply
 fileReply file place room = replyTo (eventAtPlace (readFile file) file place) (tableIn file) room
 
--- the file is as laid down
-pub record LaidDown (file : List ℕ) : Type 0 where
-  pub accepted : (at : ℕ) → readFile file ≡ RefusedFile at → ⊥
+-- the file is as laid down, and of this shape
+pub record LaidDown (file : List ℕ) (shape : Shape) : Type 0 where
+  pub accepted : readFile file ≡ File shape
 
 -- and its table fits into buffers of so many marks and readings
-pub record Fits (file : List ℕ) (marks readings : ℕ) : Type 0 where
-  pub laid-down : LaidDown file
-  pub marks-room : daysIn file ≤ marks
-  pub readings-room : 96 * daysIn file ≤ readings
+pub record Fits (file : List ℕ) (shape : Shape) (marks readings : ℕ) : Type 0 where
+  pub laid-down : LaidDown file shape
+  pub marks-room : shape .days ≤ marks
+  pub readings-room : 96 * shape .days ≤ readings

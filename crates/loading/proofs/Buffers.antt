@@ -13,10 +13,11 @@ use Rattle.record.specs.declared.Read.{Read}
 use Rattle.record.specs.declared.Read.the-variants.{File, Refused}
 use Rattle.loading.specs.declared.Loaded.{Loaded}
 use Rattle.loading.specs.declared.Loaded.the-variants.{File as LoadedFile, NoRoom, Refused as RefusedLoad}
-use Rattle.record.specs.Reader.{readFile, tableIn, shapeIn}
-use Rattle.loading.specs.Loading.{loadedOf, loading, bufferAfter}
+use Rattle.record.specs.Reader.{readFile, tableIn, tableWithin, shapeIn}
+use Rattle.loading.specs.Loading.{loadedOf, loading, bufferAfter, filledIf}
 use Rattle.record.proofs.Files.{shape-fits}
 use Rattle.record.proofs.Lengths.{marks-held, readings-held}
+use Rattle.loading.proofs.Loading.{marks-within, readings-within}
 
 -- a file that is loaded is accepted
 pub loaded-accepted : (read : Read) (table : Table) (m n : ℕ) {shape : Shape} → loadedOf read table m n ≡ LoadedFile shape → read ≡ File shape
@@ -71,3 +72,29 @@ in-buffers file {loaded} m n {marks} {readings} marks₀ readings₀ {shape} s x
     first-readings =
         rw (y, t)
         (take-at (tableIn file .readings) (drop (length (tableIn file .readings)) readings₀) (96 * shape .days) (readings-held file accepted))
+
+-- the first places of the buffers are the table of a shape
+pub record WithinBuffers (shape : Shape) (file marks readings : List ℕ) : Type 0 where
+  pub marks-size : length (take (shape .days) marks) ≡ shape .days
+  pub readings-size : length (take (96 * shape .days) readings) ≡ 96 * shape .days
+  pub its-marks : take (shape .days) marks ≡ tableWithin shape file .marks
+  pub its-readings : take (96 * shape .days) readings ≡ tableWithin shape file .readings
+
+pub within-buffers : (shape : Shape) (file : List ℕ) {fits : Bool} {marks readings : List ℕ} (marks₀ readings₀ : List ℕ)
+    → marks ≡ filledIf fits (tableWithin shape file .marks) marks₀ → readings ≡ filledIf fits (tableWithin shape file .readings) readings₀ → fits ≡ true
+    → WithinBuffers shape file marks readings
+within-buffers shape file {fits} {marks} {readings} marks₀ readings₀ x y t =
+    record {
+      marks-size = rw first-marks (marks-within shape file);
+      readings-size = rw first-readings (readings-within shape file);
+      its-marks = first-marks;
+      its-readings = first-readings;
+    }
+  where
+    first-marks : take (shape .days) marks ≡ tableWithin shape file .marks
+    first-marks = rw (x, t) (take-at (tableWithin shape file .marks) (drop (length (tableWithin shape file .marks)) marks₀) (shape .days) (marks-within shape file))
+
+    first-readings : take (96 * shape .days) readings ≡ tableWithin shape file .readings
+    first-readings =
+        rw (y, t)
+        (take-at (tableWithin shape file .readings) (drop (length (tableWithin shape file .readings)) readings₀) (96 * shape .days) (readings-within shape file))

@@ -53,7 +53,7 @@ within-is file place {shape} r = ⊎-elim there (λ none. rw (r, le-ltb place (s
         let p : shape .participation ≡ numberAt 2 2 file = rw (q .is-shape) in
         let d : shape .days ≡ daysIn file = rw (q .is-shape) in
         let at : dayStart (shape .first) (shape .days) + 8 * place ≡ eventStart file place =
-            omega (arith, day-start-is (shape .first) (shape .days), event-start-is file place) in
+        omega (arith, day-start-is (shape .first) (shape .days), event-start-is file place) in
         let room : eventStart file place + 8 ≤ length file = omega (arith, q .whole, event-start-is file place) in
         rw (r, lt-ltb place (shape .events) h, at, le-leb (eventStart file place + 8) (length file) room, p)
 

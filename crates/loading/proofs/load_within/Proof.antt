@@ -33,8 +33,10 @@ returns c =
     let a = c .before .before .before .before .before .before .before .before .before .before .before .before .before .args in
     let fits = fits-is (a .shape) (a .file .now) (length (a .marks .now)) (length (a .readings .now)) in (
       sym (fits ∙ sym (c .before .before .before .before .before .before .before .before .before .has-room .ensures) ∙ c .before .before .before .before .before .before .before .before .if1 .taken),
-      (rest-kept (tableWithin (a .shape) (a .file .now) .marks) (a .marks .now) (marks-within (a .shape) (a .file .now)) (c .before .before .before .before .before .before .load-marks .ensures),
-      rest-kept (tableWithin (a .shape) (a .file .now) .readings) (a .readings .now) (readings-within (a .shape) (a .file .now)) (c .before .before .load-readings .ensures)),
+      (
+        rest-kept (tableWithin (a .shape) (a .file .now) .marks) (a .marks .now) (marks-within (a .shape) (a .file .now)) (c .before .before .before .before .before .before .load-marks .ensures),
+        rest-kept (tableWithin (a .shape) (a .file .now) .readings) (a .readings .now) (readings-within (a .shape) (a .file .now)) (c .before .before .load-readings .ensures),
+      ),
     )
 
 returns-2 : tie.Need-returns-2
