@@ -1,4 +1,1 @@
-pub mod Bytes
-pub mod Rooms
 pub mod Files
-pub mod Laws

@@ -1,19 +1,16 @@
 -- 01, "Record file, listing, host entry": "calls one entry with the file as bytes, the event's place from 0 and a byte buffer for 4-byte
 -- little-endian numerators".
-use Prim.Native.Nat.{ℕ, _*_, _/_}
+use Prim.Native.Nat.{ℕ, _*_, _/_, _≤_}
 use mathlib.Core.Path.{_≡_}
-use mathlib.Core.List.{List, _++_}
-use lib.ListN.{length, drop}
+use mathlib.Core.List.{List}
 use Rattle.calendar.specs.Holidays.{group}
 use Rattle.method.specs.declared.Refusal.the-variants.{BadFile, NoEvent}
 use Rattle.method.specs.Table.{Table}
-use Rattle.method.specs.Verdict.{Reply, refused, answered, verdict}
-use Rattle.answer.specs.declared.Answer.{Answer}
-use Rattle.answer.specs.Answer.{answerOf}
+use Rattle.method.specs.Verdict.{Reply, refused, verdict}
 use Rattle.record.specs.declared.EventAt.{EventAt}
 use Rattle.record.specs.declared.EventAt.the-variants.{Event, NoEvent as NoneThere, Refused}
-use Rattle.record.specs.declared.Read.the-variants.{Refused as RefusedFile}
-use Rattle.record.specs.Layout.{readingBytes}
+use Rattle.record.specs.declared.Shape.{Shape}
+use Rattle.record.specs.declared.Read.the-variants.{File}
 use Rattle.record.specs.Reader.{readFile, tableIn, eventAtPlace}
 
 -- "tested in this order": 11, 12, then 1 to 10 over the file's table. A buffer of `room` bytes holds `room / 4` numerators.
@@ -25,17 +22,12 @@ replyTo (Event request) table room = verdict group table request (room / 4)
 unfoldable pub fileReply : List ℕ → ℕ → ℕ → Reply
 fileReply file place room = replyTo (eventAtPlace (readFile file) file place) (tableIn file) room
 
--- "Refused, every lent buffer keeps its bytes. Answered, the first e-s outputs are written and the rest kept": here each output is four bytes,
--- little-endian, as a file's readings are
-unfoldable pub bytesWritten : Reply → List ℕ → List ℕ
-bytesWritten (refused w) out = out
-bytesWritten (answered a) out = readingBytes (a .numerators) ++ drop (4 * length (a .numerators)) out
+-- the file is as laid down, and of this shape
+pub record LaidDown (file : List ℕ) (shape : Shape) : Type 0 where
+  pub accepted : readFile file ≡ File shape
 
--- the answer and the output of a reply
-pub record FileAnswers (reply : Reply) (given : Answer) (before after : List ℕ) : Type 0 where
-  pub answer : given ≡ answerOf reply
-  pub output : after ≡ bytesWritten reply before
-
--- the file is as laid down
-pub record LaidDown (file : List ℕ) : Type 0 where
-  pub accepted : (at : ℕ) → readFile file ≡ RefusedFile at → ⊥
+-- and its table fits into buffers of so many marks and readings
+pub record Fits (file : List ℕ) (shape : Shape) (marks readings : ℕ) : Type 0 where
+  pub laid-down : LaidDown file shape
+  pub marks-room : shape .days ≤ marks
+  pub readings-room : 96 * shape .days ≤ readings

@@ -5,9 +5,7 @@ use mathlib.Core.List.{List}
 use lib.IntN.{ℤ}
 use Rattle.lists.proofs.Unique.{unique}
 use Rattle.method.specs.Verdict.{Reply}
-use Rattle.record.specs.declared.Read.{Read}
-use Rattle.record.specs.declared.EventAt.{EventAt}
-use Rattle.host.specs.Host.{TableCall, FileCall, FileTold, ShapeCall, EventCall}
+use Rattle.host.specs.Host.{TableCall, FileCall, FileTold}
 
 module _ {reply : Reply} {r r′ : ℕ} {out after after′ : List ℕ} where
   pub file-call-unique : FileCall reply r out after → FileCall reply r′ out after′ → (r ≡ r′) × (after ≡ after′)
@@ -21,11 +19,3 @@ module _ {reply : Reply} {r r′ : ℕ} {out after after′ : List ℕ} where
     pub file-told-unique : FileTold reply r out after told then → FileTold reply r′ out after′ told then′
         → (r ≡ r′) × (after ≡ after′) × (then ≡ then′)
     file-told-unique p q = (unique (p .result) (q .result), unique (p .output) (q .output), unique (p .telling) (q .telling))
-
-pub shape-call-unique : {read : Read} {r r′ : ℕ} {shape after after′ : List ℕ} → ShapeCall read r shape after → ShapeCall read r′ shape after′
-    → (r ≡ r′) × (after ≡ after′)
-shape-call-unique p q = (unique (p .result) (q .result), unique (p .output) (q .output))
-
-pub event-call-unique : {at : EventAt} {r r′ : ℕ} {event after after′ : List ℕ} → EventCall at r event after → EventCall at r′ event after′
-    → (r ≡ r′) × (after ≡ after′)
-event-call-unique p q = (unique (p .result) (q .result), unique (p .output) (q .output))

@@ -1,30 +1,13 @@
 // The entries for C. Each is total: any bytes, any numbers, any lengths.
-ghost use mathlib.Core.Path.{_≡_};
 ghost use lib.ListN.{length};
 ghost use Rattle.calendar.specs.Holidays.{group};
 ghost use Rattle.method.specs.Verdict.{verdict};
 ghost use Rattle.table.specs.Lent.{tableOf};
 ghost use Rattle.record.specs.Reader.{readFile, eventAtPlace};
+ghost use Rattle.showing.specs.Showing.{ShapeCall, EventCall};
 ghost use Rattle.entry.specs.Entry.{fileReply};
-ghost use Rattle.telling.specs.Telling.{toldFirst};
-ghost use Rattle.host.specs.Host.{requestOf, TableCall, FileCall, FileTold, ShapeCall, EventCall};
+ghost use Rattle.host.specs.Host.{requestOf, TableCall, FileCall, FileTold};
 use method::Request;
-use record::EventAt;
-use record::Read;
-
-// Numbers told into a buffer: they stand first where all of them fit, and else nothing is changed.
-fn tell_first(numbers: &[u32], buffer: &mut [u32])
-    ensures { λ _. ⌜ now (buffer .exit) ≡ toldFirst (now (numbers .entry)) (now (buffer .entry)) ⌝ }
-{
-    if buffer.len() < numbers.len() {
-        return;
-    }
-    let mut i = 0;
-    while i < numbers.len() {
-        buffer[i] = numbers[i];
-        i += 1;
-    }
-}
 
 // The baseline of an event of a record file: 0 or the refusal number, and the numerators into `out`, four bytes each, the lowest first.
 #[no_mangle]
@@ -57,20 +40,8 @@ pub extern "C" fn hp_baseline_told(
 pub extern "C" fn hp_file(file: &[u8], shape: &mut [u32]) -> u32
     ensures { λ r. ⌜ ShapeCall (readFile (now (file .entry))) r (now (shape .entry)) (now (shape .exit)) ⌝ }
 {
-    match record::read_file(file) {
-        Read::Refused(_) => 11,
-        Read::File(held) => {
-            let five = [
-                held.participation,
-                held.portfolio,
-                held.first,
-                held.days,
-                held.events,
-            ];
-            tell_first(&five, shape);
-            0
-        }
-    }
+    let read = record::read_file(file);
+    showing::tell_file(read, shape)
 }
 
 // The event at a place of a record file: 0, 11 or 12; D, s, e and n into `event`.
@@ -78,15 +49,8 @@ pub extern "C" fn hp_file(file: &[u8], shape: &mut [u32]) -> u32
 pub extern "C" fn hp_event(file: &[u8], place: usize, event: &mut [u32]) -> u32
     ensures { λ r. ⌜ EventCall (eventAtPlace (readFile (now (file .entry))) (now (file .entry)) place) r (now (event .entry)) (now (event .exit)) ⌝ }
 {
-    match record::event_at(file, place) {
-        EventAt::Refused(_) => 11,
-        EventAt::NoEvent => 12,
-        EventAt::Event(request) => {
-            let four = [request.event, request.s, request.e, request.n];
-            tell_first(&four, event);
-            0
-        }
-    }
+    let at = record::event_at(file, place);
+    showing::tell_event(at, event)
 }
 
 // The baseline over a table in memory: 0 or the refusal number, the numerators into `out`, and what the answer tells into `told`.

@@ -12,7 +12,7 @@ use Rattle.record.specs.declared.EventAt.{EventAt}
 use Rattle.record.specs.declared.EventAt.the-variants.{Event, NoEvent, Refused as RefusedEvent}
 use Rattle.record.specs.Reader.{readFile, tableIn, shapeIn, requestAt, eventAtPlace}
 use Rattle.record.proofs.Files.{shape-fits}
-use Rattle.record.proofs.Buffers.{InBuffers}
+use Rattle.loading.proofs.Buffers.{InBuffers}
 use Rattle.listing.specs.Listing.{eventText}
 use Rattle.listing.specs.Writes.{Begins}
 use Rattle.list.specs.Holds.{Holds}

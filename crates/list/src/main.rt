@@ -7,8 +7,8 @@ ghost use Rattle.listing.specs.Writes.{Begins};
 ghost use Rattle.list.specs.Holds.{Holds};
 use libc::STDIN_FILENO;
 use libc::STDOUT_FILENO;
+use loading::Loaded;
 use record::EventAt;
-use record::Loaded;
 use record::Read;
 use record::Shape;
 
@@ -73,7 +73,7 @@ fn print_events(file: &[u8], shape: Shape, marks: &[u8], readings: &[u32])
 fn list(file: &[u8]) {
     let mut marks = [0u8; 128];
     let mut readings = [0u32; 12288];
-    let loaded = record::load(file, &mut marks, &mut readings);
+    let loaded = loading::load(file, &mut marks, &mut readings);
     match loaded {
         Loaded::File(shape) => {
             let days = shape.days as usize;

@@ -19,7 +19,7 @@ use Rattle.method.proofs.Tables.{size-is}
 use Rattle.record.proofs.Records.{dy-length, day-record, day-not}
 use Rattle.record.proofs.Runs.{run-more, run-stops}
 
-reading-length : (xs : List ℕ) → length (readingBytes xs) ≡ 4 * length xs
+pub reading-length : (xs : List ℕ) → length (readingBytes xs) ≡ 4 * length xs
 unfolding readingBytes bytes
 reading-length [] = refl
 reading-length (x ∷ xs) = omega (arith, reading-length xs)

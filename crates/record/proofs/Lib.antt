@@ -4,9 +4,7 @@ pub mod Records
 pub mod Runs
 pub mod Files
 pub mod Events
-pub mod Filling
-pub mod Loading
-pub mod Buffers
+pub mod Lengths
 pub mod Back
 pub mod ReadsBack
 pub mod WrittenAgain

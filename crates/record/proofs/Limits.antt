@@ -22,7 +22,7 @@ use Rattle.record.proofs.Records.{dy-length}
 use Rattle.record.proofs.Runs.{run-more}
 use Rattle.method.proofs.Tables.{offset-is}
 use Rattle.record.proofs.Files.{shape-fits}
-use Rattle.record.proofs.Loading.{marks-length, readings-length}
+use Rattle.record.proofs.Lengths.{marks-length, readings-length}
 use Rattle.record.proofs.RefusedWhere.{each}
 
 marks-below : (h d : ℕ) (left : List ℕ) → Below 256 left → Below 256 (marksFrom h d left)

@@ -15,11 +15,14 @@ unfolding numberAt
 number-drop zero at k file = refl
 number-drop (suc width) at k file = rw (getD-drop at file k 0, number-drop width at (suc k) file, add-suc at k)
 
+-- two and four bytes
 pub number-two : (at : ℕ) (file : List ℕ) → numberAt 2 at file ≡ getD file at 0 + 256 * getD file (at + 1) 0
 unfolding numberAt
 number-two at file = rw (add-one at) (omega arith)
 
--- four bytes are two numbers of two
-pub number-four : (at : ℕ) (file : List ℕ) → numberAt 4 at file ≡ numberAt 2 at file + 65536 * numberAt 2 (at + 2) file
+pub number-four : (at : ℕ) (file : List ℕ)
+    → numberAt 4 at file ≡ getD file at 0 + 256 * getD file (at + 1) 0 + 65536 * getD file (at + 2) 0 + 16777216 * getD file (at + 3) 0
 unfolding numberAt
-number-four at file = rw (add-two at) (omega arith)
+number-four at file =
+    let three : at + 3 ≡ suc (suc (suc at)) = omega arith in
+    rw (add-one at, add-two at, three) (omega arith)

@@ -23,7 +23,7 @@ use Rattle.method.proofs.Tables.{size-is}
 use Rattle.record.proofs.Records.{day-record, event-record, day-whole, event-whole}
 use Rattle.record.proofs.Runs.{run-more, run-stops, run-full}
 use Rattle.record.proofs.Files.{shape-fits, event-start-is}
-use Rattle.record.proofs.Loading.{numbers-length}
+use Rattle.record.proofs.Lengths.{numbers-length}
 
 -- some elements from a place on, one by one
 abbrev firsts : ℕ → ℕ → List ℕ → List ℕ

@@ -14,8 +14,6 @@ use Rattle.record.specs.declared.Read.{Read}
 use Rattle.record.specs.declared.Read.the-variants.{File, Refused}
 use Rattle.record.specs.declared.EventAt.{EventAt}
 use Rattle.record.specs.declared.EventAt.the-variants.{Event as AnEvent, NoEvent, Refused as RefusedEvent}
-use Rattle.record.specs.declared.Loaded.{Loaded}
-use Rattle.record.specs.declared.Loaded.the-variants.{File as LoadedFile, NoRoom, Refused as RefusedLoad}
 
 -- "numbers are little-endian": the number that stands at a place, `width` bytes wide
 unfoldable pub numberAt : ℕ → ℕ → List ℕ → ℕ
@@ -126,6 +124,15 @@ tableIn file =
       readings = readingsFrom (daysIn file) (firstIn file) (drop 8 file);
     }
 
+-- the same for a shape that is known, whatever the bytes
+unfoldable pub tableWithin : Shape → List ℕ → Table
+tableWithin shape file =
+    record {
+      first = shape .first;
+      marks = marksFrom (shape .days) (shape .first) (drop 8 file);
+      readings = readingsFrom (shape .days) (shape .first) (drop 8 file);
+    }
+
 -- "mark, D 2, s, e, n one each"
 unfoldable pub eventOf : List ℕ → Event
 eventOf left = record { day = numberAt 2 2 left; s = getD left 4 0; e = getD left 5 0; n = getD left 6 0 }
@@ -167,17 +174,8 @@ abbrev pub eventAtPlace : Read → List ℕ → ℕ → EventAt
 eventAtPlace (File shape) file place = cond (ltb place (shape .events)) (AnEvent (requestAt file place)) NoEvent
 eventAtPlace (Refused at) file place = RefusedEvent at
 
--- what loading says, with so much room for marks and for readings
-abbrev pub loadedOf : Read → Table → ℕ → ℕ → Loaded
-loadedOf (File shape) table marks readings =
-    cond (leb (heldDays table) marks && leb (length (table .readings)) readings) (LoadedFile shape) NoRoom
-loadedOf (Refused at) table marks readings = RefusedLoad at
-
-unfoldable pub loading : List ℕ → ℕ → ℕ → Loaded
-loading file marks readings = loadedOf (readFile file) (tableIn file) marks readings
-
--- a buffer afterwards: where the file is loaded the values stand first and the rest is kept; else nothing changes
-abbrev pub bufferAfter : Loaded → List ℕ → List ℕ → List ℕ
-bufferAfter (LoadedFile shape) values buffer = values ++ drop (length values) buffer
-bufferAfter NoRoom values buffer = buffer
-bufferAfter (RefusedLoad at) values buffer = buffer
+-- the same for a shape that is known: no event, too, where the bytes end before it does
+unfoldable pub eventWithin : Shape → List ℕ → ℕ → EventAt
+eventWithin shape file place =
+    let at = dayStart (shape .first) (shape .days) + 8 * place in
+    cond (ltb place (shape .events) && leb (at + 8) (length file)) (AnEvent (requestOf (shape .participation) (eventOf (drop at file)))) NoEvent

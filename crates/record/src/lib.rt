@@ -1,11 +1,10 @@
 // The record file of document 01, "Record file, listing, host entry": which files are as laid down, and what they say.
 ghost use mathlib.Core.Path.{_≡_};
 ghost use Prim.Native.Nat.{_+_, _*_, _≤_, _<_};
-ghost use mathlib.Core.Bool.{_&&_};
-ghost use mathlib.Core.List.{_++_};
 ghost use lib.ListN.{length, drop, getD};
-ghost use lib.Dec.{leb};
-ghost use Rattle.record.specs.Reader.{numberAt, opensWith, isRecord, isDY, isEV, isDYof, daysFrom, eventsFrom, firstIn, daysIn, readFile, numbers, tableIn, eventOf, requestOf, eventAtPlace, loading, bufferAfter};
+ghost use Rattle.record.specs.Reader.{numberAt, opensWith, isRecord, isDY, isEV, isDYof, daysFrom, eventsFrom, firstIn, readFile, eventOf, requestOf, eventAtPlace, eventWithin};
+use fields::DAY_RECORD;
+use fields::SHORT_RECORD;
 use method::Request;
 
 // What a whole file holds: P, the portfolio number, the first day, and how many days and events.
@@ -30,22 +29,6 @@ pub enum EventAt {
     Refused(u32),
 }
 
-// A file whose table stands in the lent buffers; buffers that it does not fit; or refusal 11.
-pub enum Loaded {
-    File(Shape),
-    NoRoom,
-    Refused(u32),
-}
-
-// The bytes of a PF and of an EV, of a DY, and of a DY before its readings.
-const SHORT_RECORD: usize = 8;
-
-const DAY_RECORD: usize = 390;
-
-const BEFORE_READINGS: usize = 6;
-
-const QUARTERS: usize = 96;
-
 const MOST_DAYS: u32 = 128;
 
 const MOST_EVENTS: u32 = 64;
@@ -63,7 +46,7 @@ fn number2(file: &[u8], at: usize) -> u32
     requires { ⌜ at + 2 ≤ length (now file) ⌝ }
     ensures { λ r. ⌜ (r ≡ numberAt 2 at (now (file .entry))) × (r < 65536) ⌝ }
 {
-    byte(file, at) + 256 * byte(file, at + 1)
+    fields::number2(file[at], file[at + 1])
 }
 
 // The number of four bytes.
@@ -71,7 +54,7 @@ fn number4(file: &[u8], at: usize) -> u32
     requires { ⌜ at + 4 ≤ length (now file) ⌝ }
     ensures { λ r. ⌜ r ≡ numberAt 4 at (now (file .entry)) ⌝ }
 {
-    number2(file, at) + 65536 * number2(file, at + 2)
+    fields::number4(file[at], file[at + 1], file[at + 2], file[at + 3])
 }
 
 // Whether a record opens with a mark.
@@ -137,14 +120,6 @@ fn first_in(file: &[u8]) -> u32
     }
 }
 
-// Where the k-th DY starts; after the last DY, where the first EV does.
-fn day_start(k: u32) -> usize
-    requires { ⌜ k ≤ 128 ⌝ }
-    ensures { λ r. ⌜ r ≡ 8 + 390 * k ⌝ }
-{
-    SHORT_RECORD + DAY_RECORD * (k as usize)
-}
-
 // How many DY stand one after the other, of consecutive days.
 fn count_days(file: &[u8], first: u32) -> u32
     requires { ⌜ (8 ≤ length (now file)) × (first < 65536) ⌝ }
@@ -152,7 +127,7 @@ fn count_days(file: &[u8], first: u32) -> u32
 {
     let mut days: u32 = 0;
     while days < MOST_DAYS {
-        if is_day_of(file, day_start(days), first + days) {
+        if is_day_of(file, fields::day_start(days), first + days) {
             days += 1;
         } else {
             return days;
@@ -187,7 +162,7 @@ pub fn read_file(file: &[u8]) -> Read
     if opens(file, 0, b"PF") {
         let first = first_in(file);
         let days = count_days(file, first);
-        let start = day_start(days);
+        let start = fields::day_start(days);
         let events = count_events(file, start);
         let end = start + SHORT_RECORD * (events as usize);
         if end == file.len() {
@@ -221,91 +196,25 @@ fn request_of(file: &[u8], at: usize, participation: u32) -> Request
     }
 }
 
-// The event at a place, counted from 0, as a request.
+// The event at a place, counted from 0, as a request: in a file of this shape.
+pub fn event_within(file: &[u8], shape: Shape, place: usize) -> EventAt
+    ensures { λ r. ⌜ r ≡ eventWithin shape (now (file .entry)) place ⌝ }
+{
+    if place < shape.events as usize {
+        let at = fields::day_start(shape.days) + SHORT_RECORD * place;
+        if at + SHORT_RECORD <= file.len() {
+            return EventAt::Event(request_of(file, at, shape.participation));
+        }
+    }
+    EventAt::NoEvent
+}
+
+// The event at a place of a file.
 pub fn event_at(file: &[u8], place: usize) -> EventAt
     ensures { λ r. ⌜ r ≡ eventAtPlace (readFile (now (file .entry))) (now (file .entry)) place ⌝ }
 {
     match read_file(file) {
         Read::Refused(at) => EventAt::Refused(at),
-        Read::File(shape) => {
-            if place < shape.events as usize {
-                let at = day_start(shape.days) + SHORT_RECORD * place;
-                EventAt::Event(request_of(file, at, shape.participation))
-            } else {
-                EventAt::NoEvent
-            }
-        }
-    }
-}
-
-// The mark bytes of the days, put first.
-fn load_marks(file: &[u8], days: u32, marks: &mut [u8])
-    requires { ⌜ (days ≡ daysIn (now file)) × (days ≤ 128) × (8 + 390 * days ≤ length (now file)) × (days ≤ length (now marks)) ⌝ }
-    ensures { λ r. ⌜ now (marks .exit) ≡ tableIn (now (file .entry)) .marks ++ drop days (now (marks .entry)) ⌝ }
-{
-    let mut k: u32 = 0;
-    while k < days {
-        marks[k as usize] = file[day_start(k) + 4];
-        k += 1;
-    }
-}
-
-// The 96 readings that start at a place of the file.
-fn load_day(file: &[u8], at: usize, readings: &mut [u32])
-    requires { ⌜ (at + 384 ≤ length (now file)) × (length (now readings) ≡ 96) ⌝ }
-    ensures { λ r. ⌜ now (readings .exit) ≡ numbers 96 (drop at (now (file .entry))) ⌝ }
-{
-    let mut q: usize = 0;
-    while q < QUARTERS {
-        readings[q] = number4(file, at + 4 * q);
-        q += 1;
-    }
-}
-
-// The readings of the days, put first.
-fn load_readings(file: &[u8], days: u32, readings: &mut [u32])
-    requires { ⌜ (days ≡ daysIn (now file)) × (days ≤ 128) × (8 + 390 * days ≤ length (now file)) × (96 * days ≤ length (now readings)) ⌝ }
-    ensures { λ r. ⌜ now (readings .exit) ≡ tableIn (now (file .entry)) .readings ++ drop (96 * days) (now (readings .entry)) ⌝ }
-{
-    let mut k: u32 = 0;
-    while k < days {
-        let start = QUARTERS * (k as usize);
-        let end = start + QUARTERS;
-        load_day(
-            file,
-            day_start(k) + BEFORE_READINGS,
-            &mut readings[start..end],
-        );
-        k += 1;
-    }
-}
-
-// Whether buffers of these lengths have room for the marks and the readings of so many days.
-fn has_room(days: u32, marks: usize, readings: usize) -> bool
-    requires { ⌜ days ≤ 128 ⌝ }
-    ensures { λ r. ⌜ r ≡ (leb days marks && leb (96 * days) readings) ⌝ }
-{
-    (days as usize <= marks) & (QUARTERS * (days as usize) <= readings)
-}
-
-// Puts a file's table into lent buffers: marks and readings stand first, the rest is kept. A refused file, or buffers that the table does not
-// fit, change nothing.
-pub fn load(file: &[u8], marks: &mut [u8], readings: &mut [u32]) -> Loaded
-    ensures said { λ r. ⌜ r ≡ loading (now (file .entry)) (length (now (marks .entry))) (length (now (readings .entry))) ⌝ }
-    ensures held_marks { λ r. ⌜ now (marks .exit) ≡ bufferAfter r (tableIn (now (file .entry)) .marks) (now (marks .entry)) ⌝ }
-    ensures held_readings { λ r. ⌜ now (readings .exit) ≡ bufferAfter r (tableIn (now (file .entry)) .readings) (now (readings .entry)) ⌝ }
-{
-    match read_file(file) {
-        Read::Refused(at) => Loaded::Refused(at),
-        Read::File(shape) => {
-            let days = shape.days;
-            if has_room(days, marks.len(), readings.len()) {
-                load_marks(file, days, marks);
-                load_readings(file, days, readings);
-                Loaded::File(shape)
-            } else {
-                Loaded::NoRoom
-            }
-        }
+        Read::File(shape) => event_within(file, shape, place),
     }
 }

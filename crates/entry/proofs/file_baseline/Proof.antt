@@ -1,12 +1,14 @@
--- `entry::file_baseline` meets its contract: one law for each way out.
-use Rattle.entry.proofs.Files.{refuses, refused-there, none-there, event-there, laid-down}
+-- `entry::file_baseline` meets its contract: a file that is read has the shape it was read as.
+use mathlib.Core.Path.{sym, _∙_}
 use lib.ListN.{length}
+use Rattle.bytewise.proofs.Puts.{refuses}
+use Rattle.entry.proofs.Files.{refused-file}
 use borrow.Author.Needs.{needs}
 use Rattle.entry.proofs.file_baseline.Statement.{statement}
 use Rattle.entry.proofs.file_baseline.Tie as tie
 
-event-at-requires : tie.Need-event-at-requires
-event-at-requires c κs = search needs
+read-file-requires : tie.Need-read-file-requires
+read-file-requires c κs = search needs
 
 enum-known-at : tie.Need-enum-known-at
 enum-known-at c = search needs
@@ -14,53 +16,33 @@ enum-known-at c = search needs
 refuse-requires : tie.Need-refuse-requires
 refuse-requires c κs = search needs
 
-enum-told : tie.Need-enum-told
-enum-told c = search needs
+enum-known-shape : tie.Need-enum-known-shape
+enum-known-shape c = search needs
 
-refuse-requires-2 : tie.Need-refuse-requires-2
-refuse-requires-2 c κs = search needs
-
-enum-known-request : tie.Need-enum-known-request
-enum-known-request c = search needs
-
-loaded-baseline-requires : tie.Need-loaded-baseline-requires
-loaded-baseline-requires c κs =
-    let a = c .before .before .before .before .before .before .before .args in
-    laid-down (a .file .now) (a .place) (c .before .before .before .before .event-at .ensures) (c .before .before .request .given .1)
+place-baseline-requires : tie.Need-place-baseline-requires
+place-baseline-requires c κs = record { accepted = sym (c .before .before .before .before .read-file .ensures) ∙ c .before .before .shape .given .1 }
 
 returns : tie.Need-returns
 returns c =
     let a = c .before .before .before .before .before .before .before .args in
     refuses (a .out .now) (c .refuse .ensures)
-    (refused-there (a .file .now) (a .place) (length (a .out .now)) (c .before .before .before .before .event-at .ensures) (c .before .before .at .given .1))
-
-returns-2 : tie.Need-returns-2
-returns-2 c =
-    let a = c .before .before .before .before .before .before .args in
-    refuses (a .out .now) (c .refuse2 .ensures)
-    (none-there (a .file .now) (a .place) (length (a .out .now)) (c .before .before .before .event-at .ensures) (c .before .enum-told .given .1))
+    (refused-file (a .file .now) (a .place) (length (a .out .now)) (sym (c .before .before .before .before .read-file .ensures) ∙ c .before .before .at .given .1))
 
 same-length : tie.Need-same-length
 same-length c = search needs
 
-returns-3 : tie.Need-returns-3
-returns-3 c =
-    let a = c .before .before .before .before .before .before .before .before .before .before .args in
-    rw (event-there (a .file .now) (a .place) (length (a .out .now)) (c .before .before .before .before .before .before .before .event-at .ensures) (c .before .before .before .before .before .request .given .1))
-    (c .before .before .loaded-baseline .ensures)
+returns-2 : tie.Need-returns-2
+returns-2 c = search needs
 
 pub file-baseline-spec : {M : Type 1} → statement M
 file-baseline-spec =
     tie.close
     (tie.spec
-    event-at-requires
+    read-file-requires
     enum-known-at
     refuse-requires
-    enum-told
-    refuse-requires-2
-    enum-known-request
-    loaded-baseline-requires
+    enum-known-shape
+    place-baseline-requires
     returns
-    returns-2
     same-length
-    returns-3)
+    returns-2)

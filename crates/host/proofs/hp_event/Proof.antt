@@ -1,5 +1,4 @@
--- `host::hp_event` meets its contract: one law for each way out.
-use Rattle.host.proofs.Calls.{event-refused, event-none, event-there}
+-- `host::hp_event` meets its contract, by those of the reader and of what is told.
 use borrow.Author.Needs.{needs}
 use Rattle.host.proofs.hp_event.Statement.{statement}
 use Rattle.host.proofs.hp_event.Tie as tie
@@ -7,44 +6,14 @@ use Rattle.host.proofs.hp_event.Tie as tie
 event-at-requires : tie.Need-event-at-requires
 event-at-requires c κs = search needs
 
-enum-told : tie.Need-enum-told
-enum-told c = search needs
-
-enum-told-2 : tie.Need-enum-told-2
-enum-told-2 c = search needs
-
-enum-known-request : tie.Need-enum-known-request
-enum-known-request c = search needs
-
-slice-aggregate-tell-first : tie.Need-slice-aggregate-tell-first
-slice-aggregate-tell-first c = search needs
-
-tell-first-requires : tie.Need-tell-first-requires
-tell-first-requires c κs = search needs
-
-returns : tie.Need-returns
-returns c = event-refused (c .before .before .event-at .ensures) (c .enum-told .given .1)
-
-returns-2 : tie.Need-returns-2
-returns-2 c = event-none (c .before .before .event-at .ensures) (c .enum-told2 .given .1)
+tell-event-requires : tie.Need-tell-event-requires
+tell-event-requires c κs = search needs
 
 same-length : tie.Need-same-length
 same-length c = search needs
 
-returns-3 : tie.Need-returns-3
-returns-3 c = event-there (c .before .before .before .before .before .before .before .before .event-at .ensures) (c .before .before .before .before .before .before .request .given .1) (c .before .before .tell-first .ensures)
+returns : tie.Need-returns
+returns c = rw (c .before .before .before .before .event-at .ensures) at (c .before .before .tell-event .ensures)
 
 pub hp-event-spec : {M : Type 1} → statement M
-hp-event-spec =
-    tie.close
-    (tie.spec
-    event-at-requires
-    enum-told
-    enum-told-2
-    enum-known-request
-    slice-aggregate-tell-first
-    tell-first-requires
-    returns
-    returns-2
-    same-length
-    returns-3)
+hp-event-spec = tie.close (tie.spec event-at-requires tell-event-requires same-length returns)

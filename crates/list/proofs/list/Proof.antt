@@ -2,7 +2,7 @@
 use mathlib.Core.Path.{sym}
 use native.Mathlib.Omega.{arith}
 use borrow.Author.Needs.{needs}
-use Rattle.record.proofs.Buffers.{InBuffers, in-buffers}
+use Rattle.loading.proofs.Buffers.{InBuffers, in-buffers}
 use Rattle.list.proofs.Holding.{holds}
 use Rattle.list.proofs.list.Statement.{statement}
 use Rattle.list.proofs.list.Tie as tie

@@ -3,6 +3,7 @@ use Prim.Native.Nat.{_+_, _*_, _-_}
 use mathlib.Core.Path.{sym, _∙_}
 use lib.ListN.{drop}
 use native.Mathlib.Omega.{arith}
+use borrow.Author.Needs.{needs}
 use Rattle.record.specs.Reader.{isDYof, dyLength, daysFrom}
 use Rattle.method.proofs.Tables.{size-is}
 use Rattle.record.proofs.Records.{day-whole, day-of-is}
@@ -20,7 +21,7 @@ loop-holds : tie.Need-loop-holds Inv-loop μ-loop
 loop-holds c = counted-none isDYof dyLength 128 (c .before .args .first) (c .before .args .file .now) 8 (omega arith)
 
 day-start-requires : tie.Need-day-start-requires Inv-loop μ-loop
-day-start-requires c κs = omega arith
+day-start-requires c κs = search needs
 
 add-is-day-of : tie.Need-add-is-day-of Inv-loop μ-loop
 add-is-day-of c = omega arith

@@ -1,28 +1,33 @@
 -- `record::number2` meets its contract.
-use native.Mathlib.Omega.{arith}
+use mathlib.Core.Path.{sym, _∙_}
 use Rattle.record.proofs.Numbers.{number-two}
 use borrow.Author.Needs.{needs}
 use Rattle.record.proofs.number2.Statement.{statement}
 use Rattle.record.proofs.number2.Tie as tie
 
-byte-requires : tie.Need-byte-requires
-byte-requires c κs = search needs
+shared-slice-read-number2 : tie.Need-shared-slice-read-number2
+shared-slice-read-number2 c = search needs
 
-add-byte : tie.Need-add-byte
-add-byte c = search needs
+add-number2 : tie.Need-add-number2
+add-number2 c = search needs
 
-byte-requires-2 : tie.Need-byte-requires-2
-byte-requires-2 c κs = search needs
+shared-slice-read-number2-2 : tie.Need-shared-slice-read-number2-2
+shared-slice-read-number2-2 c = search needs
 
-mul-result : tie.Need-mul-result
-mul-result c = search needs
-
-add-result : tie.Need-add-result
-add-result c = search needs
+number2-requires : tie.Need-number2-requires
+number2-requires c κs = search needs
 
 returns : tie.Need-returns
-returns c = let a = c .before .before .before .args in omega (arith, number-two (a .at) (a .file .now))
+returns c =
+    let a = c .before .before .before .before .args in
+    (c .number2 .ensures .0 ∙ sym (number-two (a .at) (a .file .now)), c .number2 .ensures .1)
 
 pub number2-spec : {M : Type 1} → statement M
 number2-spec =
-    tie.close (tie.spec byte-requires add-byte byte-requires-2 mul-result add-result returns)
+    tie.close
+    (tie.spec
+    shared-slice-read-number2
+    add-number2
+    shared-slice-read-number2-2
+    number2-requires
+    returns)

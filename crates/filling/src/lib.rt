@@ -1,0 +1,1 @@
+// Laws of filling a lent buffer from its start; no code.

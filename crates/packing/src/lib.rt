@@ -1,0 +1,49 @@
+// Numbers put first into a lent buffer where all of them fit: as they are, or as four bytes each.
+ghost use mathlib.Core.Path.{_≡_};
+ghost use lib.ListN.{length};
+ghost use Rattle.record.specs.Layout.{bytes, readingBytes};
+ghost use Rattle.telling.specs.Telling.{toldFirst};
+
+// Numbers as they are: they stand first where all of them fit, and else nothing is changed.
+pub fn tell_first(numbers: &[u32], buffer: &mut [u32])
+    ensures { λ _. ⌜ now (buffer .exit) ≡ toldFirst (now (numbers .entry)) (now (buffer .entry)) ⌝ }
+{
+    if buffer.len() < numbers.len() {
+        return;
+    }
+    let mut i = 0;
+    while i < numbers.len() {
+        buffer[i] = numbers[i];
+        i += 1;
+    }
+}
+
+// A number as four bytes, the lowest first.
+fn put_number(out: &mut [u8], number: u32)
+    requires { ⌜ length (now out) ≡ 4 ⌝ }
+    ensures { λ _. ⌜ now (out .exit) ≡ bytes 4 number ⌝ }
+{
+    let second = number / 256;
+    let third = second / 256;
+    let fourth = third / 256;
+    out[0] = (number % 256) as u8;
+    out[1] = (second % 256) as u8;
+    out[2] = (third % 256) as u8;
+    out[3] = (fourth % 256) as u8;
+}
+
+// Numbers of four bytes: they stand first where all of them fit, and else nothing is changed.
+pub fn put_numbers(out: &mut [u8], numbers: &[u32])
+    ensures { λ _. ⌜ now (out .exit) ≡ toldFirst (readingBytes (now (numbers .entry))) (now (out .entry)) ⌝ }
+{
+    if out.len() / 4 < numbers.len() {
+        return;
+    }
+    let mut i = 0;
+    while i < numbers.len() {
+        let start = 4 * i;
+        let end = start + 4;
+        put_number(&mut out[start..end], numbers[i]);
+        i += 1;
+    }
+}
