@@ -2,8 +2,8 @@
 ghost use Prim.Native.Nat.{_≤_, _<_};
 ghost use lib.ListN.{length};
 ghost use Rattle.record.specs.Reader.{tableIn, requestAt};
-ghost use Rattle.listing.specs.Listing.{eventText};
-ghost use Rattle.listing.specs.Writes.{Begins};
+ghost use Rattle.lines.specs.Listing.{eventText};
+ghost use Rattle.lines.specs.Writes.{Begins};
 ghost use Rattle.list.specs.Holds.{Holds};
 use libc::STDIN_FILENO;
 use libc::STDOUT_FILENO;
@@ -24,7 +24,7 @@ fn print(line: &[u8], end: usize) -> bool
 
 fn print_opening(read: Read) -> bool {
     let mut line = [0u8; 4096];
-    let end = listing::opening(read, &mut line);
+    let end = first_line::opening(read, &mut line);
     print(&line, end)
 }
 
