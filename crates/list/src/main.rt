@@ -47,22 +47,29 @@ fn put_event(
     }
 }
 
-fn print_event(file: &[u8], shape: Shape, place: usize, marks: &[u8], readings: &[u32]) -> bool
+fn print_event(
+    file: &[u8],
+    shape: Shape,
+    place: usize,
+    marks: &[u8],
+    readings: &[u32],
+    line: &mut [u8],
+) -> bool
     requires { ⌜ Holds (now file) shape (now marks) (now readings) × (place < shape .events) ⌝ }
 {
-    let mut line = [0u8; 4096];
-    let end = put_event(file, shape, place, marks, readings, &mut line);
-    print(&line, end)
+    let end = put_event(file, shape, place, marks, readings, line);
+    print(line, end)
 }
 
-// The events in their order, up to a write that fails.
+// The events in their order, up to a write that fails, each from the one buffer.
 fn print_events(file: &[u8], shape: Shape, marks: &[u8], readings: &[u32])
     requires { ⌜ Holds (now file) shape (now marks) (now readings) ⌝ }
 {
     let events = shape.events as usize;
+    let mut line = [0u8; 4096];
     let mut place = 0;
     while place < events {
-        if print_event(file, shape, place, marks, readings) {
+        if print_event(file, shape, place, marks, readings, &mut line) {
             place += 1;
         } else {
             return;
