@@ -1,7 +1,7 @@
 -- What every answer has: at most five days, a numerator for each of the event's quarters, a good request, and room.
-use Prim.Native.Nat.{ℕ, _-_, _*_, _≤_, _<_}
+use Prim.Native.Nat.{ℕ, _-_, _≤_}
 use mathlib.Core.Path.{_≡_, refl, ap, _∙_}
-use mathlib.Core.Bool.{Bool, true, false, cond, not}
+use mathlib.Core.Bool.{Bool, true, false, cond}
 use mathlib.Core.List.{List, [], _∷_, map}
 use mathlib.Core.Option.{Option, none, some}
 use native.Mathlib.Omega.{arith}
@@ -17,7 +17,7 @@ use Rattle.method.specs.Table.{Table, Day, History, history}
 use Rattle.method.specs.Method.{Method, short, few, chose, outcome, window, chosen, reach, isShort, wholeReach, dated}
 use Rattle.method.specs.Adjustment.{ruler, adjustmentEnd, A, B, adjustment, Baseline, floored, baseline, baselineAt}
 use Rattle.method.specs.HighXofY.{N, highXofY}
-use Rattle.method.specs.Verdict.{Answer, Reply, refused, answered, goodRequest, requestRefusals, tableRefusals, closing, firstOf, methodology, verdict}
+use Rattle.method.specs.Verdict.{Answer, Reply, answered, goodRequest, requestRefusals, tableRefusals, closing, firstOf, methodology, verdict}
 use Rattle.places.proofs.Places.{length-places}
 use Rattle.refusals.proofs.FirstRefusal.{GoodRequest, good-request}
 use Rattle.baseline.proofs.Laws.{never-both}

@@ -42,13 +42,14 @@ carried-length {w} {told} t = length-take-le (told .count) (told .carried) (omeg
 
 -- the chosen days, of which five at most are told
 pub record Few (count few : ℕ) (days : List ℕ) : Type 0 where
+  pub five : length days ≡ 5
   pub most : few ≤ 5
   pub same : take few days ≡ take count days
   pub size : length (take count days) ≡ few
 
 pub few-days : (count few : ℕ) (days : List ℕ) → length days ≡ 5 → few ≡ min count 5 → Few count few days
 few-days count few days five e =
-    record { most = omega arith; same = rw e (take-least count 5 days five); size = rw (length-take, five, e) }
+    record { five = five; most = omega arith; same = rw e (take-least count 5 days five); size = rw (length-take, five, e) }
 
 pub days-are : {count few : ℕ} {days : List ℕ} → Few count few days
     → spaced (ascii "days" ∷ dec few ∷ []) ++ spaced (numbers (take few days))

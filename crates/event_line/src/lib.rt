@@ -44,18 +44,6 @@ fn put_numbers(out: &mut [u8], at: usize, numbers: &[u32]) -> usize
     next
 }
 
-// N and the chosen days.
-fn put_days(out: &mut [u8], at: usize, chosen: Chosen) -> usize
-    requires { ⌜ (at + 71 ≤ length (now out)) × (length (chosen .days) ≡ 5) ⌝ }
-    ensures { λ r. ⌜ Writes (now (out .entry)) at (spaced (ascii "days" ∷ dec (length (take (chosen .count) (chosen .days))) ∷ numbers (take (chosen .count) (chosen .days)))) r (now (out .exit)) × (r ≤ at + 71) ⌝ }
-{
-    let days = chosen.days;
-    let few = counts::least(chosen.count, 5);
-    let count = few as usize;
-    let next = text::put_field(out, at, b" days ", few);
-    put_numbers(out, next, &days[..count])
-}
-
 // What stands after the days, to the line's end.
 fn put_close(out: &mut [u8], at: usize, reach: u32, denominator: u32, adjustment: i64) -> usize
     requires { ⌜ at + 59 ≤ length (now out) ⌝ }
@@ -81,8 +69,12 @@ pub fn put_event_line(
     if out.len() < EVENT_ROOM {
         return 0;
     }
+    let days = chosen.days;
+    let few = counts::least(chosen.count, 5);
+    let count = few as usize;
     let third = put_three(out, request);
-    let listed = put_days(out, third, chosen);
+    let told = text::put_field(out, third, b" days ", few);
+    let listed = put_numbers(out, told, &days[..count]);
     put_close(out, listed, chosen.reach, denominator, adjustment)
 }
 

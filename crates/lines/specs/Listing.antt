@@ -10,7 +10,7 @@ use Rattle.method.specs.declared.Request.{Request}
 use Rattle.method.specs.declared.Refusal.{Refusal}
 use Rattle.method.specs.Adjustment.{rounded}
 use Rattle.method.specs.Table.{Table}
-use Rattle.method.specs.Verdict.{Answer, Reply, refused, answered, number, carries, verdict}
+use Rattle.method.specs.Verdict.{Reply, refused, answered, number, carries, verdict}
 use Rattle.record.specs.declared.Shape.{Shape}
 use Rattle.record.specs.declared.Read.{Read}
 use Rattle.record.specs.declared.Read.the-variants.{File, Refused}

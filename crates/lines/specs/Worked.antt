@@ -4,7 +4,7 @@ use Prim.Native.String.{String}
 use mathlib.Core.List.{List, [], _∷_, _++_}
 use Rattle.lists.specs.Ascii.{ascii}
 use Rattle.method.specs.Checks.{worked}
-use Rattle.record.specs.Layout.{Event, Contents, fileOf}
+use Rattle.record.specs.Layout.{Event, Contents}
 use Rattle.lines.specs.Lines.{newline}
 
 -- an hour from 15:00, notified an hour before
