@@ -3,3 +3,4 @@ pub mod Whole
 pub mod Choosing
 pub mod Steps
 pub mod Laws
+pub mod Answered

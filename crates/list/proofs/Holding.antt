@@ -13,8 +13,8 @@ use Rattle.record.specs.declared.EventAt.the-variants.{Event, NoEvent, Refused 
 use Rattle.record.specs.Reader.{readFile, tableIn, shapeIn, requestAt, eventAtPlace}
 use Rattle.record.proofs.Files.{shape-fits}
 use Rattle.loading.proofs.Buffers.{InBuffers}
-use Rattle.listing.specs.Listing.{eventText}
-use Rattle.listing.specs.Writes.{Begins}
+use Rattle.lines.specs.Listing.{eventText}
+use Rattle.lines.specs.Writes.{Begins}
 use Rattle.list.specs.Holds.{Holds}
 
 pub holds : {file : List ℕ} {shape : Shape} {marks readings : List ℕ} → InBuffers file shape marks readings

@@ -1,5 +1,5 @@
 -- What the program's buffers hold while it prints a file's events.
-use Prim.Native.Nat.{ℕ, _<_}
+use Prim.Native.Nat.{ℕ}
 use mathlib.Core.Path.{_≡_}
 use mathlib.Core.List.{List}
 use Rattle.record.specs.declared.Shape.{Shape}

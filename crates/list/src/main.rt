@@ -2,8 +2,8 @@
 ghost use Prim.Native.Nat.{_≤_, _<_};
 ghost use lib.ListN.{length};
 ghost use Rattle.record.specs.Reader.{tableIn, requestAt};
-ghost use Rattle.listing.specs.Listing.{eventText};
-ghost use Rattle.listing.specs.Writes.{Begins};
+ghost use Rattle.lines.specs.Listing.{eventText};
+ghost use Rattle.lines.specs.Writes.{Begins};
 ghost use Rattle.list.specs.Holds.{Holds};
 use libc::STDIN_FILENO;
 use libc::STDOUT_FILENO;
@@ -24,7 +24,7 @@ fn print(line: &[u8], end: usize) -> bool
 
 fn print_opening(read: Read) -> bool {
     let mut line = [0u8; 4096];
-    let end = listing::opening(read, &mut line);
+    let end = first_line::opening(read, &mut line);
     print(&line, end)
 }
 
@@ -47,22 +47,29 @@ fn put_event(
     }
 }
 
-fn print_event(file: &[u8], shape: Shape, place: usize, marks: &[u8], readings: &[u32]) -> bool
+fn print_event(
+    file: &[u8],
+    shape: Shape,
+    place: usize,
+    marks: &[u8],
+    readings: &[u32],
+    line: &mut [u8],
+) -> bool
     requires { ⌜ Holds (now file) shape (now marks) (now readings) × (place < shape .events) ⌝ }
 {
-    let mut line = [0u8; 4096];
-    let end = put_event(file, shape, place, marks, readings, &mut line);
-    print(&line, end)
+    let end = put_event(file, shape, place, marks, readings, line);
+    print(line, end)
 }
 
-// The events in their order, up to a write that fails.
+// The events in their order, up to a write that fails, each from the one buffer.
 fn print_events(file: &[u8], shape: Shape, marks: &[u8], readings: &[u32])
     requires { ⌜ Holds (now file) shape (now marks) (now readings) ⌝ }
 {
     let events = shape.events as usize;
+    let mut line = [0u8; 4096];
     let mut place = 0;
     while place < events {
-        if print_event(file, shape, place, marks, readings) {
+        if print_event(file, shape, place, marks, readings, &mut line) {
             place += 1;
         } else {
             return;

@@ -1,9 +1,1 @@
-pub mod Writing
-pub mod Fields
-pub mod Quarters
-pub mod Lines
-pub mod Answered
-pub mod Replies
-pub mod Worked
-pub mod Longest
-pub mod Whole
+mod Replies

@@ -1,10 +1,10 @@
 -- What a call gives back, and the lines that are written of it, are the lines of the reply.
-use Prim.Native.Nat.{ℕ, _-_, _≤_}
+use Prim.Native.Nat.{ℕ, _-_, _≤_, min}
 use mathlib.Core.Path.{_≡_, refl}
 use mathlib.Core.List.{List, _++_, append-nil}
 use native.Mathlib.Omega.{arith}
-use lib.ListN.{length, take, drop, replicate, length-append, length-replicate}
-use lib.Seq.{length-take-le, take-at, take-take}
+use lib.ListN.{length, take, drop, replicate}
+use lib.Seq.{take-at, take-take}
 use Rattle.calendar.specs.Holidays.{group}
 use Rattle.method.specs.declared.Request.{Request}
 use Rattle.method.specs.declared.Refusal.{Refusal}
@@ -15,11 +15,10 @@ use Rattle.answer.specs.declared.Given.the-variants.{Answered, Refused}
 use Rattle.answer.specs.declared.Answer.{Answer}
 use Rattle.answer.specs.Answer.{answerOf}
 use Rattle.baseline.specs.Ready.{Answers}
-use Rattle.refusals.proofs.FirstRefusal.{GoodRequest}
-use Rattle.listing.specs.Lines.{lineText, linesText}
-use Rattle.listing.specs.Listing.{refusalLine, eventLines, repliedLines, eventText}
-use Rattle.listing.specs.Writes.{CanPut, answerLines}
-use Rattle.listing.proofs.Answered.{Sound, sound}
+use Rattle.baseline.proofs.Answered.{Sound, sound}
+use Rattle.lines.specs.Lines.{lineText, linesText}
+use Rattle.lines.specs.Listing.{refusalLine, eventLines, repliedLines, eventText}
+use Rattle.listing.specs.Answered.{answerLines}
 
 -- ---- refused
 refusal-lines : (r : Request) (reply : Reply) {answer : Answer} {w : Refusal} → answer ≡ answerOf reply → answer .given ≡ Refused w
@@ -35,46 +34,25 @@ unfolding eventText repliedLines
 refusal-text t r q g = refusal-lines r (verdict group t r 96) (q .answer) g
 
 -- ---- answered
-five : (days : List ℕ) → length (inFive days) ≡ 5
-five days = length-take-le 5 (days ++ replicate 5 0) (rw (length-append, length-replicate) (omega arith))
-
 first-days : (days : List ℕ) → length days ≤ 5 → take (length days) (inFive days) ≡ days
 first-days days h = rw (take-take (length days) 5 (days ++ replicate 5 0) h) (take-at days (replicate 5 0) (length days) refl)
 
-pub record Listed (t : Table) (r : Request) (answer : Answer) (numerators : List ℕ) : Type 0 where
-  pub ranges : GoodRequest r
-  pub size : length numerators ≡ r .e - r .s
-  pub can : CanPut r answer numerators
-  pub lines : linesText (answerLines r answer numerators) ≡ eventText t r
-
-listed-as : (t : Table) (r : Request) (a : Numbers) → verdict group t r 96 ≡ answered a → Sound r a → Listed t r (answerOf (answered a)) (a .numerators)
-unfolding answerOf eventText repliedLines eventLines
-listed-as t r a e s =
-    record {
-      ranges = s .ranges;
-      size = s .quarters;
-      can =
-          record {
-            five = five (a .days);
-            most = s .few;
-            over = s .over;
-            quarters = omega arith;
-            ruler = omega arith;
-          };
-      lines = rw (e, first-days (a .days) (s .few));
-    }
-
-first-written : (r : Request) (a : Numbers) (out : List ℕ) → Sound r a → take (r .e - r .s) (written (answered a) out) ≡ a .numerators
+first-written : (r : Request) (a : Numbers) (out : List ℕ) → Sound r 96 a → take (min (r .e - r .s) 96) (written (answered a) out) ≡ a .numerators
 unfolding written
-first-written r a out s = take-at (a .numerators) (drop (length (a .numerators)) out) (r .e - r .s) (s .quarters)
+first-written r a out s = take-at (a .numerators) (drop (length (a .numerators)) out) (min (r .e - r .s) 96) (omega (arith, s .quarters, s .enough))
 
+listed-as : (t : Table) (r : Request) (a : Numbers) (out : List ℕ) → verdict group t r 96 ≡ answered a → Sound r 96 a
+    → linesText (answerLines r (answerOf (answered a)) (written (answered a) out)) ≡ eventText t r
+unfolding answerOf eventText repliedLines eventLines
+listed-as t r a out e s = rw (e, first-days (a .days) (s .few), first-written r a out s)
+
+-- the lines that are written of an answer are those of the event
 pub listed : (t : Table) (r : Request) {answer : Answer} {out after : List ℕ} → Answers (verdict group t r 96) answer out after
-    → answer .given ≡ Answered → Listed t r answer (take (r .e - r .s) after)
+    → answer .given ≡ Answered → linesText (answerLines r answer after) ≡ eventText t r
 unfolding answerOf
 listed t r {answer} {out} {after} q g = go (verdict group t r 96) refl (q .answer) (q .output)
   where
     go : (reply : Reply) → verdict group t r 96 ≡ reply → answer ≡ answerOf reply → after ≡ written reply out
-        → Listed t r answer (take (r .e - r .s) after)
+        → linesText (answerLines r answer after) ≡ eventText t r
     go (refused w) e x y = let z : _≡_ {A = ℕ} 0 1 = cc in absurd (omega arith)
-    go (answered a) e x y =
-        let s = sound group t r 96 e in rw (x, y, first-written r a out s) (listed-as t r a e s)
+    go (answered a) e x y = rw (x, y) (listed-as t r a out e (sound group t r 96 e))

@@ -1,4 +1,1 @@
-pub mod Lines
-pub mod Listing
-pub mod Writes
-pub mod Worked
+pub mod Answered

@@ -1,7 +1,5 @@
-pub mod Digits
 pub mod Text
-pub mod Copying
-pub mod Field
-pub mod Spelling
-pub mod Signed
-pub mod Examples
+mod Copying
+mod Numbers
+mod Field
+mod Examples

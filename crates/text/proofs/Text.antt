@@ -1,6 +1,6 @@
 -- A text put into a buffer: where it fits and where not, what it leaves as it is, and that two texts in a row are one.
 use Prim.Native.Nat.{ℕ, _+_, _≤_, _<_}
-use mathlib.Core.Path.{_≡_, refl, ap, _∙_}
+use mathlib.Core.Path.{_≡_, refl, _∙_}
 use mathlib.Core.List.{List, _++_, append-assoc}
 use mathlib.Core.Logic.{⊎-elim}
 use native.Mathlib.Omega.{arith}
@@ -104,18 +104,11 @@ module _ {d : List ℕ} {at r : ℕ} {a e : List ℕ} where
       ⊎-elim (λ (o : length d < at). omega (arith, p .next ∙ next-past d at a o))
       (λ (o : at ≤ length d). omega (arith, p .next ∙ next-within d at a o)) (lt-or-le (length d) at)
 
-  -- two texts put in a row are one that is put
-  pub in-a-row :
-      {b f : List ℕ} {s : ℕ} → Puts d at a r e → Puts e r b s f → at + length a + length b ≤ length d → Puts d at (a ++ b) s f
-  in-a-row {b} {f} {s} p q fits =
-      let place : r ≡ at + length a = p .next ∙ next-within d at a (omega arith) in
-      let size : length e ≡ length d = ap length (p .holds) ∙ put-length d at a in
-      record {
-        next =
-            rw (next-within d at (a ++ b) (omega arith), length-append)
-            (omega (arith, q .next ∙ next-within e r b (omega arith)));
-        holds = rw (q .holds, p .holds, place) (put-put d at a b fits);
-      }
+  -- the place after a text is at most so far on as the text is long
+  pub puts-most : (most : ℕ) → length a ≤ most → Puts d at a r e → r ≤ at + most
+  puts-most most h p =
+      ⊎-elim (λ (o : length d < at). omega (arith, p .next ∙ next-past d at a o))
+      (λ (o : at ≤ length d). omega (arith, p .next ∙ next-within d at a o)) (lt-or-le (length d) at)
 
   -- both or neither is one text
   pub as-one : {b : List ℕ} → PutsBoth d at a b r e → at + length a ≤ length d → Puts d at (a ++ b) r e

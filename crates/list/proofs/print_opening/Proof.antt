@@ -1,6 +1,6 @@
 -- `list::print_opening` meets its contract: the text is within the buffer.
 use borrow.Author.Needs.{needs}
-use Rattle.listing.proofs.Whole.{begins-within}
+use Rattle.lines.proofs.Whole.{begins-within}
 use Rattle.list.proofs.print_opening.Statement.{statement}
 use Rattle.list.proofs.print_opening.Tie as tie
 

@@ -1,9 +1,10 @@
 -- `listing::put_answer` meets its contract: the event line, and the quarter lines.
+use native.Mathlib.Omega.{arith}
 use mir.Syntax.{w64}
 use mir.ValLaws.{toZ-ofZ}
 use borrow.Author.Needs.{needs}
-use Rattle.listing.specs.Lines.{linesText}
-use Rattle.listing.proofs.Writing.{then}
+use Rattle.lines.specs.Lines.{linesText}
+use Rattle.lines.proofs.Writing.{then, whole}
 use Rattle.listing.proofs.put_answer.Statement.{statement}
 use Rattle.listing.proofs.put_answer.Tie as tie
 
@@ -22,7 +23,8 @@ returns c =
     let l = c .before .before .before .before .before .before in
     let a = l .before .before .before .before .before .before .args .answer in
     let back = toZ-ofZ w64 (a .adjustment) (record { sfits = l .before .struct-told .given .1 .1 .1 .0 .1 }) in
-    then (rw back at (l .put-event-line .ensures .0)) (c .before .before .put-quarters .ensures .0)
+    let line = whole (omega arith) (rw back at (l .put-event-line .ensures)) in
+    then line (whole (omega (arith, l .put-event-line .ensures .most)) (c .before .before .put-quarters .ensures))
 
 pub put-answer-spec : {M : Type 1} → statement M
 put-answer-spec =

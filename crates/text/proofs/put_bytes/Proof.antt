@@ -13,13 +13,13 @@ abbrev μ-loop : tie.MeasureT-loop
 μ-loop out₀ at bytes end i₀ out i = length bytes - i
 
 returns : tie.Need-returns Inv-loop μ-loop
-returns c = past _ _ _ (c .if1 .taken)
+returns c = (past _ _ _ (c .if1 .taken), omega arith)
 
 add-end : tie.Need-add-end Inv-loop μ-loop
 add-end c = omega arith
 
 returns-2 : tie.Need-returns-2 Inv-loop μ-loop
-returns-2 c = too-long _ _ _ (c .before .if1 .left) (c .if2 .taken)
+returns-2 c = (too-long _ _ _ (c .before .if1 .left) (c .if2 .taken), omega arith)
 
 loop-holds : tie.Need-loop-holds Inv-loop μ-loop
 loop-holds c = none-yet _ _ _
@@ -46,7 +46,7 @@ same-length : tie.Need-same-length Inv-loop μ-loop
 same-length c = omega arith
 
 returns-3 : tie.Need-returns-3 Inv-loop μ-loop
-returns-3 c = all-in (c .before .loop .inv) (omega arith) (omega arith)
+returns-3 c = (all-in (c .before .loop .inv) (omega arith) (omega arith), omega arith)
 
 pub put-bytes-spec : {M : Type 1} → statement M
 put-bytes-spec =

@@ -1,7 +1,7 @@
 -- `text::put_spelt` meets its contract: the part that it lends is the text (`ending`).
 use native.Mathlib.Omega.{arith}
 use borrow.Author.Needs.{needs}
-use Rattle.text.proofs.Spelling.{ending}
+use Rattle.text.proofs.Numbers.{ending}
 use Rattle.text.proofs.put_spelt.Statement.{statement}
 use Rattle.text.proofs.put_spelt.Tie as tie
 
@@ -23,7 +23,7 @@ same-length c = search needs
 returns : tie.Need-returns
 returns c =
     let s = c .before .before .before .before .before .before .before .before in
-    rw (ending (s .args .spelt .bytes) (s .args .spelt .start) (s .pre .0)) at (c .before .before .put-bytes .ensures)
+    rw (ending (s .args .spelt .bytes) (s .args .spelt .start) (s .pre .0)) at (c .before .before .put-bytes .ensures .0)
 
 pub put-spelt-spec : {M : Type 1} → statement M
 put-spelt-spec =

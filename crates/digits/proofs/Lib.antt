@@ -1,0 +1,4 @@
+pub mod Digits
+pub mod Spelling
+mod Signed
+mod Examples

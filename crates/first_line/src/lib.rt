@@ -1,0 +1,43 @@
+// The first line of a listing. 01: "Header: number, P, F, h." and "A refused file prints only `file refused OFFSET`."
+ghost use Prim.Native.Nat.{_≤_};
+ghost use lib.ListN.{length};
+ghost use Rattle.lines.specs.Lines.{lineText};
+ghost use Rattle.lines.specs.Listing.{headerLine, refusedLine, openingLine};
+ghost use Rattle.lines.specs.Writes.{Writes, Begins};
+use record::Read;
+use record::Shape;
+
+// The room that a caller gives.
+const ROOM: usize = 4096;
+
+fn put_header(out: &mut [u8], file: Shape) -> usize
+    requires { ⌜ 74 ≤ length (now out) ⌝ }
+    ensures { λ r. ⌜ Writes (now (out .entry)) 0 (lineText (headerLine file)) r (now (out .exit)) ⌝ }
+{
+    let numbered = text::put_field(out, 0, b"portfolio ", file.portfolio);
+    let since = text::put_field(out, numbered, b" from ", file.participation);
+    let held = text::put_field(out, since, b" held ", file.first);
+    let end = text::put_field(out, held, b" ", file.days);
+    text::put_bytes(out, end, b"\n")
+}
+
+fn put_refused(out: &mut [u8], offset: u32) -> usize
+    requires { ⌜ 24 ≤ length (now out) ⌝ }
+    ensures { λ r. ⌜ Writes (now (out .entry)) 0 (lineText (refusedLine offset)) r (now (out .exit)) ⌝ }
+{
+    let end = text::put_field(out, 0, b"file refused ", offset);
+    text::put_bytes(out, end, b"\n")
+}
+
+// The first line of a file's listing, from what reading the file gives.
+pub fn opening(read: Read, out: &mut [u8]) -> usize
+    ensures { λ r. ⌜ Begins (now (out .entry)) (lineText (openingLine read)) r (now (out .exit)) ⌝ }
+{
+    if out.len() < ROOM {
+        return 0;
+    }
+    match read {
+        Read::File(file) => put_header(out, file),
+        Read::Refused(offset) => put_refused(out, offset),
+    }
+}

@@ -1,0 +1,35 @@
+-- The worked listing of 01, byte for byte from its file's bytes, by computation of the definitions.
+use Prim.Native.Nat.{ℕ}
+use mathlib.Core.Path.{_≡_, refl}
+use Rattle.lists.specs.Lists.{keep, all, any, leading, member, sumOf, leastOf}
+use Rattle.dates.specs.Days.{leap, months, newYear, dayNumber, yearOf}
+use Rattle.calendar.specs.Holidays.{easter, fixedHolidays, easterHolidays, holidays, isHoliday, group}
+use Rattle.digits.specs.Digits.{digits, dec, decimal}
+use Rattle.method.specs.Table.{size, offset, dayOf, held, shaped, isExtract}
+use Rattle.method.specs.Relevant.{daysBefore, relevant, relevantDays}
+use Rattle.method.specs.Method.{wholeReach, seen, eligibles, spares, window, chosen, reach, isShort, outcome}
+use Rattle.method.specs.Adjustment.{windowEnds, latestEnd, adjustmentEnd, places, S, A, B, baselineAt, baseline}
+use Rattle.method.specs.HighXofY.{complete, eligible, spare, eventSum, higher, insertBy, sortBy, highXofY}
+use Rattle.method.specs.Verdict.{tableRefusals, goodRequest, requestRefusals, closing, firstOf, methodology, verdict}
+use Rattle.record.specs.Layout.{bytes, pfRecord, readingBytes, dyRecord, evRecord, dyRecords, evRecords, fileOf}
+use Rattle.record.specs.Reader.{numberAt, opensWith, isRecord, isPF, isDY, isEV, run, isDYof, daysFrom, eventsFrom, firstIn, daysIn, dayStart}
+use Rattle.record.specs.Reader.{eventStart, eventsIn, goodEnd, shapeIn, readFile, marksFrom, numbers, readingsFrom, tableIn, eventOf, requestAt}
+use Rattle.lines.specs.Lines.{spaced, lineText, linesText}
+use Rattle.lines.specs.Listing.{refusedLine, headerLine, eventLine, quarterLine, quarterLines, refusalLine, eventLines, repliedLines, linesFrom}
+use Rattle.lines.specs.Listing.{listingLines, listing}
+use Rattle.lines.specs.Worked.{workedContents, workedListing}
+
+-- unfolding this unfolds every definition that the case computes with
+definitions : ℕ
+unfolding keep all any leading member sumOf leastOf leap months newYear dayNumber yearOf easter fixedHolidays easterHolidays holidays
+    isHoliday group digits dec decimal size offset dayOf held shaped isExtract daysBefore relevant relevantDays wholeReach seen eligibles spares
+    window chosen reach isShort outcome windowEnds latestEnd adjustmentEnd places S A B baselineAt baseline complete eligible spare eventSum
+    higher insertBy sortBy highXofY tableRefusals goodRequest requestRefusals closing firstOf methodology verdict bytes pfRecord readingBytes
+    dyRecord evRecord dyRecords evRecords fileOf numberAt opensWith isRecord isPF isDY isEV run isDYof daysFrom eventsFrom firstIn daysIn dayStart
+    eventStart eventsIn goodEnd shapeIn readFile marksFrom numbers readingsFrom tableIn eventOf requestAt spaced lineText linesText refusedLine
+    headerLine eventLine quarterLine quarterLines refusalLine eventLines repliedLines linesFrom listingLines listing
+definitions = 0
+
+pub worked-listing : listing (fileOf workedContents) ≡ workedListing
+unfolding definitions
+worked-listing = refl

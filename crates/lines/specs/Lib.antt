@@ -1,0 +1,4 @@
+pub mod Lines
+pub mod Listing
+pub mod Writes
+pub mod Worked

@@ -1,0 +1,41 @@
+-- The quarter lines, one by one.
+use Prim.Native.Nat.{ℕ, _+_, _≤_, _<_, min}
+use mathlib.Core.Path.{_≡_, refl, ap, _∙_}
+use mathlib.Core.List.{List, [], _∷_, _++_}
+use native.Mathlib.Numerals.{add-one}
+use lib.ListN.{length, take, drop, getD, drop-of-length-le}
+use lib.Seq.{length-take-le, drop-cons, getD-take}
+use Rattle.digits.specs.Digits.{dec}
+use Rattle.method.specs.Adjustment.{rounded}
+use Rattle.lines.specs.Lines.{spaced, newline, lineText, linesText}
+use Rattle.lines.specs.Listing.{quarterLine, quarterLines}
+use Rattle.lines.specs.Writes.{Writes}
+use Rattle.lines.proofs.Lines.{take-least}
+use Rattle.lines.proofs.Writing.{Writing, writing-next, writing-end}
+
+-- three numbers and the end of the line
+pub quarter-is : (denominator t numerator kilowatts : ℕ) → kilowatts ≡ rounded numerator denominator
+    → dec t ++ spaced (dec numerator ∷ dec kilowatts ∷ []) ++ (newline ∷ []) ≡ lineText (quarterLine denominator t numerator)
+unfolding lineText quarterLine
+quarter-is denominator t numerator kilowatts e = rw e
+
+-- of the quarters of the first `n` numerators, those up to place `i` are written, and `u` is next
+module _ {d : List ℕ} {at : ℕ} {t : List ℕ} {r : ℕ} {e : List ℕ} (denominator u : ℕ) (ns : List ℕ) (n i : ℕ) (size : n ≤ length ns)
+    (q : Writing d at t r e (linesText (quarterLines denominator u (drop i (take n ns))))) where
+  pub quarters-next : {s : ℕ} {f : List ℕ} → i < n → Writes e r (lineText (quarterLine denominator u (getD ns i 0))) s f
+      → Writing d at t s f (linesText (quarterLines denominator (u + 1) (drop (i + 1) (take n ns))))
+  unfolding linesText quarterLines
+  quarters-next h w =
+      let here : i < length (take n ns) = rw (length-take-le n ns size) h in
+      rw (add-one i, add-one u) (writing-next (rw (drop-cons (take n ns) i 0 here, getD-take n ns i 0 h) at q) w)
+
+  pub quarters-end : n ≤ i → Writes d at t r e
+  unfolding linesText quarterLines
+  quarters-end h = writing-end (rw (drop-of-length-le (take n ns) {i = i} (rw (length-take-le n ns size) h)) at q)
+
+-- the numerators that are there, of those that are asked for
+pub those-there : {count quarters asked : ℕ} (k : ℕ) (ns : List ℕ) → count ≡ min quarters (length ns) → quarters ≡ min asked 96 → asked ≡ k
+    → take count ns ≡ take (min k 96) ns
+those-there {count} {quarters} k ns e f g =
+    let all : quarters ≡ min k 96 = f ∙ ap (λ (x : ℕ). min x 96) g in
+    rw (e, all) (take-least (min k 96) (length ns) ns refl)
