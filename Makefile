@@ -17,7 +17,7 @@ program := build/bin/honeyplank-list
 
 # $(call prove,RT'S WORDS): runs rt, with a line for each crate; where it fails, its last lines
 prove = @mkdir -p build && rt $(1) 2>&1 | tee build/rt.log | \
-	sed -u -n -e '/unchanged/d' -e 's/^rt: \([a-z]* proved.*\)/\1/p' -e 's/^rt: .*lib\([a-z]*\)\.a has .*/\1 proved/p' || { tail -n 40 build/rt.log; exit 1; }
+	sed -u -n -e '/unchanged/d' -e 's/^rt: \([a-z_]* proved.*\)/\1/p' -e 's/^rt: .*lib\([a-z]*\)\.a has .*/\1 proved/p' || { tail -n 40 build/rt.log; exit 1; }
 
 all: $(library) $(program) ## prove and build the archive, its header, a pkg-config file and the program, under build/
 
