@@ -19,7 +19,8 @@ use Rattle.record.specs.Layout.{readingBytes}
 use Rattle.record.proofs.Back.{reading-length}
 use Rattle.telling.specs.Telling.{toldFirst}
 use Rattle.bytewise.specs.Bytewise.{bytesWritten, FileAnswers}
-use Rattle.bytewise.proofs.Rooms.{answered-size, answered-fits, room-same}
+use Rattle.baseline.proofs.Answered.{sound}
+use Rattle.bytewise.proofs.Rooms.{room-same}
 
 -- ---- refused: the bytes are kept
 pub refuses : {reply : Reply} {given : Answer} {w : Refusal} (out : List ℕ) → given ≡ answerOf (refused w) → reply ≡ refused w
@@ -58,8 +59,10 @@ module _ (t : Table) (r : Request) (out : List ℕ) {given : Answer} (before : L
       go : (reply : Reply) → verdict group t r (length out / 4) ≡ reply → given ≡ answerOf reply → after ≡ written reply before → Numerators
       go (refused w) v x y = let z : _≡_ {A = ℕ} 0 1 = cc in absurd (omega arith)
       go (answered a) v x y =
-          let fits = answered-fits r group t (length out / 4) v in
-          let size = answered-size r group t (length out / 4) v in
+          let has = sound group t r (length out / 4) v in
+          let ranges = has .ranges in
+          let fits = has .enough in
+          let size = has .quarters in
           let rest = drop (length (a .numerators)) before in
           let first : take (r .e - r .s) after ≡ a .numerators = rw y (take-at (a .numerators) rest (r .e - r .s) size) in
           let long = reading-length (a .numerators) in

@@ -1,6 +1,6 @@
 -- What holds of a file that is loaded: the event at each place is there, and the buffers are its table.
 use Prim.Native.Nat.{ℕ, _*_, _<_}
-use mathlib.Core.Path.{_≡_, ap}
+use mathlib.Core.Path.{_≡_, ap, _∙_, refl}
 use mathlib.Core.List.{List}
 use native.Mathlib.Omega.{arith}
 use lib.ListN.{take}
@@ -10,8 +10,9 @@ use Rattle.table.specs.Lent.{tableOf}
 use Rattle.record.specs.declared.Shape.{Shape}
 use Rattle.record.specs.declared.EventAt.{EventAt}
 use Rattle.record.specs.declared.EventAt.the-variants.{Event, NoEvent, Refused as RefusedEvent}
-use Rattle.record.specs.Reader.{readFile, tableIn, shapeIn, requestAt, eventAtPlace}
+use Rattle.record.specs.Reader.{tableIn, shapeIn, requestAt, eventWithin}
 use Rattle.record.proofs.Files.{shape-fits}
+use Rattle.record.proofs.Events.{within-is}
 use Rattle.loading.proofs.Buffers.{InBuffers}
 use Rattle.lines.specs.Listing.{eventText}
 use Rattle.lines.specs.Writes.{Begins}
@@ -30,18 +31,18 @@ module _ {file : List ℕ} {shape : Shape} {marks readings : List ℕ} (q : Hold
   table-in = rw (first-in, q .its-marks, q .its-readings)
 
   module _ {place : ℕ} (h : place < shape .events) where
-    event-in : eventAtPlace (readFile file) file place ≡ Event (requestAt file place)
-    event-in = rw (q .accepted, lt-ltb place (shape .events) h)
+    event-in : eventWithin shape file place ≡ Event (requestAt file place)
+    event-in = within-is file place (q .accepted) ∙ rw (q .accepted, lt-ltb place (shape .events) h) refl
 
     -- the event's lines are those of its own place
-    pub its-lines : {d : List ℕ} {r : ℕ} {e : List ℕ} {at : EventAt} (request : Request) → at ≡ eventAtPlace (readFile file) file place
+    pub its-lines : {d : List ℕ} {r : ℕ} {e : List ℕ} {at : EventAt} (request : Request) → at ≡ eventWithin shape file place
         → at ≡ Event request → Begins d (eventText (tableOf (shape .first) marks readings) request) r e
         → Begins d (eventText (tableIn file) (requestAt file place)) r e
     its-lines {at = at} request s t w =
         let same : request ≡ requestAt file place = cc (event-in) in rw (table-in, same) at w
 
-    pub never-none : {at : EventAt} {X : Type 0} → at ≡ eventAtPlace (readFile file) file place → at ≡ NoEvent → X
+    pub never-none : {at : EventAt} {X : Type 0} → at ≡ eventWithin shape file place → at ≡ NoEvent → X
     never-none s t = let z : _≡_ {A = ℕ} 0 1 = cc (event-in) in absurd (omega arith)
 
-    pub never-refused : {at : EventAt} {X : Type 0} (n : ℕ) → at ≡ eventAtPlace (readFile file) file place → at ≡ RefusedEvent n → X
+    pub never-refused : {at : EventAt} {X : Type 0} (n : ℕ) → at ≡ eventWithin shape file place → at ≡ RefusedEvent n → X
     never-refused n s t = let z : _≡_ {A = ℕ} 0 1 = cc (event-in) in absurd (omega arith)

@@ -40,7 +40,7 @@ fn put_event(
     requires { ⌜ Holds (now file) shape (now marks) (now readings) × (place < shape .events) ⌝ }
     ensures { λ r. ⌜ Begins (now (line .entry)) (eventText (tableIn (now (file .entry))) (requestAt (now (file .entry)) place)) r (now (line .exit)) ⌝ }
 {
-    match record::event_at(file, place) {
+    match record::event_within(file, shape, place) {
         EventAt::Event(request) => listing::event(shape.first, marks, readings, request, line),
         EventAt::NoEvent => 0,
         EventAt::Refused(_) => 0,

@@ -4,8 +4,8 @@ use Rattle.list.proofs.Holding.{its-lines, never-none, never-refused}
 use Rattle.list.proofs.put_event.Statement.{statement}
 use Rattle.list.proofs.put_event.Tie as tie
 
-event-at-requires : tie.Need-event-at-requires
-event-at-requires c κs = search needs
+event-within-requires : tie.Need-event-within-requires
+event-within-requires c κs = search needs
 
 enum-known-request : tie.Need-enum-known-request
 enum-known-request c = search needs
@@ -26,23 +26,23 @@ returns : tie.Need-returns
 returns c =
     let m = c .before .before .before .before .before in
     let a = m .before .before .before .before .before .before .before in
-    its-lines (a .pre .0) (a .pre .1) _ (m .before .before .event-at .ensures) (m .request .given .1) (c .before .before .event .ensures)
+    its-lines (a .pre .0) (a .pre .1) _ (m .before .before .event-within .ensures) (m .request .given .1) (c .before .before .event .ensures)
 
 returns-2 : tie.Need-returns-2
 returns-2 c =
     let a = c .before .before .before .before .before .before .before in
-    never-none (a .pre .0) (a .pre .1) (c .before .before .event-at .ensures) (c .enum-told .given .1)
+    never-none (a .pre .0) (a .pre .1) (c .before .before .event-within .ensures) (c .enum-told .given .1)
 
 returns-3 : tie.Need-returns-3
 returns-3 c =
     let a = c .before .before .before .before .before .before .before in
-    never-refused (a .pre .0) (a .pre .1) _ (c .before .before .event-at .ensures) (c .enum-told2 .given .1)
+    never-refused (a .pre .0) (a .pre .1) _ (c .before .before .event-within .ensures) (c .enum-told2 .given .1)
 
 pub put-event-spec : {M : Type 1} → statement M
 put-event-spec =
     tie.close
     (tie.spec
-    event-at-requires
+    event-within-requires
     enum-known-request
     event-requires
     enum-told
