@@ -17,7 +17,7 @@ use Rattle.answer.specs.Answer.{answerOf}
 use Rattle.baseline.specs.Ready.{Answers}
 use Rattle.record.specs.Layout.{readingBytes}
 use Rattle.record.proofs.Back.{reading-length}
-use Rattle.telling.specs.Telling.{toldFirst}
+use Rattle.filling.specs.Told.{toldFirst}
 use Rattle.bytewise.specs.Bytewise.{bytesWritten, FileAnswers}
 use Rattle.baseline.proofs.Answered.{sound}
 use Rattle.bytewise.proofs.Rooms.{room-same}

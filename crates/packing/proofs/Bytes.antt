@@ -9,7 +9,7 @@ use lib.Seq.{drop-cons}
 use borrow.Rule.Slice.PartMut.{putMid}
 use Rattle.record.specs.Layout.{bytes, readingBytes}
 use Rattle.record.proofs.Back.{reading-length}
-use Rattle.telling.specs.Telling.{toldFirst}
+use Rattle.filling.specs.Told.{toldFirst}
 use Rattle.packing.proofs.Told.{tells-none, tells-whole}
 use Rattle.filling.proofs.Filling.{Filling, filling-part, filled}
 

@@ -8,7 +8,7 @@ use borrow.Author.Tests.{le-leb, lt-leb}
 use lib.ListN.{length, getD, drop, set, drop-of-length-le}
 use lib.Seq.{drop-cons}
 use Rattle.filling.proofs.Filling.{Filling, filling-one, filled}
-use Rattle.telling.specs.Telling.{toldFirst}
+use Rattle.filling.specs.Told.{toldFirst}
 
 pub tells-none : (numbers before : List ℕ) → length before < length numbers → before ≡ toldFirst numbers before
 unfolding toldFirst

@@ -2,7 +2,7 @@
 ghost use mathlib.Core.Path.{_≡_};
 ghost use lib.ListN.{length};
 ghost use Rattle.record.specs.Layout.{bytes, readingBytes};
-ghost use Rattle.telling.specs.Telling.{toldFirst};
+ghost use Rattle.filling.specs.Told.{toldFirst};
 
 // Numbers as they are: they stand first where all of them fit, and else nothing is changed.
 pub fn tell_first(numbers: &[u32], buffer: &mut [u32])

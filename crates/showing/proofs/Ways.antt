@@ -8,7 +8,7 @@ use Rattle.record.specs.declared.Read.{Read}
 use Rattle.record.specs.declared.Read.the-variants.{File, Refused}
 use Rattle.record.specs.declared.EventAt.{EventAt}
 use Rattle.record.specs.declared.EventAt.the-variants.{Event, NoEvent, Refused as RefusedEvent}
-use Rattle.telling.specs.Telling.{toldFirst}
+use Rattle.filling.specs.Told.{toldFirst}
 use Rattle.showing.specs.Showing.{shapeNumbers, ShapeCall, eventNumbers, EventCall}
 
 -- of a file

@@ -10,7 +10,7 @@ use Rattle.record.specs.declared.Read.{Read}
 use Rattle.record.specs.declared.Read.the-variants.{File, Refused}
 use Rattle.record.specs.declared.EventAt.{EventAt}
 use Rattle.record.specs.declared.EventAt.the-variants.{Event, NoEvent as NoneThere, Refused as RefusedEvent}
-use Rattle.telling.specs.Telling.{toldFirst}
+use Rattle.filling.specs.Told.{toldFirst}
 
 -- 0, or 11: "file not as laid down"
 abbrev pub fileNumber : Read → ℕ

@@ -14,7 +14,8 @@ use Rattle.method.specs.Adjustment.{places}
 use Rattle.answer.specs.declared.Given.{Given}
 use Rattle.answer.specs.declared.Given.the-variants.{Answered, Refused}
 use Rattle.answer.specs.declared.Answer.{Answer}
-use Rattle.telling.specs.Telling.{nineAnswered, nineOf, nineRefused, toldFirst, toldTo}
+use Rattle.filling.specs.Told.{toldFirst}
+use Rattle.telling.specs.Telling.{nineAnswered, nineOf, nineRefused, toldTo}
 
 nine-long : (g : Given) (a : Answer) → length (nineOf g a) ≡ 9
 unfolding nineAnswered nineRefused places

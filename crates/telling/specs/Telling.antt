@@ -1,10 +1,9 @@
 -- What a caller written in C is told of an answer.
 use Prim.Native.Nat.{ℕ}
-use mathlib.Core.Bool.{cond}
 use mathlib.Core.List.{List, [], _∷_, _++_, map}
-use lib.ListN.{length, getD, drop, replicate}
+use lib.ListN.{getD, replicate}
 use lib.IntN.{ℤ, pos}
-use lib.Dec.{leb}
+use Rattle.filling.specs.Told.{toldFirst}
 use Rattle.method.specs.declared.Refusal.{Refusal}
 use Rattle.method.specs.Adjustment.{places}
 use Rattle.method.specs.Verdict.{number}
@@ -18,10 +17,6 @@ use Rattle.answer.specs.declared.Answer.{Answer}
 abbrev pub numberOf : Given → ℕ
 numberOf Answered = 0
 numberOf (Refused w) = number w
-
--- a buffer that numbers are told into: they stand first where all of them fit, and else nothing is changed
-unfoldable pub toldFirst : {A : Type 0} → List A → List A → List A
-toldFirst numbers buffer = cond (leb (length numbers) (length buffer)) (numbers ++ drop (length numbers) buffer) buffer
 
 -- of an answer: how many days are chosen, the five places of the days, the reach, the denominator and the adjustment's numerator
 unfoldable pub nineAnswered : Answer → List ℤ
