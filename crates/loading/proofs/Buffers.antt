@@ -1,6 +1,6 @@
 -- What holds of buffers that a file was loaded into.
 use Prim.Native.Nat.{ℕ, _*_, _≤_}
-use mathlib.Core.Path.{_≡_, sym, ap, _∙_}
+use mathlib.Core.Path.{_≡_, sym, _∙_}
 use mathlib.Core.Bool.{Bool, true, false, cond, _&&_}
 use mathlib.Core.List.{List}
 use native.Mathlib.Omega.{arith}
@@ -13,7 +13,7 @@ use Rattle.record.specs.declared.Read.{Read}
 use Rattle.record.specs.declared.Read.the-variants.{File, Refused}
 use Rattle.loading.specs.declared.Loaded.{Loaded}
 use Rattle.loading.specs.declared.Loaded.the-variants.{File as LoadedFile, NoRoom, Refused as RefusedLoad}
-use Rattle.record.specs.Reader.{readFile, tableIn, tableWithin, shapeIn}
+use Rattle.record.specs.Reader.{readFile, tableIn, tableWithin}
 use Rattle.loading.specs.Loading.{loadedOf, loading, bufferAfter, filledIf}
 use Rattle.record.proofs.Files.{shape-fits}
 use Rattle.record.proofs.Lengths.{marks-held, readings-held}
@@ -28,35 +28,25 @@ loaded-accepted (File s) table m n {shape} e = go (leb (heldDays table) m && leb
     go false e = let z : _≡_ {A = ℕ} 0 1 = cc in absurd (omega arith)
 loaded-accepted (Refused at) table m n e = let z : _≡_ {A = ℕ} 0 1 = cc in absurd (omega arith)
 
-pub loaded-refused : (read : Read) (table : Table) (m n : ℕ) {at : ℕ} → loadedOf read table m n ≡ RefusedLoad at → read ≡ Refused at
-loaded-refused (File s) table m n {at} e = go (leb (heldDays table) m && leb (length (table .readings)) n) e
-  where
-    go : (x : Bool) → cond x (LoadedFile s) NoRoom ≡ RefusedLoad at → File s ≡ Refused at
-    go true e = let z : _≡_ {A = ℕ} 0 1 = cc in absurd (omega arith)
-    go false e = let z : _≡_ {A = ℕ} 0 1 = cc in absurd (omega arith)
-loaded-refused (Refused k) table m n {at} e = let same : k ≡ at = cc in rw same
-
 -- the first places of the buffers are the file's table
 pub record InBuffers (file : List ℕ) (shape : Shape) (marks readings : List ℕ) : Type 0 where
   pub accepted : readFile file ≡ File shape
   pub few : shape .days ≤ 128
   pub marks-size : length (take (shape .days) marks) ≡ shape .days
   pub readings-size : length (take (96 * shape .days) readings) ≡ 96 * shape .days
-  pub its-first : shape .first ≡ tableIn file .first
   pub its-marks : take (shape .days) marks ≡ tableIn file .marks
   pub its-readings : take (96 * shape .days) readings ≡ tableIn file .readings
 
 pub in-buffers : (file : List ℕ) {loaded : Loaded} (m n : ℕ) {marks readings : List ℕ} (marks₀ readings₀ : List ℕ) {shape : Shape}
     → loaded ≡ loading file m n → marks ≡ bufferAfter loaded (tableIn file .marks) marks₀
     → readings ≡ bufferAfter loaded (tableIn file .readings) readings₀ → loaded ≡ LoadedFile shape → InBuffers file shape marks readings
-unfolding loading shapeIn tableIn
+unfolding loading
 in-buffers file {loaded} m n {marks} {readings} marks₀ readings₀ {shape} s x y t =
     record {
       accepted = accepted;
       few = shape-fits file shape accepted .days;
       marks-size = rw first-marks (marks-held file accepted);
       readings-size = rw first-readings (readings-held file accepted);
-      its-first = ap (λ (s : Shape). s .first) (shape-fits file shape accepted .is-shape);
       its-marks = first-marks;
       its-readings = first-readings;
     }
