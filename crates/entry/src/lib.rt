@@ -42,7 +42,7 @@ fn loaded_baseline(
     }
 }
 
-// The same in buffers for 32 days, for 64 and for 128: to fill the largest takes as long as a month's baseline.
+// The same in buffers for 32 days, for 64 and for 128: every array is filled when it is made, which a month's file need not pay for 128.
 fn in_32_days(file: &[u8], shape: Shape, request: Request, out: &mut [u8]) -> Answer
     requires { ⌜ Fits (now file) shape 32 3072 ⌝ }
     ensures { λ r. ⌜ FileAnswers (verdict group (tableIn (now (file .entry))) request (length (now (out .entry)) / 4)) r (now (out .entry)) (now (out .exit)) ⌝ }
