@@ -31,7 +31,7 @@
 #define HP_VERSION_PATCH 0
 #define HP_VERSION "0.1.0"
 
-/* Stack, in bytes, that is enough for any entry. The entries over a file hold its marks and readings there (49,280 bytes). */
+/* Stack, in bytes, that is enough for any entry. The entries over a file hold its marks and readings there (up to 49,280 bytes). */
 #define HP_STACK 65536
 
 /* What an entry gives back. The refusals are tested in this order: 11, 12, then 1 to 10. After the colon: what told[0] and told[1] carry. */

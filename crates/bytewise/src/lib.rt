@@ -9,17 +9,10 @@ ghost use Rattle.bytewise.specs.Bytewise.{FileAnswers};
 use answer::Answer;
 use answer::Given;
 use method::Request;
+use numbers::sizes;
 
 // An event has at most a day's quarters.
 const QUARTERS: usize = 96;
-
-// How many numerators a buffer of so many bytes holds, up to a day's.
-fn room_of(size: usize) -> usize
-    ensures { λ r. ⌜ r ≡ min (size / 4) 96 ⌝ }
-{
-    let room = size / 4;
-    if room < QUARTERS { room } else { QUARTERS }
-}
 
 // The baseline over a table, worked out in a buffer of numbers, and the numerators put as bytes.
 fn through_numbers(
@@ -56,7 +49,7 @@ pub fn table_baseline(
     ensures { λ r. ⌜ FileAnswers (verdict group (tableOf first (now (marks .entry)) (now (readings .entry))) request (length (now (out .entry)) / 4)) r (now (out .entry)) (now (out .exit)) ⌝ }
 {
     let mut numerators = [0u32; QUARTERS];
-    let room = room_of(out.len());
+    let room = sizes::least(out.len() / 4, QUARTERS);
     through_numbers(
         first,
         marks,

@@ -53,8 +53,8 @@ fn is_fixed_holiday(day: u32) -> bool
         | ((later == 120) | ((later == 226) | ((later == 300) | ((later == 358) | (later == 359)))))
 }
 
-// `day` is one of the six holidays of its year that are counted from Easter Sunday. They begin with Clean Monday, 48 days before it; 11 are the
-// 59 days before March less these. Easter is worked out only where they can lie, from 15 February to the end of June.
+// `day` is one of the six holidays of its year that are counted from Easter Sunday. They begin with Clean Monday, 48 days before it: 11 is
+// the 59 days before March of a common year less those 48. Easter is worked out only where they can lie, from 15 February to the end of June.
 fn is_easter_holiday(day: u32) -> bool
     requires { ⌜ day ≤ lastDay ⌝ }
     ensures { λ r. ⌜ r ≡ member day (easterHolidays (yearOf day)) ⌝ }

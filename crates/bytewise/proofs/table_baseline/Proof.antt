@@ -5,17 +5,17 @@ use borrow.Author.Needs.{needs}
 use Rattle.bytewise.proofs.table_baseline.Statement.{statement}
 use Rattle.bytewise.proofs.table_baseline.Tie as tie
 
-room-of-requires : tie.Need-room-of-requires
-room-of-requires c κs = search needs
+least-requires : tie.Need-least-requires
+least-requires c κs = search needs
 
 array-borrow-prefix-numerators : tie.Need-array-borrow-prefix-numerators
 array-borrow-prefix-numerators c = search needs
 
 slice-aggregate-through-numbers : tie.Need-slice-aggregate-through-numbers
-slice-aggregate-through-numbers c = simp length-take (omega (arith, c .before .room-of .ensures))
+slice-aggregate-through-numbers c = simp length-take (omega (arith, c .before .least .ensures))
 
 through-numbers-requires : tie.Need-through-numbers-requires
-through-numbers-requires c κs = simp length-take (omega (arith, c .before .before .room-of .ensures))
+through-numbers-requires c κs = simp length-take (omega (arith, c .before .before .least .ensures))
 
 same-length : tie.Need-same-length
 same-length c = search needs
@@ -27,7 +27,7 @@ pub table-baseline-spec : {M : Type 1} → statement M
 table-baseline-spec =
     tie.close
     (tie.spec
-    room-of-requires
+    least-requires
     array-borrow-prefix-numerators
     slice-aggregate-through-numbers
     through-numbers-requires
