@@ -5,28 +5,23 @@ use mathlib.Core.List.{List}
 use lib.IntN.{ℤ}
 use Rattle.method.specs.Verdict.{Reply}
 use Rattle.answer.specs.declared.Answer.{Answer}
+use Rattle.answer.specs.Answer.{answerOf}
 use Rattle.baseline.specs.Ready.{Answers}
 use Rattle.bytewise.specs.Bytewise.{FileAnswers}
-use Rattle.telling.specs.Telling.{numberOf, toldTo}
-use Rattle.host.specs.Host.{TableCall, FileCall, FileTold}
+use Rattle.telling.specs.Telling.{numberOf, toldBy}
+use Rattle.host.specs.Host.{TableCall, FileCall}
 
 module _ {reply : Reply} {answer : Answer} {r : ℕ} {out out′ : List ℕ} (n : r ≡ numberOf (answer .given)) where
   pub file-call : FileAnswers reply answer out out′ → FileCall reply r out out′
   file-call q = record { result = n ∙ ap (λ (a : Answer). numberOf (a .given)) (q .answer); output = q .output }
 
-  module _ {told told′ : List ℤ} (t : told′ ≡ toldTo answer told) where
-    pub file-told : FileAnswers reply answer out out′ → FileTold reply r out out′ told told′
-    file-told q =
-        record {
-          result = n ∙ ap (λ (a : Answer). numberOf (a .given)) (q .answer);
-          output = q .output;
-          telling = t ∙ ap (λ (a : Answer). toldTo a told) (q .answer);
-        }
+  pub table-call : Answers reply answer out out′ → TableCall reply r out out′
+  table-call q = record { result = n ∙ ap (λ (a : Answer). numberOf (a .given)) (q .answer); output = q .output }
 
-    pub table-call : Answers reply answer out out′ → TableCall reply r out out′ told told′
-    table-call q =
-        record {
-          result = n ∙ ap (λ (a : Answer). numberOf (a .given)) (q .answer);
-          output = q .output;
-          telling = t ∙ ap (λ (a : Answer). toldTo a told) (q .answer);
-        }
+-- what the answer of a call tells
+module _ {reply : Reply} {answer : Answer} {out out′ : List ℕ} (name : ℕ) {x : ℤ} (t : x ≡ toldBy answer name) where
+  pub file-told : FileAnswers reply answer out out′ → x ≡ toldBy (answerOf reply) name
+  file-told q = t ∙ ap (λ (a : Answer). toldBy a name) (q .answer)
+
+  pub table-told : Answers reply answer out out′ → x ≡ toldBy (answerOf reply) name
+  table-told q = t ∙ ap (λ (a : Answer). toldBy a name) (q .answer)

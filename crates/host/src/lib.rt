@@ -1,13 +1,22 @@
 // The entries for C. Each is total: any bytes, any numbers, any lengths.
+ghost use mathlib.Core.Path.{_≡_};
 ghost use lib.ListN.{length};
 ghost use Rattle.calendar.specs.Holidays.{group};
 ghost use Rattle.method.specs.Verdict.{verdict};
 ghost use Rattle.table.specs.Lent.{tableOf};
+ghost use Rattle.table.specs.Part.{placeOf};
 ghost use Rattle.record.specs.Reader.{readFile, eventAtPlace};
-ghost use Rattle.showing.specs.Showing.{ShapeCall, EventCall};
+ghost use Rattle.answer.specs.Answer.{answerOf};
 ghost use Rattle.entry.specs.Entry.{fileReply};
-ghost use Rattle.host.specs.Host.{requestOf, TableCall, FileCall, FileTold};
+ghost use Rattle.telling.specs.Telling.{toldBy};
+ghost use Rattle.showing.specs.Showing.{fileTold, eventTold, placeTold};
+ghost use Rattle.host.specs.Host.{requestOf, TableCall, FileCall};
 use method::Request;
+
+// An event has at most 96 quarters: room for the numerators of any.
+const MOST_QUARTERS: usize = 96;
+
+const MOST_BYTES: usize = 384;
 
 // The baseline of an event of a record file: 0 or the refusal number, and the numerators into `out`, four bytes each, the lowest first.
 #[no_mangle]
@@ -19,41 +28,29 @@ pub extern "C" fn hp_baseline(file: &[u8], place: usize, out: &mut [u8]) -> u32
     telling::number_of(given)
 }
 
-// The same, and what the answer tells into `told`.
+// What that result tells by name, with room for any event.
 #[no_mangle]
-pub extern "C" fn hp_baseline_told(
-    file: &[u8],
-    place: usize,
-    out: &mut [u8],
-    told: &mut [i64],
-) -> u32
-    ensures { λ r. ⌜ FileTold (fileReply (now (file .entry)) place (length (now (out .entry)))) r (now (out .entry)) (now (out .exit)) (now (told .entry)) (now (told .exit)) ⌝ }
+pub extern "C" fn hp_told(file: &[u8], place: usize, name: u32) -> i64
+    ensures { λ r. ⌜ r ≡ toldBy (answerOf (fileReply (now (file .entry)) place 384)) name ⌝ }
 {
-    let whole_answer = entry::file_baseline(file, place, out);
-    telling::tell(whole_answer, told);
-    let given = whole_answer.given;
-    telling::number_of(given)
+    let mut out = [0u8; MOST_BYTES];
+    let file_answer = entry::file_baseline(file, place, &mut out);
+    telling::tell(file_answer, name)
 }
 
-// What a record file holds: 0 or 11; P, the portfolio number, F, h and the number of events into `shape`.
-#[no_mangle]
-pub extern "C" fn hp_file(file: &[u8], shape: &mut [u32]) -> u32
-    ensures { λ r. ⌜ ShapeCall (readFile (now (file .entry))) r (now (shape .entry)) (now (shape .exit)) ⌝ }
+fn request_of(participation: u32, event: u32, s: u32, e: u32, n: u32) -> Request
+    ensures { λ r. ⌜ r ≡ requestOf participation event s e n ⌝ }
 {
-    let read = record::read_file(file);
-    showing::tell_file(read, shape)
+    Request {
+        participation,
+        event,
+        s,
+        e,
+        n,
+    }
 }
 
-// The event at a place of a record file: 0, 11 or 12; D, s, e and n into `event`.
-#[no_mangle]
-pub extern "C" fn hp_event(file: &[u8], place: usize, event: &mut [u32]) -> u32
-    ensures { λ r. ⌜ EventCall (eventAtPlace (readFile (now (file .entry))) (now (file .entry)) place) r (now (event .entry)) (now (event .exit)) ⌝ }
-{
-    let at = record::event_at(file, place);
-    showing::tell_event(at, event)
-}
-
-// The baseline over a table in memory: 0 or the refusal number, the numerators into `out`, and what the answer tells into `told`.
+// The baseline over a table in memory: 0 or the refusal number, and the numerators into `out`.
 #[no_mangle]
 pub extern "C" fn hp_baseline_table(
     first: u32,
@@ -65,19 +62,59 @@ pub extern "C" fn hp_baseline_table(
     e: u32,
     n: u32,
     out: &mut [u32],
-    told: &mut [i64],
 ) -> u32
-    ensures { λ r. ⌜ TableCall (verdict group (tableOf first (now (marks .entry)) (now (readings .entry))) (requestOf participation event s e n) (length (now (out .entry)))) r (now (out .entry)) (now (out .exit)) (now (told .entry)) (now (told .exit)) ⌝ }
+    ensures { λ r. ⌜ TableCall (verdict group (tableOf first (now (marks .entry)) (now (readings .entry))) (requestOf participation event s e n) (length (now (out .entry)))) r (now (out .entry)) (now (out .exit)) ⌝ }
 {
-    let request = Request {
-        participation,
-        event,
-        s,
-        e,
-        n,
-    };
+    let request = request_of(participation, event, s, e, n);
     let table_answer = baseline::baseline(first, marks, readings, request, out);
-    telling::tell(table_answer, told);
     let given = table_answer.given;
     telling::number_of(given)
+}
+
+// What that result tells by name, with room for any event.
+#[no_mangle]
+pub extern "C" fn hp_told_table(
+    first: u32,
+    marks: &[u8],
+    readings: &[u32],
+    participation: u32,
+    event: u32,
+    s: u32,
+    e: u32,
+    n: u32,
+    name: u32,
+) -> i64
+    ensures { λ r. ⌜ r ≡ toldBy (answerOf (verdict group (tableOf first (now (marks .entry)) (now (readings .entry))) (requestOf participation event s e n) 96)) name ⌝ }
+{
+    let request = request_of(participation, event, s, e, n);
+    let mut out = [0u32; MOST_QUARTERS];
+    let answer = baseline::baseline(first, marks, readings, request, &mut out);
+    telling::tell(answer, name)
+}
+
+// The place of a day's first reading in a table in memory.
+#[no_mangle]
+pub extern "C" fn hp_day_part(first: u32, marks: &[u8], readings: &[u32], day: u32) -> i64
+    ensures { λ r. ⌜ r ≡ placeTold (placeOf (tableOf first (now (marks .entry)) (now (readings .entry))) day) ⌝ }
+{
+    let place = table::part_place(first, marks, readings, day);
+    showing::tell_place(place)
+}
+
+// What a record file tells by name: what it holds, or refusal 11.
+#[no_mangle]
+pub extern "C" fn hp_file(file: &[u8], name: u32) -> i64
+    ensures { λ r. ⌜ r ≡ fileTold (readFile (now (file .entry))) name ⌝ }
+{
+    let read = record::read_file(file);
+    showing::tell_file(read, name)
+}
+
+// What the event at a place of a record file tells by name: the event, or refusal 11 or 12.
+#[no_mangle]
+pub extern "C" fn hp_event(file: &[u8], place: usize, name: u32) -> i64
+    ensures { λ r. ⌜ r ≡ eventTold (eventAtPlace (readFile (now (file .entry))) (now (file .entry)) place) name ⌝ }
+{
+    let at = record::event_at(file, place);
+    showing::tell_event(at, name)
 }

@@ -10,7 +10,7 @@ use borrow.Rule.Slice.PartMut.{putMid}
 use Rattle.record.specs.Layout.{bytes, readingBytes}
 use Rattle.record.proofs.Back.{reading-length}
 use Rattle.filling.specs.Told.{toldFirst}
-use Rattle.packing.proofs.Told.{tells-none, tells-whole}
+use Rattle.filling.proofs.Told.{tells-none, tells-whole}
 use Rattle.filling.proofs.Filling.{Filling, filling-part, filled}
 
 pub four-set : (l : List ℕ) (a b c d : ℕ) → length l ≡ 4 → set (set (set (set l 0 a) 1 b) 2 c) 3 d ≡ a ∷ b ∷ c ∷ d ∷ []

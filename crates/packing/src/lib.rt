@@ -1,22 +1,8 @@
-// Numbers put first into a lent buffer where all of them fit: as they are, or as four bytes each.
+// Numbers put first into a lent buffer, four bytes each, where all of them fit.
 ghost use mathlib.Core.Path.{_≡_};
 ghost use lib.ListN.{length};
 ghost use Rattle.record.specs.Layout.{bytes, readingBytes};
 ghost use Rattle.filling.specs.Told.{toldFirst};
-
-// Numbers as they are: they stand first where all of them fit, and else nothing is changed.
-pub fn tell_first(numbers: &[u32], buffer: &mut [u32])
-    ensures { λ _. ⌜ now (buffer .exit) ≡ toldFirst (now (numbers .entry)) (now (buffer .entry)) ⌝ }
-{
-    if buffer.len() < numbers.len() {
-        return;
-    }
-    let mut i = 0;
-    while i < numbers.len() {
-        buffer[i] = numbers[i];
-        i += 1;
-    }
-}
 
 // A number as four bytes, the lowest first.
 fn put_number(out: &mut [u8], number: u32)

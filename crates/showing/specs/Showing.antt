@@ -1,49 +1,46 @@
--- What a caller written in C is told of a file and of an event in it.
+-- What a caller written in C is told of a file, of an event in it, and of the part of a day, by the names of include/honeyplank.h.
 use Prim.Native.Nat.{ℕ}
-use mathlib.Core.Path.{_≡_}
 use mathlib.Core.List.{List, [], _∷_}
+use lib.IntN.{ℤ, pos}
 use Rattle.method.specs.declared.Request.{Request}
 use Rattle.method.specs.declared.Refusal.the-variants.{BadFile, NoEvent}
-use Rattle.method.specs.Verdict.{number}
 use Rattle.record.specs.declared.Shape.{Shape}
 use Rattle.record.specs.declared.Read.{Read}
 use Rattle.record.specs.declared.Read.the-variants.{File, Refused}
 use Rattle.record.specs.declared.EventAt.{EventAt}
 use Rattle.record.specs.declared.EventAt.the-variants.{Event, NoEvent as NoneThere, Refused as RefusedEvent}
-use Rattle.filling.specs.Told.{toldFirst}
+use Rattle.table.specs.declared.Place.{Place}
+use Rattle.table.specs.declared.Place.the-variants.{Nowhere, From}
+use Rattle.telling.specs.Names.{nothing, named, refusalRow, rowFrom}
 
--- 0, or 11: "file not as laid down"
-abbrev pub fileNumber : Read → ℕ
-fileNumber (File shape) = 0
-fileNumber (Refused at) = number (BadFile at)
+-- from HP_FILE_PARTICIPATION on, which is 12: P, the portfolio number, F, h and the number of events
+unfoldable pub shapeRow : Shape → List ℤ
+shapeRow shape =
+    rowFrom 12
+    (pos (shape .participation) ∷ pos (shape .portfolio) ∷ pos (shape .first) ∷ pos (shape .days) ∷ pos (shape .events) ∷ [])
 
--- P, the portfolio number, F, h and the number of events
-abbrev pub shapeNumbers : Shape → List ℕ
-shapeNumbers shape = shape .participation ∷ shape .portfolio ∷ shape .first ∷ shape .days ∷ shape .events ∷ []
+abbrev pub fileRow : Read → List ℤ
+fileRow (File shape) = shapeRow shape
+fileRow (Refused at) = refusalRow (BadFile at)
 
-abbrev pub shapeTold : Read → List ℕ → List ℕ
-shapeTold (File shape) buffer = toldFirst (shapeNumbers shape) buffer
-shapeTold (Refused at) buffer = buffer
+-- what a file tells by name; refused, it is 11: "file not as laid down"
+unfoldable pub fileTold : Read → ℕ → ℤ
+fileTold read name = named (fileRow read) name
 
-pub record ShapeCall (read : Read) (r : ℕ) (shape shape′ : List ℕ) : Type 0 where
-  pub result : r ≡ fileNumber read
-  pub output : shape′ ≡ shapeTold read shape
+-- from HP_EVENT_DAY on, which is 17: D, s, e and n
+unfoldable pub requestRow : Request → List ℤ
+requestRow r = rowFrom 17 (pos (r .event) ∷ pos (r .s) ∷ pos (r .e) ∷ pos (r .n) ∷ [])
 
--- 0, 11, or 12: "no event at that place"
-abbrev pub eventNumber : EventAt → ℕ
-eventNumber (Event request) = 0
-eventNumber NoneThere = number NoEvent
-eventNumber (RefusedEvent at) = number (BadFile at)
+abbrev pub eventRow : EventAt → List ℤ
+eventRow (Event request) = requestRow request
+eventRow NoneThere = refusalRow NoEvent
+eventRow (RefusedEvent at) = refusalRow (BadFile at)
 
--- D, s, e and n
-abbrev pub eventNumbers : Request → List ℕ
-eventNumbers r = r .event ∷ r .s ∷ r .e ∷ r .n ∷ []
+-- what an event tells by name; refused, it is 11, or 12: "no event at that place"
+unfoldable pub eventTold : EventAt → ℕ → ℤ
+eventTold at name = named (eventRow at) name
 
-abbrev pub eventTold : EventAt → List ℕ → List ℕ
-eventTold (Event request) buffer = toldFirst (eventNumbers request) buffer
-eventTold NoneThere buffer = buffer
-eventTold (RefusedEvent at) buffer = buffer
-
-pub record EventCall (at : EventAt) (r : ℕ) (event event′ : List ℕ) : Type 0 where
-  pub result : r ≡ eventNumber at
-  pub output : event′ ≡ eventTold at event
+-- the place of a day's first reading
+abbrev pub placeTold : Place → ℤ
+placeTold Nowhere = nothing
+placeTold (From at) = pos at

@@ -1,39 +1,72 @@
-// What a caller written in C is told of a record file and of an event in it: 0 or the refusal number, and the numbers.
-ghost use Rattle.showing.specs.Showing.{ShapeCall, EventCall};
+// What a caller written in C is told of a record file, of an event in it, and of the part of a day: the number of a name of
+// include/honeyplank.h.
+ghost use mathlib.Core.Path.{_≡_};
+ghost use Rattle.telling.specs.Names.{named};
+ghost use Rattle.showing.specs.Showing.{shapeRow, fileTold, requestRow, eventTold, placeTold};
+use method::Refusal;
+use method::Request;
 use record::EventAt;
 use record::Read;
+use record::Shape;
+use table::Place;
+use telling::NOTHING;
 
-// Of what reading a file gave: 0 or 11; P, the portfolio number, F, h and the number of events into `shape`.
-pub fn tell_file(read: Read, shape: &mut [u32]) -> u32
-    ensures { λ r. ⌜ ShapeCall read r (now (shape .entry)) (now (shape .exit)) ⌝ }
+// Of a file that is as laid down.
+fn tell_shape(shape: Shape, name: u32) -> i64
+    ensures { λ r. ⌜ r ≡ named (shapeRow shape) name ⌝ }
 {
-    match read {
-        Read::Refused(_) => 11,
-        Read::File(held) => {
-            let five = [
-                held.participation,
-                held.portfolio,
-                held.first,
-                held.days,
-                held.events,
-            ];
-            packing::tell_first(&five, shape);
-            0
-        }
+    match name {
+        0 => 0,
+        12 => telling::signed(shape.participation),
+        13 => telling::signed(shape.portfolio),
+        14 => telling::signed(shape.first),
+        15 => telling::signed(shape.days),
+        16 => telling::signed(shape.events),
+        _ => NOTHING,
     }
 }
 
-// Of the event at a place: 0, 11 or 12; D, s, e and n into `event`.
-pub fn tell_event(at: EventAt, event: &mut [u32]) -> u32
-    ensures { λ r. ⌜ EventCall at r (now (event .entry)) (now (event .exit)) ⌝ }
+// Of what reading a file gave: what it holds, or refusal 11.
+pub fn tell_file(read: Read, name: u32) -> i64
+    ensures { λ r. ⌜ r ≡ fileTold read name ⌝ }
+{
+    match read {
+        Read::Refused(at) => telling::tell_refusal(Refusal::BadFile(at), name),
+        Read::File(shape) => tell_shape(shape, name),
+    }
+}
+
+// Of an event.
+fn tell_request(request: Request, name: u32) -> i64
+    ensures { λ r. ⌜ r ≡ named (requestRow request) name ⌝ }
+{
+    match name {
+        0 => 0,
+        17 => telling::signed(request.event),
+        18 => telling::signed(request.s),
+        19 => telling::signed(request.e),
+        20 => telling::signed(request.n),
+        _ => NOTHING,
+    }
+}
+
+// Of the event at a place: what it asks, or refusal 11 or 12.
+pub fn tell_event(at: EventAt, name: u32) -> i64
+    ensures { λ r. ⌜ r ≡ eventTold at name ⌝ }
 {
     match at {
-        EventAt::Refused(_) => 11,
-        EventAt::NoEvent => 12,
-        EventAt::Event(request) => {
-            let four = [request.event, request.s, request.e, request.n];
-            packing::tell_first(&four, event);
-            0
-        }
+        EventAt::Refused(start) => telling::tell_refusal(Refusal::BadFile(start), name),
+        EventAt::NoEvent => telling::tell_refusal(Refusal::NoEvent, name),
+        EventAt::Event(request) => tell_request(request, name),
+    }
+}
+
+// Of the part of a day: the place of its first reading.
+pub fn tell_place(place: Place) -> i64
+    ensures { λ r. ⌜ r ≡ placeTold place ⌝ }
+{
+    match place {
+        Place::Nowhere => NOTHING,
+        Place::From(at) => telling::signed(at),
     }
 }

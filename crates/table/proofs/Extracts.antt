@@ -1,6 +1,6 @@
 -- What the tests of a lent table say: one law for each way out of the code.
 use Prim.Native.Nat.{ℕ, _+_, _-_, _*_, _≤_, _<_}
-use mathlib.Core.Path.{_≡_, sym, _∙_}
+use mathlib.Core.Path.{_≡_, sym, ap, _∙_}
 use mathlib.Core.Bool.{Bool, true, false, not, _&&_}
 use mathlib.Core.List.{List, []}
 use mathlib.Core.Logic.{⊎-elim}
@@ -8,11 +8,12 @@ use native.Mathlib.Omega.{arith}
 use borrow.Author.Tests.{le-leb, lt-leb, eq-eqb, ne-eqb, leb-true, eqb-true, eqb-false, not-true, lt-ltb, le-ltb, ltb-true}
 use lib.Dec.{leb, ltb, eqb}
 use lib.ListN.{length, take, drop, length-take, length-drop}
-use Rattle.lists.proofs.Bools.{both, lt-or-le, and-left, and-right}
+use Rattle.lists.proofs.Bools.{bool-cases, both, lt-or-le, and-left, and-right}
 use Rattle.dates.specs.Days.{lastDay}
 use Rattle.method.specs.Table.{Table, heldDays, offset, shaped, isExtract, held, history, size, dayOf, dayPart}
 use Rattle.method.proofs.Tables.{offset-is}
-use Rattle.table.specs.Part.{hasDay, partStart, DayPart}
+use Rattle.table.specs.declared.Place.the-variants.{Nowhere, From}
+use Rattle.table.specs.Part.{hasDay, partStart, DayPart, placeOf}
 
 -- the tests of refusal 1, in code's form
 pub record Extract (t : Table) : Type 0 where
@@ -152,3 +153,21 @@ module _ (t : Table) (day : ℕ) where
   pub part-is : hasDay t day ≡ true → dayPart t day ≡ dayOf t day .readings
   unfolding dayPart hasDay
   part-is e = rw e
+
+  -- where the part of a day stands, by each way out of the code
+  module _ {part : List ℕ} (e : part ≡ dayPart t day) where
+    pub place-nowhere : length part ≡ 0 → Nowhere ≡ placeOf t day
+    unfolding placeOf
+    place-nowhere h = rw (← e, eq-eqb (length part) 0 h)
+
+    module _ (some : length part ≡ 0 → ⊥) where
+      pub part-some : hasDay t day ≡ true
+      part-some = ⊎-elim (λ h. h) (λ h. absurd (some (ap length (e ∙ part-empty h)))) (bool-cases (hasDay t day))
+
+      pub place-from : {start : ℕ} → start ≡ offset (t .first) (day - t .first) → From start ≡ placeOf t day
+      unfolding placeOf partStart
+      place-from s = rw (← e, ne-eqb (length part) 0 some, part-some, s)
+
+  -- it is a place among at most 128 days of readings
+  pub place-small : hasDay t day ≡ true → offset (t .first) (day - t .first) < 12288
+  place-small h = omega (arith, has-inside h .2, extract-is t (has-is h .0))

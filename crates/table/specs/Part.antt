@@ -3,7 +3,11 @@ use Prim.Native.Nat.{ℕ, _+_, _-_, _*_}
 use mathlib.Core.Path.{_≡_}
 use mathlib.Core.Bool.{Bool, cond, _&&_}
 use mathlib.Core.List.{List}
+use lib.ListN.{length}
+use lib.Dec.{eqb}
 use Rattle.method.specs.Table.{Table, isExtract, held, history, offset, dayPart}
+use Rattle.table.specs.declared.Place.{Place}
+use Rattle.table.specs.declared.Place.the-variants.{Nowhere, From}
 
 -- the table is one that refusal 1 lets pass, and it holds the day
 unfoldable pub hasDay : Table → ℕ → Bool
@@ -18,3 +22,7 @@ pub record DayPart (t : Table) (day : ℕ) (whole : ℕ × ℕ) (part : List ℕ
   pub list : part ≡ dayPart t day
   pub block : at .0 ≡ whole .0
   pub byte : at .1 ≡ whole .1 + 4 * partStart t day
+
+-- where the part stands among the readings; an empty part stands nowhere
+unfoldable pub placeOf : Table → ℕ → Place
+placeOf t day = cond (eqb (length (dayPart t day)) 0) Nowhere (From (partStart t day))

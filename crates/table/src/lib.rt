@@ -6,9 +6,15 @@ ghost use Prim.Native.Nat.{ℕ, _-_, _≤_};
 ghost use Rattle.method.specs.Table.{isExtract, held, history, offset};
 ghost use Rattle.table.specs.Lent.{tableOf};
 ghost use Rattle.table.specs.Directory.{entriesOf, directoryOf};
-ghost use Rattle.table.specs.Part.{hasDay, DayPart};
+ghost use Rattle.table.specs.Part.{hasDay, DayPart, placeOf};
 use numbers::counts;
 use rooms::Directory;
+
+// Where a day's readings stand among the lent ones: the place of the first of them, or nowhere.
+pub enum Place {
+    Nowhere,
+    From(u32),
+}
 
 // 31 December 2099
 const LAST_DAY: usize = 36524;
@@ -110,5 +116,17 @@ pub fn day_part<'a>(first: u32, marks: &[u8], readings: &'a [u32], day: u32) -> 
     } else {
         let none = 0;
         &readings[none..none]
+    }
+}
+
+// Where that part stands in the lent readings; an empty part stands nowhere.
+pub fn part_place(first: u32, marks: &[u8], readings: &[u32], day: u32) -> Place
+    ensures { λ r. ⌜ r ≡ placeOf (tableOf first (now (marks .entry)) (now (readings .entry))) day ⌝ }
+{
+    let part = day_part(first, marks, readings, day);
+    if part.len() == 0 {
+        Place::Nowhere
+    } else {
+        Place::From(offset(first, day) as u32)
     }
 }

@@ -1,41 +1,104 @@
--- What is told, where all nine numbers fit and where not, and a signed number that is stored and read again.
-use Prim.Native.Nat.{ℕ, _≤_, _<_, _^_}
+-- What is told by name: one law for each way out of the code.
+use Prim.Native.Nat.{ℕ, zero, suc, _+_, _-_, _≤_, _<_, _^_, min}
 use mathlib.Core.Path.{_≡_, refl, sym, ap, _∙_}
-use mathlib.Core.List.{List, _++_}
+use mathlib.Core.List.{List, [], _∷_, _++_, map}
+use mathlib.Core.Logic.{⊎-elim}
+use native.Mathlib.Omega.{arith}
 use borrow.Author.Needs.{sfits-of}
-use borrow.Author.Tests.{le-leb, lt-leb}
-use lib.ListN.{length, drop}
+use lib.ListN.{length, getD, take, replicate, length-map, length-take, length-replicate, length-append, List·getD-eq-default, List·getD-append, getD-replicate}
+use lib.Seq.{getD-take}
 use lib.IntN.{ℤ, pos}
 use lib.Signed.{mag}
 use mir.Syntax.{w64}
 use mir.Val.{toZ, ofZ}
 use mir.ValLaws.{toZ-ofZ}
-use Rattle.method.specs.Adjustment.{places}
+use Rattle.lists.proofs.Bools.{lt-or-le}
+use Rattle.method.specs.declared.Refusal.{Refusal}
+use Rattle.carried.specs.declared.Told.{Told}
+use Rattle.carried.specs.Told.{toldOf}
+use Rattle.carried.proofs.Carried.{tells}
 use Rattle.answer.specs.declared.Given.{Given}
-use Rattle.answer.specs.declared.Given.the-variants.{Answered, Refused}
 use Rattle.answer.specs.declared.Answer.{Answer}
-use Rattle.filling.specs.Told.{toldFirst}
-use Rattle.telling.specs.Telling.{nineAnswered, nineOf, nineRefused, toldTo}
+use Rattle.telling.specs.Names.{nothing, named, refusalRow, rowFrom}
+use Rattle.telling.specs.Telling.{dayOfRank, answerRow, rowOf, toldBy}
 
-nine-long : (g : Given) (a : Answer) → length (nineOf g a) ≡ 9
-unfolding nineAnswered nineRefused places
-nine-long Answered a = refl
-nine-long (Refused w) a = refl
+-- a signed number that a call gave back
+pub back : (z : ℤ) {x : ℤ} → mag z < 2 ^ 63 → z ≡ x → toZ w64 (ofZ w64 z) ≡ x
+back z h e = toZ-ofZ w64 z (sfits-of h) ∙ e
 
-pub tells : (a : Answer) (told : List ℤ) {g : Given} {told′ nine : List ℤ} → 9 ≤ length told → a .given ≡ g → nine ≡ nineOf g a
-    → told′ ≡ nine ++ drop 9 told → told′ ≡ toldTo a told
-unfolding toldTo toldFirst
-tells a told room e n h =
-    rw (nine-long (a .given) a, le-leb 9 (length told) room)
-    (h ∙ ap (λ (l : List ℤ). l ++ drop 9 told) (n ∙ ap (λ (g : Given). nineOf g a) (sym e)))
+-- past a row
+pub past : (row : List ℤ) (name : ℕ) → length row ≤ name → nothing ≡ named row name
+unfolding named
+past row name h = sym (List·getD-eq-default row nothing h)
 
-pub tells-nothing : (a : Answer) (told : List ℤ) → length told < 9 → told ≡ toldTo a told
-unfolding toldTo toldFirst
-tells-nothing a told none = rw (nine-long (a .given) a, lt-leb 9 (length told) none)
+-- one of the first `count` numbers, and what is past them
+module _ (count : ℕ) (numbers : List ℕ) (place : ℕ) where
+  pub number-past : min count (length numbers) ≤ place → nothing ≡ named (map pos (take count numbers)) place
+  number-past h =
+      past (map pos (take count numbers)) place (rw (length-map (take count numbers) pos, length-take count numbers) h)
 
-pub back : (z : ℤ) → mag z < 2 ^ 63 → toZ w64 (ofZ w64 z) ≡ z
-back z h = toZ-ofZ w64 z (sfits-of h)
+  pub number-there : place < count → place < length numbers → pos (getD numbers place 0) ≡ named (map pos (take count numbers)) place
+  unfolding named
+  number-there h k =
+      let within : place < length (take count numbers) = rw (length-take count numbers) (omega arith) in
+      ap pos (sym (getD-take count numbers place 0 h)) ∙ sym (at-each (take count numbers) place within)
+    where
+      at-each : (l : List ℕ) (i : ℕ) → i < length l → getD (map pos l) i nothing ≡ pos (getD l i 0)
+      at-each [] i o = absurd (omega arith)
+      at-each (x ∷ l) zero o = refl
+      at-each (x ∷ l) (suc i) o = at-each l i (omega arith)
 
--- a number that was made signed, stored and read again
-pub back-pos : (z : ℤ) {x : ℕ} → mag z < 2 ^ 63 → z ≡ pos x → toZ w64 (ofZ w64 z) ≡ pos x
-back-pos z h e = back z h ∙ e
+-- of a refusal
+module _ (w : Refusal) {told : Told} (e : told ≡ toldOf w) where
+  pub refusal-number : {name : ℕ} → name ≡ 0 → pos (told .number) ≡ named (refusalRow w) name
+  unfolding named refusalRow
+  refusal-number z = rw z (ap pos (tells e .numbered))
+
+  pub refusal-carries : (name : ℕ) {x : ℤ} → (name ≡ 0 → ⊥) → x ≡ named (map pos (take (told .count) (told .carried))) (name - 1)
+      → x ≡ named (refusalRow w) name
+  unfolding named refusalRow
+  refusal-carries name z h =
+      let k : name ≡ suc (name - 1) = omega arith in
+      rw k (rw (tells e .carried) at h)
+
+-- of what is not refused: a name that is neither 0 nor one of those from `first` on
+pub no-name : (first : ℕ) (numbers : List ℤ) (name : ℕ) → 0 < first → 0 < name → (first ≤ name → first + length numbers ≤ name)
+    → nothing ≡ named (rowFrom first numbers) name
+unfolding named rowFrom
+no-name first numbers zero f o h = absurd (omega arith)
+no-name first numbers (suc name) f o h = ⊎-elim before after (lt-or-le (suc name) first)
+  where
+    none : List ℤ
+    none = replicate (first - 1) nothing
+
+    before : suc name < first → nothing ≡ getD (none ++ numbers) name nothing
+    before k =
+        let within : name < length none = rw (length-replicate (first - 1) nothing) (omega arith) in
+        sym (List·getD-append none numbers nothing name within ∙ getD-replicate (first - 1) name nothing nothing (omega arith))
+
+    after : first ≤ suc name → nothing ≡ getD (none ++ numbers) name nothing
+    after k =
+        let all = h k in
+        sym (List·getD-eq-default (none ++ numbers) nothing (rw (length-append none numbers, length-replicate (first - 1) nothing) (omega arith)))
+
+-- the day of a rank
+rank-told : (a : Answer) (rank : ℕ) → rank < 5 → dayOfRank (a .chosen) rank ≡ named (answerRow a) (4 + rank)
+unfolding named answerRow rowFrom
+rank-told a zero h = refl
+rank-told a (suc zero) h = refl
+rank-told a (suc (suc zero)) h = refl
+rank-told a (suc (suc (suc zero))) h = refl
+rank-told a (suc (suc (suc (suc zero)))) h = refl
+rank-told a (suc (suc (suc (suc (suc rank))))) h = absurd (omega arith)
+
+pub day-told : (a : Answer) (name : ℕ) {x : ℤ} → 4 ≤ name → name ≤ 8 → x ≡ named (map pos (take (a .chosen .count) (a .chosen .days))) (name - 4)
+    → x ≡ named (answerRow a) name
+unfolding dayOfRank
+day-told a name h k e =
+    let n : 4 + (name - 4) ≡ name = omega arith in
+    e ∙ (rw n at (rank-told a (name - 4) (omega arith)))
+
+-- what is told is of the answer, or of its refusal
+pub by-given : (a : Answer) (name : ℕ) {g : Given} {x : ℤ} → a .given ≡ g → x ≡ named (rowOf g a) name → x ≡ toldBy a name
+unfolding toldBy
+by-given a name e h = h ∙ ap (λ (g : Given). named (rowOf g a) name) (sym e)

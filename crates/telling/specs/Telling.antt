@@ -1,37 +1,35 @@
 -- What a caller written in C is told of an answer.
 use Prim.Native.Nat.{ℕ}
-use mathlib.Core.List.{List, [], _∷_, _++_, map}
-use lib.ListN.{getD, replicate}
+use mathlib.Core.List.{List, [], _∷_, map}
+use lib.ListN.{take}
 use lib.IntN.{ℤ, pos}
-use Rattle.filling.specs.Told.{toldFirst}
-use Rattle.method.specs.declared.Refusal.{Refusal}
-use Rattle.method.specs.Adjustment.{places}
 use Rattle.method.specs.Verdict.{number}
-use Rattle.carried.specs.Told.{carriedAt}
 use Rattle.choose.specs.declared.Chosen.{Chosen}
 use Rattle.answer.specs.declared.Given.{Given}
 use Rattle.answer.specs.declared.Given.the-variants.{Answered, Refused}
 use Rattle.answer.specs.declared.Answer.{Answer}
+use Rattle.telling.specs.Names.{named, refusalRow, rowFrom}
 
 -- "it gets 0 or the refusal number"
 abbrev pub numberOf : Given → ℕ
 numberOf Answered = 0
 numberOf (Refused w) = number w
 
--- of an answer: how many days are chosen, the five places of the days, the reach, the denominator and the adjustment's numerator
-unfoldable pub nineAnswered : Answer → List ℤ
-nineAnswered a =
-    pos (a .chosen .count) ∷ map (λ i. pos (getD (a .chosen .days) i 0)) (places 5 0) ++
-    (pos (a .chosen .reach) ∷ pos (a .denominator) ∷ a .adjustment ∷ [])
+-- the chosen day of a rank, counted from 0; nothing past the last one chosen
+unfoldable pub dayOfRank : Chosen → ℕ → ℤ
+dayOfRank chosen rank = named (map pos (take (chosen .count) (chosen .days))) rank
 
--- of a refusal: the numbers that it carries, and noughts
-unfoldable pub nineRefused : Refusal → List ℤ
-nineRefused w = pos (carriedAt w 0) ∷ pos (carriedAt w 1) ∷ replicate 7 (pos 0)
+-- from HP_COUNT on, which is 3: N, HP_DAY_1 to HP_DAY_5, the reach, the denominator, and the adjustment's numerator, which is 11
+unfoldable pub answerRow : Answer → List ℤ
+answerRow a =
+    let day = dayOfRank (a .chosen) in
+    rowFrom 3
+    (pos (a .chosen .count) ∷ day 0 ∷ day 1 ∷ day 2 ∷ day 3 ∷ day 4 ∷ pos (a .chosen .reach) ∷ pos (a .denominator) ∷ a .adjustment ∷ [])
 
--- the nine numbers that are told of an answer
-abbrev pub nineOf : Given → Answer → List ℤ
-nineOf Answered a = nineAnswered a
-nineOf (Refused w) a = nineRefused w
+abbrev pub rowOf : Given → Answer → List ℤ
+rowOf Answered a = answerRow a
+rowOf (Refused w) a = refusalRow w
 
-unfoldable pub toldTo : Answer → List ℤ → List ℤ
-toldTo a told = toldFirst (nineOf (a .given) a) told
+-- what an answer tells by name
+unfoldable pub toldBy : Answer → ℕ → ℤ
+toldBy a name = named (rowOf (a .given) a) name

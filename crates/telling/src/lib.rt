@@ -1,13 +1,16 @@
-// What a caller written in C is told of an answer: 0 or the refusal number, and nine signed numbers.
+// What a caller written in C is told of an answer: 0 or the refusal number, and the number of a name of include/honeyplank.h.
 ghost use mathlib.Core.Path.{_≡_};
-ghost use mathlib.Core.List.{_++_};
-ghost use Prim.Native.Nat.{_≤_};
-ghost use lib.ListN.{length, drop};
+ghost use mathlib.Core.List.{map};
+ghost use lib.ListN.{take};
 ghost use lib.IntN.{pos};
-ghost use Rattle.telling.specs.Telling.{numberOf, nineAnswered, nineRefused, toldTo};
+ghost use Rattle.telling.specs.Names.{named, refusalRow};
+ghost use Rattle.telling.specs.Telling.{numberOf, answerRow, toldBy};
 use answer::Answer;
 use answer::Given;
 use method::Refusal;
+
+// What a result does not tell.
+pub const NOTHING: i64 = -9223372036854775807 - 1;
 
 // 0 for an answer, else the refusal's number.
 pub fn number_of(given: Given) -> u32
@@ -22,62 +25,62 @@ pub fn number_of(given: Given) -> u32
     }
 }
 
-// Nine numbers at the start of what they are told into.
-fn tell_nine(told: &mut [i64], nine: [i64; 9])
-    requires { ⌜ 9 ≤ length (now told) ⌝ }
-    ensures { λ _. ⌜ now (told .exit) ≡ nine ++ drop 9 (now (told .entry)) ⌝ }
-{
-    let mut i = 0;
-    while i < 9 {
-        told[i] = nine[i];
-        i += 1;
-    }
-}
-
 // A number as a signed one.
-fn signed(x: u32) -> i64
+pub fn signed(x: u32) -> i64
     ensures { λ r. ⌜ r ≡ pos x ⌝ }
 {
     x as i64
 }
 
-// The nine numbers of an answer.
-fn nine_answered(answer: Answer) -> [i64; 9]
-    ensures { λ r. ⌜ r ≡ nineAnswered answer ⌝ }
+// The number at a place of the first `count`; nothing past them.
+fn number_at(numbers: &[u32], count: usize, place: usize) -> i64
+    ensures { λ r. ⌜ r ≡ named (map pos (take count (now (numbers .entry)))) place ⌝ }
 {
-    let days = answer.chosen.days;
-    [
-        signed(answer.chosen.count),
-        signed(days[0]),
-        signed(days[1]),
-        signed(days[2]),
-        signed(days[3]),
-        signed(days[4]),
-        signed(answer.chosen.reach),
-        signed(answer.denominator),
-        answer.adjustment,
-    ]
+    if count <= place {
+        return NOTHING;
+    }
+    if numbers.len() <= place {
+        return NOTHING;
+    }
+    signed(numbers[place])
 }
 
-// The nine numbers of a refusal.
-fn nine_refused(refusal: Refusal) -> [i64; 9]
-    ensures { λ r. ⌜ r ≡ nineRefused refusal ⌝ }
+// Of a refusal: its number under the name 0, and what it carries under 1 and 2.
+pub fn tell_refusal(refusal: Refusal, name: u32) -> i64
+    ensures { λ r. ⌜ r ≡ named (refusalRow refusal) name ⌝ }
 {
     let told = carried::tell(refusal);
+    if name == 0 {
+        return signed(told.number);
+    }
     let two = told.carried;
-    [signed(two[0]), signed(two[1]), 0, 0, 0, 0, 0, 0, 0]
+    number_at(&two, told.count, (name - 1) as usize)
 }
 
-// What is told of an answer, where there is room for it.
-pub fn tell(answer: Answer, told: &mut [i64])
-    ensures { λ _. ⌜ now (told .exit) ≡ toldTo answer (now (told .entry)) ⌝ }
+// Of an answer that is not refused.
+fn tell_answered(answer: Answer, name: u32) -> i64
+    ensures { λ r. ⌜ r ≡ named (answerRow answer) name ⌝ }
 {
-    if told.len() < 9 {
-        return;
+    let days = answer.chosen.days;
+    let chosen = answer.chosen.count as usize;
+    match name {
+        0 => 0,
+        3 => signed(answer.chosen.count),
+        4..=8 => number_at(&days, chosen, (name - 4) as usize),
+        9 => signed(answer.chosen.reach),
+        10 => signed(answer.denominator),
+        11 => answer.adjustment,
+        _ => NOTHING,
     }
+}
+
+// What an answer tells by name.
+pub fn tell(answer: Answer, name: u32) -> i64
+    ensures { λ r. ⌜ r ≡ toldBy answer name ⌝ }
+{
     let given = answer.given;
     match given {
-        Given::Answered => tell_nine(told, nine_answered(answer)),
-        Given::Refused(refusal) => tell_nine(told, nine_refused(refusal)),
+        Given::Answered => tell_answered(answer, name),
+        Given::Refused(refusal) => tell_refusal(refusal, name),
     }
 }

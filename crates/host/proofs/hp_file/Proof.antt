@@ -1,5 +1,6 @@
 -- `host::hp_file` meets its contract, by those of the reader and of what is told.
 use borrow.Author.Needs.{needs}
+use Rattle.telling.proofs.Telling.{back}
 use Rattle.host.proofs.hp_file.Statement.{statement}
 use Rattle.host.proofs.hp_file.Tie as tie
 
@@ -9,11 +10,8 @@ read-file-requires c κs = search needs
 tell-file-requires : tie.Need-tell-file-requires
 tell-file-requires c κs = search needs
 
-same-length : tie.Need-same-length
-same-length c = search needs
-
 returns : tie.Need-returns
-returns c = rw (c .before .before .before .before .read-file .ensures) at (c .before .before .tell-file .ensures)
+returns c = back (c .tell-file .result) (c .tell-file .ok) (rw (c .before .read-file .ensures) at (c .tell-file .ensures))
 
 pub hp-file-spec : {M : Type 1} → statement M
-hp-file-spec = tie.close (tie.spec read-file-requires tell-file-requires same-length returns)
+hp-file-spec = tie.close (tie.spec read-file-requires tell-file-requires returns)
