@@ -3,16 +3,17 @@ ghost use Prim.Native.Nat.{_≤_};
 ghost use lib.ListN.{length};
 ghost use Rattle.lines.specs.Lines.{lineText};
 ghost use Rattle.lines.specs.Listing.{headerLine, refusedLine, openingLine};
-ghost use Rattle.lines.specs.Writes.{Writes, Begins};
+ghost use Rattle.lines.specs.Writes.{Writes, PutsWithin};
+ghost use Rattle.first_line.specs.Room.{openingRoom};
 use record::Read;
 use record::Shape;
 
-// The room that a caller gives.
-const ROOM: usize = 4096;
+// The room that the line is given.
+const ROOM: usize = 74;
 
 fn put_header(out: &mut [u8], file: Shape) -> usize
-    requires { ⌜ 74 ≤ length (now out) ⌝ }
-    ensures { λ r. ⌜ Writes (now (out .entry)) 0 (lineText (headerLine file)) r (now (out .exit)) ⌝ }
+    requires { ⌜ openingRoom ≤ length (now out) ⌝ }
+    ensures { λ r. ⌜ Writes (now (out .entry)) 0 (lineText (headerLine file)) r (now (out .exit)) × (r ≤ openingRoom) ⌝ }
 {
     let numbered = text::put_field(out, 0, b"portfolio ", file.portfolio);
     let since = text::put_field(out, numbered, b" from ", file.participation);
@@ -23,15 +24,15 @@ fn put_header(out: &mut [u8], file: Shape) -> usize
 
 fn put_refused(out: &mut [u8], offset: u32) -> usize
     requires { ⌜ 24 ≤ length (now out) ⌝ }
-    ensures { λ r. ⌜ Writes (now (out .entry)) 0 (lineText (refusedLine offset)) r (now (out .exit)) ⌝ }
+    ensures { λ r. ⌜ Writes (now (out .entry)) 0 (lineText (refusedLine offset)) r (now (out .exit)) × (r ≤ openingRoom) ⌝ }
 {
     let end = text::put_field(out, 0, b"file refused ", offset);
     text::put_bytes(out, end, b"\n")
 }
 
-// The first line of a file's listing, from what reading the file gives.
+// The first line of a file's listing, from what reading the file gives, at the start of the buffer.
 pub fn opening(read: Read, out: &mut [u8]) -> usize
-    ensures { λ r. ⌜ Begins (now (out .entry)) (lineText (openingLine read)) r (now (out .exit)) ⌝ }
+    ensures { λ r. ⌜ PutsWithin openingRoom (now (out .entry)) 0 (lineText (openingLine read)) r (now (out .exit)) ⌝ }
 {
     if out.len() < ROOM {
         return 0;

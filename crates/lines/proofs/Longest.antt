@@ -15,13 +15,10 @@ use Rattle.lists.proofs.Bools.{lt-or-le}
 use Rattle.lists.specs.Ascii.{ascii}
 use Rattle.record.specs.Reader.{numberAt, opensWith, isRecord, isPF, isDY, isEV, run, isDYof, daysFrom, eventsFrom, firstIn, daysIn, dyLength}
 use Rattle.record.specs.Reader.{eventStart, eventsIn, goodEnd, readFile}
+use Rattle.lines.specs.Listing.{longest}
 use Rattle.record.proofs.Records.{dy-length, day-record, event-record}
 use Rattle.record.proofs.Runs.{run-most}
 use Rattle.record.proofs.Files.{event-start-is}
-
--- 8 bytes, 128 days of 390, and 64 events of 8
-abbrev pub longest : ℕ
-longest = 8 + 128 * 390 + 64 * 8
 
 drop-take : {A : Type 0} (k n : ℕ) (l : List A) → drop k (take n l) ≡ take (n - k) (drop k l)
 drop-take zero n l = rw sub-zero

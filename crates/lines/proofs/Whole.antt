@@ -1,20 +1,16 @@
 -- The whole listing: its first line and then the text of each event in order, each from its own place of the file.
-use Prim.Native.Nat.{ℕ, zero, suc, _≤_, _<_}
+use Prim.Native.Nat.{ℕ, zero, suc, _<_}
 use mathlib.Core.Path.{_≡_, refl, ap, _∙_}
-use mathlib.Core.Bool.{Bool, true, false, cond}
 use mathlib.Core.List.{List, [], _∷_, _++_, append-assoc}
 use native.Mathlib.Omega.{arith}
-use lib.ListN.{length, take, drop, length-append, length-drop}
-use lib.Dec.{leb}
-use Rattle.lists.proofs.Unique.{unique}
+use lib.ListN.{length, take}
 use Rattle.record.specs.declared.Read.{Read}
 use Rattle.record.specs.declared.Read.the-variants.{File, Refused}
 use Rattle.record.specs.Reader.{readFile, tableIn, requestAt}
 use Rattle.record.proofs.Files.{shape-fits}
 use Rattle.lines.specs.Lines.{Line, lineText, linesText}
-use Rattle.lines.specs.Listing.{openingLine, repliedLines, eventText, linesFrom, listingLines, listing, eventsOf, eventTexts}
-use Rattle.lines.specs.Writes.{room, Begins}
-use Rattle.lines.proofs.Longest.{longest, read-cut}
+use Rattle.lines.specs.Listing.{openingLine, repliedLines, eventText, linesFrom, listingLines, listing, eventsOf, eventTexts, longest}
+use Rattle.lines.proofs.Longest.{read-cut}
 
 lines-both : (a c : List Line) → linesText (a ++ c) ≡ linesText a ++ linesText c
 unfolding linesText
@@ -38,18 +34,6 @@ printed (Refused at) file = refl
 pub listing-is : (file : List ℕ) → listing file ≡ lineText (openingLine (readFile file)) ++ eventTexts file (eventsOf (readFile file)) 0
 unfolding listing
 listing-is file = printed (readFile file) file
-
--- ---- one result
-pub begins-unique : {d t : List ℕ} {r r′ : ℕ} {e e′ : List ℕ} → Begins d t r e → Begins d t r′ e′ → (r ≡ r′) × (e ≡ e′)
-begins-unique p q = (unique (p .size) (q .size), unique (p .holds) (q .holds))
-
--- the text is within the buffer
-pub begins-within : {d t : List ℕ} {r : ℕ} {e : List ℕ} → Begins d t r e → length e ≡ length d → r ≤ length e
-begins-within {d} {t} {r} {e} q same = go (leb room (length d)) (q .size) (q .holds)
-  where
-    go : (x : Bool) → r ≡ cond x (length t) 0 → e ≡ cond x (t ++ drop (length t) d) d → r ≤ length e
-    go true p h = omega (arith, simp (length-append, length-drop) at (ap length h))
-    go false p h = omega arith
 
 -- ---- a file longer than any that is as laid down prints what its first bytes print
 pub listing-cut : (n : ℕ) (file : List ℕ) → longest < n → longest < length file → listing (take n file) ≡ listing file

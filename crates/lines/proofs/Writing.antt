@@ -1,17 +1,19 @@
 -- Texts written in a row are one text, and a text that is written piece by piece: what is done and what is left are the whole.
-use Prim.Native.Nat.{ℕ, _+_, _≤_, _<_}
+use Prim.Native.Nat.{ℕ, _+_, _-_, _≤_, _<_}
 use mathlib.Core.Path.{_≡_, refl, ap, _∙_}
 use mathlib.Core.List.{List, [], _++_, append-assoc, append-nil}
 use mathlib.Core.Logic.{⊎-elim}
 use native.Mathlib.Omega.{arith}
 use native.Mathlib.Nat.{add-zero, zero-add}
-use lib.ListN.{length, take, length-append, take-append-drop}
+use lib.ListN.{length, take, drop, length-append, length-drop, take-append-drop, drop-of-length-le}
+use lib.Seq.{take-all, drop-drop}
+use borrow.Rule.Slice.PartMut.{midOf, putMid}
 use borrow.Author.Tests.{lt-leb, le-leb}
 use Rattle.lists.proofs.Bools.{lt-or-le}
 use Rattle.lists.proofs.Unique.{unique}
 use Rattle.text.specs.Text.{put, next, Puts, PutsBoth}
 use Rattle.text.proofs.Text.{put-length, put-put, put-whole, next-within, next-past, fitted, as-one}
-use Rattle.lines.specs.Writes.{room, Writes, Begins, PutsWithin}
+use Rattle.lines.specs.Writes.{Writes, PutsWithin}
 
 -- a place within the buffer shows that all of it fit
 pub placed : {d : List ℕ} {at r : ℕ} {t e : List ℕ} → Puts d at t r e → r ≤ length d → Writes d at t r e
@@ -57,6 +59,22 @@ pub then-both : {d : List ℕ} {at r : ℕ} {a e : List ℕ} {s : ℕ} {b f : Li
     → Writes d at (a ++ (b ++ n)) s f
 then-both n w p h = then w (both-placed n p (omega (arith, same-length w)))
 
+-- a text at the start of the part from a place on is one at that place
+pub in-part : {d : List ℕ} {at : ℕ} {t : List ℕ} {r : ℕ} {e : List ℕ} → at ≤ length d → Writes (midOf at (length d - at) d) 0 t r e
+    → Writes d at t (at + r) (putMid at (length d - at) d e)
+in-part {d} {at} {t} {r} {e} h w =
+    let fits : at + length t ≤ length d = omega (arith, length-drop at d, ap length all) in
+    record { fits = fits; next = omega (arith, w .next); holds = rw (put-whole d at t fits, text, none, append-nil, append-assoc) }
+  where
+    all : midOf at (length d - at) d ≡ drop at d
+    all = take-all (length d - at) (drop at d) (rw length-drop (omega arith))
+
+    none : drop (length d - at) (drop at d) ≡ []
+    none = drop-of-length-le (drop at d) {i = length d - at} (rw length-drop (omega arith))
+
+    text : e ≡ t ++ drop (at + length t) d
+    text = w .holds ∙ put-whole (midOf at (length d - at) d) 0 t (w .fits) ∙ (rw (all, zero-add, drop-drop) refl)
+
 -- of the text `t` all but `rest` is written
 pub record Writing (d : List ℕ) (at : ℕ) (t : List ℕ) (r : ℕ) (e rest : List ℕ) : Type 0 where
   pub done : List ℕ
@@ -83,17 +101,6 @@ module _ {d : List ℕ} {at : ℕ} {t : List ℕ} {r : ℕ} {e : List ℕ} where
 
   pub writing-end : Writing d at t r e [] → Writes d at t r e
   writing-end q = let all : q .done ≡ t = rw append-nil at (q .whole) in rw all at (q .so-far)
-
--- ---- a text at the start, and a buffer that is too short for any
-pub too-short : (d t : List ℕ) → length d < room → Begins d t 0 d
-too-short d t h = record { size = rw (lt-leb room (length d)); holds = rw (lt-leb room (length d)) }
-
-pub begins : {d t : List ℕ} {r : ℕ} {e : List ℕ} → room ≤ length d → Writes d 0 t r e → Begins d t r e
-begins {d} {t} {r} {e} h w =
-    record {
-      size = rw (le-leb room (length d)) (omega (arith, w .next));
-      holds = rw (le-leb room (length d), w .holds, put-whole d 0 t (w .fits), zero-add);
-    }
 
 -- ---- a text where there is room for so many bytes, and where there is not
 module _ {size : ℕ} {d : List ℕ} {at : ℕ} {t : List ℕ} where

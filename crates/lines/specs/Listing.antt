@@ -1,5 +1,5 @@
 -- 01, "Record file, listing, host entry": the lines of a file's listing.
-use Prim.Native.Nat.{ℕ, zero, suc}
+use Prim.Native.Nat.{ℕ, zero, suc, _+_, _*_}
 use mathlib.Core.List.{List, [], _∷_, _++_, map}
 use lib.ListN.{length}
 use lib.IntN.{ℤ}
@@ -91,3 +91,7 @@ eventsOf (Refused at) = 0
 unfoldable pub eventTexts : List ℕ → ℕ → ℕ → List ℕ
 eventTexts file zero place = []
 eventTexts file (suc count) place = eventText (tableIn file) (requestAt file place) ++ eventTexts file count (suc place)
+
+-- the longest file that is as laid down: 8 bytes, 128 days of 390, and 64 events of 8
+abbrev pub longest : ℕ
+longest = 8 + 128 * 390 + 64 * 8

@@ -1,1 +1,2 @@
-mod Replies
+pub mod Holding
+mod Whole

@@ -1,46 +1,115 @@
-// The lines of an event over a lent table (document 01, "Record file, listing, host entry").
-ghost use Prim.Native.Nat.{_≤_};
+// The whole listing of a record file in one lent buffer (document 01, "Record file, listing, host entry").
+ghost use mathlib.Core.Path.{_≡_};
+ghost use Prim.Native.Nat.{_+_, _*_, _≤_, _<_};
 ghost use lib.ListN.{length};
-ghost use Rattle.table.specs.Lent.{tableOf};
-ghost use Rattle.lines.specs.Lines.{linesText};
-ghost use Rattle.lines.specs.Listing.{eventText};
-ghost use Rattle.lines.specs.Writes.{room, Writes, Begins};
-ghost use Rattle.listing.specs.Answered.{answerLines};
-use answer::Answer;
-use answer::Given;
-use method::Request;
+ghost use Rattle.record.specs.Reader.{readFile, tableIn, requestAt};
+ghost use Rattle.record.specs.declared.Read.the-variants.{File};
+ghost use Rattle.lines.specs.Listing.{listing, eventText, eventTexts};
+ghost use Rattle.lines.specs.Writes.{Writes, PutsWithin};
+ghost use Rattle.event_lines.specs.Room.{linesRoom};
+ghost use Rattle.listing.specs.Holds.{Holds};
+ghost use Rattle.listing.specs.Lists.{mostListing, Lists};
+use record::EventAt;
+use record::Read;
+use record::Shape;
 
-// The room that a caller gives: the lines of any event fit.
-const ROOM: usize = 4096;
-
-// The lines of an answer, with the numerators of the event's quarters.
-fn put_answer(out: &mut [u8], request: Request, answer: Answer, numerators: &[u32]) -> usize
-    requires { ⌜ room ≤ length (now out) ⌝ }
-    ensures { λ r. ⌜ Writes (now (out .entry)) 0 (linesText (answerLines request answer (now (numerators .entry)))) r (now (out .exit)) ⌝ }
-{
-    let chosen = answer.chosen;
-    let next = event_line::put_event_line(
-        out,
-        request,
-        chosen,
-        answer.denominator,
-        answer.adjustment,
-    );
-    quarter_lines::put_quarters(out, next, request, answer.denominator, numerators)
+// The listing stands first in the lent buffer, and is so long; or it does not fit.
+pub enum Listed {
+    Length(u32),
+    NoRoom,
 }
 
-// The lines of an event: what the verdict over a table comes to, with room for a day's 96 quarters.
-pub fn event(first: u32, marks: &[u8], readings: &[u32], request: Request, out: &mut [u8]) -> usize
-    ensures { λ r. ⌜ Begins (now (out .entry)) (eventText (tableOf first (now (marks .entry)) (now (readings .entry))) request) r (now (out .exit)) ⌝ }
+// The room that any listing fits: 74 bytes for the first line, and 3,330 for each of 64 events.
+const MOST: usize = 213194;
+
+const QUARTERS: usize = 96;
+
+// The lines of the event at a place of the file, over the file's own table, at the start of the buffer.
+fn put_event(
+    file: &[u8],
+    shape: Shape,
+    place: usize,
+    marks: &[u8],
+    readings: &[u32],
+    out: &mut [u8],
+) -> usize
+    requires { ⌜ Holds (now file) shape (now marks) (now readings) × (place < shape .events) ⌝ }
+    ensures { λ r. ⌜ PutsWithin linesRoom (now (out .entry)) 0 (eventText (tableIn (now (file .entry))) (requestAt (now (file .entry)) place)) r (now (out .exit)) ⌝ }
 {
-    if out.len() < ROOM {
-        return 0;
+    match record::event_within(file, shape, place) {
+        EventAt::Event(request) => event_lines::event(shape.first, marks, readings, request, out),
+        EventAt::NoEvent => 0,
+        EventAt::Refused(_) => 0,
     }
-    let mut numerators = [0u32; 96];
-    let answer = baseline::baseline(first, marks, readings, request, &mut numerators);
-    let given = answer.given;
-    match given {
-        Given::Refused(refusal) => event_line::put_refusal(out, request, refusal),
-        Given::Answered => put_answer(out, request, answer, &numerators),
+}
+
+// The lines of the events in their order, each after the one before it, from place `at` on.
+fn put_events(
+    file: &[u8],
+    shape: Shape,
+    marks: &[u8],
+    readings: &[u32],
+    out: &mut [u8],
+    at: usize,
+) -> usize
+    requires { ⌜ Holds (now file) shape (now marks) (now readings) × (at + linesRoom * shape .events ≤ length (now out)) ⌝ }
+    ensures { λ r. ⌜ Writes (now (out .entry)) at (eventTexts (now (file .entry)) (shape .events) 0) r (now (out .exit)) × (r ≤ at + linesRoom * shape .events) ⌝ }
+{
+    let events = shape.events as usize;
+    let mut next = at;
+    let mut place = 0;
+    while place < events {
+        next += put_event(file, shape, place, marks, readings, &mut out[next..]);
+        place += 1;
     }
+    next
+}
+
+// The listing of a file of this shape: its table is loaded once.
+fn put_file(file: &[u8], shape: Shape, out: &mut [u8]) -> usize
+    requires { ⌜ (readFile (now file) ≡ File shape) × (mostListing ≤ length (now out)) ⌝ }
+    ensures { λ r. ⌜ Writes (now (out .entry)) 0 (listing (now (file .entry))) r (now (out .exit)) × (r ≤ mostListing) ⌝ }
+{
+    let mut marks = [0u8; 128];
+    let mut readings = [0u32; 12288];
+    loading::load_within(file, shape, &mut marks, &mut readings);
+    let days = shape.days as usize;
+    let count = QUARTERS * days;
+    let next = first_line::opening(Read::File(shape), out);
+    put_events(file, shape, &marks[..days], &readings[..count], out, next)
+}
+
+// The listing, at the start of a buffer that any listing fits.
+fn put_listing(file: &[u8], out: &mut [u8]) -> usize
+    requires { ⌜ mostListing ≤ length (now out) ⌝ }
+    ensures { λ r. ⌜ Writes (now (out .entry)) 0 (listing (now (file .entry))) r (now (out .exit)) × (r ≤ mostListing) ⌝ }
+{
+    match record::read_file(file) {
+        Read::Refused(at) => first_line::opening(Read::Refused(at), out),
+        Read::File(shape) => put_file(file, shape, out),
+    }
+}
+
+// By way of a buffer that any listing fits, where the lent one may be too short.
+fn copied(file: &[u8], out: &mut [u8]) -> Listed
+    ensures { λ r. ⌜ Lists (now (file .entry)) (now (out .entry)) r (now (out .exit)) ⌝ }
+{
+    let mut own = [0u8; MOST];
+    let end = put_listing(file, &mut own);
+    if out.len() < end {
+        return Listed::NoRoom;
+    }
+    text::put_bytes(out, 0, &own[..end]);
+    Listed::Length(end as u32)
+}
+
+// The listing of a file: it stands first in `out` and the rest is kept, where it fits; else nothing is written.
+pub fn listing(file: &[u8], out: &mut [u8]) -> Listed
+    ensures { λ r. ⌜ Lists (now (file .entry)) (now (out .entry)) r (now (out .exit)) ⌝ }
+{
+    if out.len() < MOST {
+        return copied(file, out);
+    }
+    let end = put_listing(file, out);
+    Listed::Length(end as u32)
 }

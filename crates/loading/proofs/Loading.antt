@@ -10,17 +10,15 @@ use borrow.Rule.Slice.PartMut.{putMid}
 use borrow.Author.Tests.{leb-true, le-leb}
 use lib.Dec.{leb}
 use Rattle.lists.proofs.Bools.{both}
-use mathlib.Core.Bool.{Bool, true, false, _&&_}
+use mathlib.Core.Bool.{true, _&&_}
 use Rattle.record.specs.declared.Shape.{Shape}
-use Rattle.record.specs.declared.Read.the-variants.{File, Refused}
-use Rattle.loading.specs.declared.Loaded.the-variants.{File as LoadedFile, NoRoom, Refused as RefusedLoad}
-use Rattle.record.specs.Reader.{numberAt, marksFrom, numbers, readingsFrom, tableIn, tableWithin, readFile}
-use Rattle.loading.specs.Loading.{loading, fitsWithin}
+use Rattle.record.specs.declared.Read.the-variants.{File}
+use Rattle.record.specs.Reader.{numberAt, marksFrom, numbers, readingsFrom, tableWithin, readFile}
+use Rattle.loading.specs.Loading.{fitsWithin}
 use Rattle.record.proofs.Numbers.{number-drop, number-four}
-use Rattle.method.specs.Table.{heldDays}
 use Rattle.method.proofs.Tables.{size-is}
 use Rattle.record.proofs.Records.{dy-length}
-use Rattle.record.proofs.Lengths.{numbers-length, marks-length, readings-length, marks-held, readings-held}
+use Rattle.record.proofs.Lengths.{numbers-length, marks-length, readings-length}
 use Rattle.record.proofs.Files.{shape-fits, day-start-is}
 use Rattle.filling.proofs.Filling.{Filling, filling-one, filling-part, filled}
 
@@ -119,10 +117,6 @@ module _ (shape : Shape) (file before now : List ℕ) (k at : ℕ) (below : k �
 pub rest-kept : {now : List ℕ} (values before : List ℕ) {n : ℕ} → length values ≡ n → now ≡ values ++ drop n before → now ≡ values ++ drop (length values) before
 rest-kept values before e h = rw e h
 
-pub load-refused : (file : List ℕ) (marks readings : ℕ) {at : ℕ} → readFile file ≡ Refused at → RefusedLoad at ≡ loading file marks readings
-unfolding loading
-load-refused file marks readings r = rw r
-
 -- room for so many days, in the words of the code
 pub room-is : (days size marks readings : ℕ) → (leb (8 + 390 * days) size && (leb days marks && leb (96 * days) readings)) ≡ true
     → (8 + 390 * days ≤ size) × (days ≤ marks) × (96 * days ≤ readings)
@@ -146,17 +140,9 @@ module _ (shape : Shape) (file : List ℕ) where
   unfolding fitsWithin
   fits-is marks readings = rw (day-start-is (shape .first) (shape .days), marks-within, readings-within)
 
--- an accepted file is long enough for its own shape
-module _ (file : List ℕ) {shape : Shape} (r : readFile file ≡ File shape) (marks readings : ℕ) where
-  fits-own : {fits : Bool} → fits ≡ fitsWithin shape file marks readings → (leb (heldDays (tableIn file)) marks && leb (length (tableIn file .readings)) readings) ≡ fits
-  fits-own e =
-      let long : 8 + 390 * shape .days ≤ length file = omega (arith, shape-fits file shape r .whole) in
-      rw (e, fits-is shape file marks readings, le-leb (8 + 390 * shape .days) (length file) long, marks-held file r, readings-held file r)
-
-  pub no-room : false ≡ fitsWithin shape file marks readings → NoRoom ≡ loading file marks readings
-  unfolding loading
-  no-room e = rw (r, fits-own e)
-
-  pub room-enough : true ≡ fitsWithin shape file marks readings → LoadedFile shape ≡ loading file marks readings
-  unfolding loading
-  room-enough e = rw (r, fits-own e)
+-- an accepted file is loaded into buffers that have room for its days
+pub fits-own : (file : List ℕ) {shape : Shape} → readFile file ≡ File shape → (marks readings : ℕ) → shape .days ≤ marks → 96 * shape .days ≤ readings
+    → fitsWithin shape file marks readings ≡ true
+fits-own file {shape} r marks readings few fit =
+    let long : 8 + 390 * shape .days ≤ length file = omega (arith, shape-fits file shape r .whole) in
+    rw (fits-is, le-leb (8 + 390 * shape .days) (length file) long, le-leb (shape .days) marks few, le-leb (96 * shape .days) readings fit)

@@ -5,17 +5,9 @@ ghost use mathlib.Core.Bool.{_&&_};
 ghost use mathlib.Core.List.{_++_};
 ghost use lib.ListN.{length, drop};
 ghost use lib.Dec.{leb};
-ghost use Rattle.record.specs.Reader.{numbers, tableIn, tableWithin};
-ghost use Rattle.loading.specs.Loading.{loading, bufferAfter, fitsWithin, filledIf};
-use record::Read;
+ghost use Rattle.record.specs.Reader.{numbers, tableWithin};
+ghost use Rattle.loading.specs.Loading.{fitsWithin, filledIf};
 use record::Shape;
-
-// A file whose table stands in the lent buffers; buffers that it does not fit; or refusal 11.
-pub enum Loaded {
-    File(Shape),
-    NoRoom,
-    Refused(u32),
-}
 
 // The bytes of a DY before its readings.
 const BEFORE_READINGS: usize = 6;
@@ -86,24 +78,5 @@ pub fn load_within(file: &[u8], shape: Shape, marks: &mut [u8], readings: &mut [
         true
     } else {
         false
-    }
-}
-
-// Puts a file's table into lent buffers: marks and readings stand first, the rest is kept. A refused file, or buffers that the table does not
-// fit, change nothing.
-pub fn load(file: &[u8], marks: &mut [u8], readings: &mut [u32]) -> Loaded
-    ensures said { λ r. ⌜ r ≡ loading (now (file .entry)) (length (now (marks .entry))) (length (now (readings .entry))) ⌝ }
-    ensures held_marks { λ r. ⌜ now (marks .exit) ≡ bufferAfter r (tableIn (now (file .entry)) .marks) (now (marks .entry)) ⌝ }
-    ensures held_readings { λ r. ⌜ now (readings .exit) ≡ bufferAfter r (tableIn (now (file .entry)) .readings) (now (readings .entry)) ⌝ }
-{
-    match record::read_file(file) {
-        Read::Refused(at) => Loaded::Refused(at),
-        Read::File(shape) => {
-            if load_within(file, shape, marks, readings) {
-                Loaded::File(shape)
-            } else {
-                Loaded::NoRoom
-            }
-        }
     }
 }

@@ -1,12 +1,12 @@
 -- `first_line::opening` meets its contract: too little room, a header, or a refused file.
 use borrow.Author.Needs.{needs}
 use Rattle.lines.specs.Listing.{openingLine}
-use Rattle.lines.proofs.Writing.{too-short, begins}
+use Rattle.lines.proofs.Writing.{no-room, with-room}
 use Rattle.first_line.proofs.opening.Statement.{statement}
 use Rattle.first_line.proofs.opening.Tie as tie
 
 returns : tie.Need-returns
-returns c = too-short _ _ (c .if1 .taken)
+returns c = no-room (c .if1 .taken)
 
 enum-known-read : tie.Need-enum-known-read
 enum-known-read c = search needs
@@ -27,7 +27,7 @@ returns-2 : tie.Need-returns-2
 unfolding openingLine
 returns-2 c =
     let m = c .before .before .before .before .before in
-    rw (m .read .given .1) (begins (m .before .before .if1 .left) (c .before .before .put-header .ensures))
+    rw (m .read .given .1) (with-room (m .before .before .if1 .left) (c .before .before .put-header .ensures .0) (c .before .before .put-header .ensures .1))
 
 same-length-2 : tie.Need-same-length-2
 same-length-2 c = search needs
@@ -36,7 +36,7 @@ returns-3 : tie.Need-returns-3
 unfolding openingLine
 returns-3 c =
     let m = c .before .before .before .before .before in
-    rw (m .read2 .given .1) (begins (m .before .before .if1 .left) (c .before .before .put-refused .ensures))
+    rw (m .read2 .given .1) (with-room (m .before .before .if1 .left) (c .before .before .put-refused .ensures .0) (c .before .before .put-refused .ensures .1))
 
 pub opening-spec : {M : Type 1} → statement M
 opening-spec =

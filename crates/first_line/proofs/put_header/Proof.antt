@@ -54,7 +54,7 @@ returns c =
     let fourth = both-placed (dec (file .days)) (c .before .before .before .before .before .before .before .put-field4 .ensures .0) (omega arith) in
     let a = then (named (word-and (ascii "portfolio") (dec (file .portfolio))) first) (named (spaced-word-and (ascii "from") (dec (file .participation))) second) in
     let b = then (then a (named (spaced-word-and (ascii "held") (dec (file .first))) third)) (named (next-is (dec (file .days))) fourth) in
-    named (header-is file) (then b (placed (c .before .before .put-bytes .ensures .0) (omega arith)))
+    (named (header-is file) (then b (placed (c .before .before .put-bytes .ensures .0) (omega arith))), omega arith)
 
 pub put-header-spec : {M : Type 1} → statement M
 put-header-spec =

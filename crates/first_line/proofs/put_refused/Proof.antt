@@ -27,7 +27,7 @@ returns c =
     let l = c .before .before .before .before .before .before .before in
     let offset = l .before .before .before .before .args .offset in
     let first = both-placed (dec offset) (l .put-field .ensures .0) (omega arith) in
-    named (refused-is offset) (then-put first (c .before .before .put-bytes .ensures .0) (omega arith))
+    (named (refused-is offset) (then-put first (c .before .before .put-bytes .ensures .0) (omega arith)), omega arith)
 
 pub put-refused-spec : {M : Type 1} → statement M
 put-refused-spec =

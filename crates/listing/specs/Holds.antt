@@ -1,4 +1,4 @@
--- What the program's buffers hold while it prints a file's events.
+-- What the buffers hold while the events of a file are listed.
 use Prim.Native.Nat.{ℕ}
 use mathlib.Core.Path.{_≡_}
 use mathlib.Core.List.{List}

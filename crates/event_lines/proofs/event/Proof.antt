@@ -1,14 +1,14 @@
--- `listing::event` meets its contract: too little room, a refusal, or an answer.
+-- `event_lines::event` meets its contract: too little room, a refusal, or an answer.
 use native.Mathlib.Omega.{arith}
 use borrow.Author.Needs.{needs}
 use Rattle.table.specs.Lent.{tableOf}
-use Rattle.lines.proofs.Writing.{named, whole, too-short, begins}
-use Rattle.listing.proofs.Replies.{refusal-text, listed}
-use Rattle.listing.proofs.event.Statement.{statement}
-use Rattle.listing.proofs.event.Tie as tie
+use Rattle.lines.proofs.Writing.{named, whole, no-room, with-room}
+use Rattle.event_lines.proofs.Replies.{refusal-text, listed}
+use Rattle.event_lines.proofs.event.Statement.{statement}
+use Rattle.event_lines.proofs.event.Tie as tie
 
 returns : tie.Need-returns
-returns c = too-short _ _ (c .if1 .taken)
+returns c = no-room (c .if1 .taken)
 
 slice-aggregate-baseline : tie.Need-slice-aggregate-baseline
 slice-aggregate-baseline c = search needs
@@ -39,7 +39,7 @@ returns-2 c =
     let m = c .before .before .before .before .before .before .before .before in
     let a = m .before .before .before .before .before .before .args in
     let t = refusal-text (tableOf (a .first) (a .marks .now) (a .readings .now)) (a .request) (m .baseline .ensures) (c .before .before .before .before .before .given .given .1) in
-    begins (m .before .before .if1 .left) (named t (whole (omega arith) (c .before .before .put-refusal .ensures)))
+    with-room (m .before .before .if1 .left) (named t (whole (omega arith) (c .before .before .put-refusal .ensures))) (omega (arith, c .before .before .put-refusal .ensures .most))
 
 same-length-2 : tie.Need-same-length-2
 same-length-2 c = search needs
@@ -49,7 +49,7 @@ returns-3 c =
     let m = c .before .before .before .before .before .before .before .before in
     let a = m .before .before .before .before .before .before .args in
     let t = listed (tableOf (a .first) (a .marks .now) (a .readings .now)) (a .request) (m .baseline .ensures) (c .before .before .before .before .before .enum-told .given .1) in
-    begins (m .before .before .if1 .left) (named t (c .before .before .put-answer .ensures))
+    with-room (m .before .before .if1 .left) (named t (c .before .before .put-answer .ensures .0)) (c .before .before .put-answer .ensures .1)
 
 pub event-spec : {M : Type 1} → statement M
 event-spec =

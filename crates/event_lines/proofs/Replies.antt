@@ -18,7 +18,7 @@ use Rattle.baseline.specs.Ready.{Answers}
 use Rattle.baseline.proofs.Answered.{Sound, sound}
 use Rattle.lines.specs.Lines.{lineText, linesText}
 use Rattle.lines.specs.Listing.{refusalLine, eventLines, repliedLines, eventText}
-use Rattle.listing.specs.Answered.{answerLines}
+use Rattle.event_lines.specs.Answered.{answerLines}
 
 -- ---- refused
 refusal-lines : (r : Request) (reply : Reply) {answer : Answer} {w : Refusal} → answer ≡ answerOf reply → answer .given ≡ Refused w

@@ -8,19 +8,22 @@ use borrow.Author.Tests.{lt-ltb}
 use Rattle.method.specs.declared.Request.{Request}
 use Rattle.table.specs.Lent.{tableOf}
 use Rattle.record.specs.declared.Shape.{Shape}
+use Rattle.record.specs.declared.Read.the-variants.{File}
 use Rattle.record.specs.declared.EventAt.{EventAt}
 use Rattle.record.specs.declared.EventAt.the-variants.{Event, NoEvent, Refused as RefusedEvent}
-use Rattle.record.specs.Reader.{tableIn, shapeIn, requestAt, eventWithin}
+use Rattle.record.specs.Reader.{readFile, tableIn, shapeIn, requestAt, eventWithin}
 use Rattle.record.proofs.Files.{shape-fits}
+use Rattle.record.proofs.Lengths.{table-within}
 use Rattle.record.proofs.Events.{within-is}
-use Rattle.loading.proofs.Buffers.{InBuffers}
+use Rattle.loading.proofs.Buffers.{WithinBuffers}
 use Rattle.lines.specs.Listing.{eventText}
-use Rattle.lines.specs.Writes.{Begins}
-use Rattle.list.specs.Holds.{Holds}
+use Rattle.lines.specs.Writes.{PutsWithin}
+use Rattle.listing.specs.Holds.{Holds}
 
-pub holds : {file : List ℕ} {shape : Shape} {marks readings : List ℕ} → InBuffers file shape marks readings
+pub holds : {file : List ℕ} {shape : Shape} {marks readings : List ℕ} → readFile file ≡ File shape → WithinBuffers shape file marks readings
     → Holds file shape (take (shape .days) marks) (take (96 * shape .days) readings)
-holds q = record { accepted = q .accepted; its-marks = q .its-marks; its-readings = q .its-readings }
+holds {file} r q =
+    record { accepted = r; its-marks = rw (q .its-marks, table-within file r); its-readings = rw (q .its-readings, table-within file r) }
 
 module _ {file : List ℕ} {shape : Shape} {marks readings : List ℕ} (q : Holds file shape marks readings) where
   first-in : shape .first ≡ tableIn file .first
@@ -35,9 +38,9 @@ module _ {file : List ℕ} {shape : Shape} {marks readings : List ℕ} (q : Hold
     event-in = within-is file place (q .accepted) ∙ rw (q .accepted, lt-ltb place (shape .events) h) refl
 
     -- the event's lines are those of its own place
-    pub its-lines : {d : List ℕ} {r : ℕ} {e : List ℕ} {at : EventAt} (request : Request) → at ≡ eventWithin shape file place
-        → at ≡ Event request → Begins d (eventText (tableOf (shape .first) marks readings) request) r e
-        → Begins d (eventText (tableIn file) (requestAt file place)) r e
+    pub its-lines : {size : ℕ} {d : List ℕ} {r : ℕ} {e : List ℕ} {at : EventAt} (request : Request) → at ≡ eventWithin shape file place
+        → at ≡ Event request → PutsWithin size d 0 (eventText (tableOf (shape .first) marks readings) request) r e
+        → PutsWithin size d 0 (eventText (tableIn file) (requestAt file place)) r e
     its-lines {at = at} request s t w =
         let same : request ≡ requestAt file place = cc (event-in) in rw (table-in, same) at w
 

@@ -1,8 +1,8 @@
--- `list::put_event` meets its contract: the event is there, and its lines are those of its own place.
+-- `listing::put_event` meets its contract: the event is there, and its lines are those of its own place.
 use borrow.Author.Needs.{needs}
-use Rattle.list.proofs.Holding.{its-lines, never-none, never-refused}
-use Rattle.list.proofs.put_event.Statement.{statement}
-use Rattle.list.proofs.put_event.Tie as tie
+use Rattle.listing.proofs.Holding.{its-lines, never-none, never-refused}
+use Rattle.listing.proofs.put_event.Statement.{statement}
+use Rattle.listing.proofs.put_event.Tie as tie
 
 event-within-requires : tie.Need-event-within-requires
 event-within-requires c κs = search needs
