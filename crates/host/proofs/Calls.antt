@@ -9,7 +9,10 @@ use Rattle.answer.specs.Answer.{answerOf}
 use Rattle.baseline.specs.Ready.{Answers}
 use Rattle.bytewise.specs.Bytewise.{FileAnswers}
 use Rattle.telling.specs.Telling.{numberOf, toldBy}
-use Rattle.host.specs.Host.{TableCall, FileCall}
+use Rattle.listing.specs.declared.Listed.{Listed}
+use Rattle.listing.specs.Lists.{Lists}
+use Rattle.showing.specs.Showing.{listedTold}
+use Rattle.host.specs.Host.{TableCall, FileCall, ListingCall}
 
 module _ {reply : Reply} {answer : Answer} {r : ℕ} {out out′ : List ℕ} (n : r ≡ numberOf (answer .given)) where
   pub file-call : FileAnswers reply answer out out′ → FileCall reply r out out′
@@ -25,3 +28,8 @@ module _ {reply : Reply} {answer : Answer} {out out′ : List ℕ} (name : ℕ) 
 
   pub table-told : Answers reply answer out out′ → x ≡ toldBy (answerOf reply) name
   table-told q = t ∙ ap (λ (a : Answer). toldBy a name) (q .answer)
+
+-- what is told of a listing
+pub listing-call : {file out out′ : List ℕ} {listed : Listed} {x : ℤ} → x ≡ listedTold listed → Lists file out listed out′
+    → ListingCall file x out out′
+listing-call t q = record { result = t ∙ ap listedTold (q .result); output = q .output }

@@ -2,9 +2,10 @@
 use Prim.Native.Nat.{ℕ}
 use mathlib.Core.Path.{_≡_}
 use mathlib.Core.List.{List}
+use lib.IntN.{ℤ}
 use Rattle.lists.proofs.Unique.{unique}
 use Rattle.method.specs.Verdict.{Reply}
-use Rattle.host.specs.Host.{TableCall, FileCall}
+use Rattle.host.specs.Host.{TableCall, FileCall, ListingCall}
 
 module _ {reply : Reply} {r r′ : ℕ} {out after after′ : List ℕ} where
   pub file-call-unique : FileCall reply r out after → FileCall reply r′ out after′ → (r ≡ r′) × (after ≡ after′)
@@ -12,3 +13,7 @@ module _ {reply : Reply} {r r′ : ℕ} {out after after′ : List ℕ} where
 
   pub table-call-unique : TableCall reply r out after → TableCall reply r′ out after′ → (r ≡ r′) × (after ≡ after′)
   table-call-unique p q = (unique (p .result) (q .result), unique (p .output) (q .output))
+
+pub listing-call-unique : {file out after after′ : List ℕ} {r r′ : ℤ} → ListingCall file r out after → ListingCall file r′ out after′
+    → (r ≡ r′) × (after ≡ after′)
+listing-call-unique p q = (unique (p .result) (q .result), unique (p .output) (q .output))

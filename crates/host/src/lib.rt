@@ -10,7 +10,7 @@ ghost use Rattle.answer.specs.Answer.{answerOf};
 ghost use Rattle.entry.specs.Entry.{fileReply};
 ghost use Rattle.telling.specs.Telling.{toldBy};
 ghost use Rattle.showing.specs.Showing.{fileTold, eventTold, placeTold};
-ghost use Rattle.host.specs.Host.{requestOf, TableCall, FileCall};
+ghost use Rattle.host.specs.Host.{requestOf, TableCall, FileCall, ListingCall};
 use method::Request;
 
 // An event has at most 96 quarters: room for the numerators of any.
@@ -117,4 +117,13 @@ pub extern "C" fn hp_event(file: &[u8], place: usize, name: u32) -> i64
 {
     let at = record::event_at(file, place);
     showing::tell_event(at, name)
+}
+
+// The listing of a record file: its length, and the text into `out`; minus 7 where it does not fit.
+#[no_mangle]
+pub extern "C" fn hp_listing(file: &[u8], out: &mut [u8]) -> i64
+    ensures { λ r. ⌜ ListingCall (now (file .entry)) r (now (out .entry)) (now (out .exit)) ⌝ }
+{
+    let listed = listing::listing(file, out);
+    showing::tell_listed(listed)
 }

@@ -1,7 +1,7 @@
--- What a caller written in C is told of a file, of an event in it, and of the part of a day, by the names of include/honeyplank.h.
+-- What a caller written in C is told of a file, of an event in it, of the part of a day, and of a listing, by include/honeyplank.h.
 use Prim.Native.Nat.{ℕ}
 use mathlib.Core.List.{List, [], _∷_}
-use lib.IntN.{ℤ, pos}
+use lib.IntN.{ℤ, pos, negsuc}
 use Rattle.method.specs.declared.Request.{Request}
 use Rattle.method.specs.declared.Refusal.the-variants.{BadFile, NoEvent}
 use Rattle.record.specs.declared.Shape.{Shape}
@@ -9,6 +9,8 @@ use Rattle.record.specs.declared.Read.{Read}
 use Rattle.record.specs.declared.Read.the-variants.{File, Refused}
 use Rattle.record.specs.declared.EventAt.{EventAt}
 use Rattle.record.specs.declared.EventAt.the-variants.{Event, NoEvent as NoneThere, Refused as RefusedEvent}
+use Rattle.listing.specs.declared.Listed.{Listed}
+use Rattle.listing.specs.declared.Listed.the-variants.{Length, NoRoom}
 use Rattle.table.specs.declared.Place.{Place}
 use Rattle.table.specs.declared.Place.the-variants.{Nowhere, From}
 use Rattle.telling.specs.Names.{nothing, named, refusalRow, rowFrom}
@@ -44,3 +46,8 @@ eventTold at name = named (eventRow at) name
 abbrev pub placeTold : Place → ℤ
 placeTold Nowhere = nothing
 placeTold (From at) = pos at
+
+-- the length of a listing; -HP_NO_ROOM, which is -7, where it does not fit
+abbrev pub listedTold : Listed → ℤ
+listedTold (Length size) = pos size
+listedTold NoRoom = negsuc 6

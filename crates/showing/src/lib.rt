@@ -1,8 +1,8 @@
-// What a caller written in C is told of a record file, of an event in it, and of the part of a day: the number of a name of
-// include/honeyplank.h.
+// What a caller written in C is told of a record file, of an event in it, of the part of a day, and of a listing, by include/honeyplank.h.
 ghost use mathlib.Core.Path.{_≡_};
 ghost use Rattle.telling.specs.Names.{named};
-ghost use Rattle.showing.specs.Showing.{shapeRow, fileTold, requestRow, eventTold, placeTold};
+ghost use Rattle.showing.specs.Showing.{shapeRow, fileTold, requestRow, eventTold, placeTold, listedTold};
+use listing::Listed;
 use method::Refusal;
 use method::Request;
 use record::EventAt;
@@ -68,5 +68,15 @@ pub fn tell_place(place: Place) -> i64
     match place {
         Place::Nowhere => NOTHING,
         Place::From(at) => telling::signed(at),
+    }
+}
+
+// Of a listing: its length, or minus 7.
+pub fn tell_listed(listed: Listed) -> i64
+    ensures { λ r. ⌜ r ≡ listedTold listed ⌝ }
+{
+    match listed {
+        Listed::Length(size) => telling::signed(size),
+        Listed::NoRoom => -7,
     }
 }
