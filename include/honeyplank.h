@@ -10,7 +10,8 @@
  *    larger buffer.
  *
  * What a caller may count on:
- *  - A refusal changes no buffer; an answer writes only the quarters of the event.
+ *  - A refusal changes no buffer; an answer writes only the quarters of the event. (hp_listing, which works out no baseline of its own, writes
+ *    only the text, and nothing where it does not fit.)
  *  - No state, no heap, no files, no locks: any threads may call at once. It always returns.
  *  - HP_STACK bytes of stack are enough for any entry but hp_listing, for which HP_STACK_LISTING are.
  *
