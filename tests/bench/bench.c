@@ -1,7 +1,8 @@
-/* bench FILE: the proved entries against the same rules in plain C at -O3, built by gcc and by clang, on the same input in one run. Prints
+/* bench DIR: the proved entries against the same rules in plain C at -O3, built by gcc and by clang, on the same input in one run. Prints
  * nanoseconds a call, the best of the rounds, which take turns, and the ratio to each plain build. Every buffer is touched before the clock
- * starts. The largest file is also written to FILE, for the listing programs.
- * bench FILE once: each case once in each way, between call_begins and call_ends, for an emulator to count instructions. */
+ * starts. The largest file, and the same with loads above eight million kW, are also written to DIR/largest.rec and DIR/high.rec, for the
+ * listing programs.
+ * bench DIR once: each case once in each way, between call_begins and call_ends, for an emulator to count instructions. */
 #define _POSIX_C_SOURCE 200809L
 #include <stdio.h>
 #include <stdlib.h>
@@ -26,27 +27,52 @@ static size_t place;
 static uint8_t marks[128];
 static uint32_t readings[128 * QUARTERS], days, s, e;
 
-static uint32_t call_file(int way)
+static uint32_t plain_file_call(int way, struct plain_answer *answer)
 {
     static uint8_t out[WAYS][HP_MOST_BYTES];
-    static int64_t told[HP_TOLD_LENGTH];
+    return (way == 1 ? plain_host_gcc : plain_host_clang)(file.bytes, file.length, place, out[way], HP_MOST_BYTES, answer);
+}
+
+static uint32_t call_file(int way)
+{
+    static uint8_t out[HP_MOST_BYTES];
+    static struct plain_answer answer;
+    return way ? plain_file_call(way, &answer) : hp_baseline(file.bytes, file.length, place, out, HP_MOST_BYTES);
+}
+
+/* The reach. */
+static uint32_t call_told(int way)
+{
     static struct plain_answer answer;
     if (way == 0)
-        return hp_baseline_told(file.bytes, file.length, place, out[0], HP_MOST_BYTES, told, HP_TOLD_LENGTH);
-    return (way == 1 ? plain_host_gcc : plain_host_clang)(file.bytes, file.length, place, out[way], HP_MOST_BYTES, &answer);
+        return (uint32_t)hp_told(file.bytes, file.length, place, HP_REACH);
+    plain_file_call(way, &answer);
+    return answer.reach;
+}
+
+static uint32_t plain_table_call(int way, struct plain_answer *answer)
+{
+    static uint32_t out[WAYS][QUARTERS];
+    return (way == 1 ? plain_baseline_gcc : plain_baseline_clang)(EVENT_DAY + 1 - days, marks, days, readings, days * QUARTERS, 8000, EVENT_DAY, s,
+                                                                  e, s - 4, out[way], QUARTERS, answer);
 }
 
 static uint32_t call_table(int way)
 {
-    static uint32_t out[WAYS][QUARTERS], first;
-    static int64_t told[HP_TOLD_LENGTH];
+    static uint32_t out[QUARTERS];
     static struct plain_answer answer;
-    first = EVENT_DAY + 1 - days;
+    return way ? plain_table_call(way, &answer)
+               : hp_baseline_table(EVENT_DAY + 1 - days, marks, days, readings, days * QUARTERS, 8000, EVENT_DAY, s, e, s - 4, out, QUARTERS);
+}
+
+/* The reach. */
+static uint32_t call_told_table(int way)
+{
+    static struct plain_answer answer;
     if (way == 0)
-        return hp_baseline_table(first, marks, days, readings, days * QUARTERS, 8000, EVENT_DAY, s, e, s - 4, out[0], QUARTERS, told,
-                                 HP_TOLD_LENGTH);
-    return (way == 1 ? plain_baseline_gcc : plain_baseline_clang)(first, marks, days, readings, days * QUARTERS, 8000, EVENT_DAY, s, e, s - 4,
-                                                                  out[way], QUARTERS, &answer);
+        return (uint32_t)hp_told_table(EVENT_DAY + 1 - days, marks, days, readings, days * QUARTERS, 8000, EVENT_DAY, s, e, s - 4, HP_REACH);
+    plain_table_call(way, &answer);
+    return answer.reach;
 }
 
 static int once;
@@ -109,12 +135,31 @@ static void report(const char *name, uint32_t (*call)(int way))
     fflush(stdout);
 }
 
-/* A load that varies by day and quarter, and an event day now and then, up to Wednesday 28 August 2024. */
-static uint32_t load(uint32_t i)
+/* Loads that vary by day and quarter, up to Wednesday 28 August 2024: of a large portfolio; above eight million kW; above it on a day in eight;
+ * with a reading missing on a day in four. */
+static uint32_t ordinary(uint32_t i)
 {
     return 900000 + (i * 2654435761u >> 12) % 100000;
 }
 
+static uint32_t high(uint32_t i)
+{
+    return 8000001 + (i * 2654435761u >> 11) % 2000000;
+}
+
+static uint32_t high_on_some_days(uint32_t i)
+{
+    return i / QUARTERS % 8 == 3 ? high(i) : ordinary(i);
+}
+
+static uint32_t missing_on_some_days(uint32_t i)
+{
+    return i % (4 * QUARTERS) == 140 ? HP_MISSING : ordinary(i);
+}
+
+static uint32_t (*load)(uint32_t i) = ordinary;
+
+/* An event day now and then. */
 static uint8_t mark(uint32_t day)
 {
     return day % 9 == 4;
@@ -174,6 +219,15 @@ static void files(void)
     put_largest();
     file.bytes[file.length - 1] = 1;
     report("file g. 128 days, refused 11 at the last record", call_file);
+    load = high;
+    put_largest();
+    report("file h. 128 days, loads above 8,000,000 kW", call_file);
+    load = high_on_some_days;
+    put_largest();
+    report("file i. 128 days, such loads on a day in eight", call_file);
+    load = ordinary;
+    put_largest();
+    report("told by a file. 128 days, the reach", call_told);
 }
 
 static void tables(void)
@@ -188,19 +242,44 @@ static void tables(void)
     report("table c. 128 days, refused 3 at the last reading", call_table);
     fill_table(46);
     report("table d. 46 days, event of 4 quarters", call_table);
+    load = high;
+    fill_table(128);
+    report("table e. 128 days, loads above 8,000,000 kW", call_table);
+    load = high_on_some_days;
+    fill_table(128);
+    report("table f. 128 days, such loads on a day in eight", call_table);
+    load = missing_on_some_days;
+    fill_table(128);
+    report("table g. 128 days, a reading missing on a day in four", call_table);
+    load = ordinary;
+    fill_table(128);
+    report("told by a table. 128 days, the reach", call_told_table);
+}
+
+static void write_largest(const char *directory, const char *name)
+{
+    char path[4096];
+    FILE *largest;
+    put_largest();
+    snprintf(path, sizeof path, "%s/%s", directory, name);
+    largest = fopen(path, "wb");
+    if (largest == NULL || fwrite(file.bytes, 1, file.length, largest) != file.length || fclose(largest) != 0) {
+        perror(path);
+        exit(1);
+    }
 }
 
 int main(int argc, char **argv)
 {
-    FILE *largest;
     once = argc == 3 && strcmp(argv[2], "once") == 0;
-    if (argc != 2 + once || (largest = fopen(argv[1], "wb")) == NULL) {
-        fprintf(stderr, "usage: bench FILE [once]\n");
+    if (argc != 2 + once) {
+        fprintf(stderr, "usage: bench DIR [once]\n");
         return 2;
     }
-    put_largest();
-    if (fwrite(file.bytes, 1, file.length, largest) != file.length || fclose(largest) != 0)
-        return 1;
+    load = high;
+    write_largest(argv[1], "high.rec");
+    load = ordinary;
+    write_largest(argv[1], "largest.rec");
     files();
     tables();
     return 0;

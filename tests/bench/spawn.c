@@ -55,7 +55,7 @@ int main(int argc, char **argv)
             }
             best[i] = took < best[i] ? took : best[i];
         }
-    printf("listing of the largest file:");
+    printf("listing of %s:", strrchr(argv[1], '/') + 1);
     for (i = 0; i < count; i++)
         printf("%s %s %.0f us (ratio %.2f)", i ? "," : "", strrchr(programs[i], '/') + 1, best[i], best[0] / best[i]);
     printf("\n");

@@ -4,8 +4,8 @@
 It shares nothing with the project's code. Weekdays, month lengths and dates are those of Python's datetime. The holidays
 are listed by name, after section 2 of document 003. Easter is worked out as the Church does: the Sunday after the paschal
 full moon of the Julian calendar, which the year's golden number gives by a table of nineteen dates. For 2000 to 2099 it
-agrees with python-dateutil's easter(y, EASTER_ORTHODOX) and with Debian's `ncal -o y` in every year. The same text comes
-out at each run.
+agrees with python-dateutil's easter(y, EASTER_ORTHODOX) and with Debian's `ncal -o y` in every year. The part of a day is
+cut from a list, after document 01, "The lent table and the request". The same text comes out at each run.
 """
 import argparse
 from datetime import date, timedelta
@@ -36,6 +36,7 @@ FROM_EASTER = {
     "Whit Monday": 50,
 }
 WEEKDAYS = ["Monday", "Tuesday", "Wednesday", "Thursday", "Friday", "Saturday", "Sunday"]
+LAST_DAY = (date(2099, 12, 31) - date(2000, 1, 1)).days
 MONTHS = ["Jan", "Feb", "Mar", "Apr", "May", "Jun", "Jul", "Aug", "Sep", "Oct", "Nov", "Dec"]
 
 
@@ -82,9 +83,34 @@ def table_3():
         yield "\t".join(cells[week:week + 7])
 
 
+def part(first, days, readings, day):
+    """The readings of a day of a table; none where it is not held, or refusal 1 turns the table away."""
+    turned_away = days == 0 or days > 128 or len(readings) != 96 * days or first + days - 1 > LAST_DAY
+    if turned_away or not first <= day < first + days:
+        return []
+    return readings[96 * (day - first):96 * (day - first + 1)]
+
+
+def parts():
+    yield "Readings of a day: how many, the first and the last"
+    own = list(range(1000, 1384))
+    tables = [
+        (6951, 3, own[:288]), (36522, 3, own[:288]), (36523, 3, own[:288]), (6951, 3, own[:287]), (6951, 3, own[:289]),
+        (6951, 0, []), (6951, 128, [7] * 12288), (6951, 129, [7] * 12384),
+    ]
+    for first, held, readings in tables:
+        last = first + (held or 3) - 1
+        for day in first - 1, first, first + 1, last, last + 1:
+            if day > LAST_DAY:
+                continue
+            found = part(first, held, readings, day)
+            ends = f" {found[0]:04} {found[-1]:04}" if found else ""
+            yield f"{date(2000, 1, 1) + timedelta(day)} {len(found):02}{ends}"
+
+
 def main():
     argparse.ArgumentParser(description=__doc__, formatter_class=argparse.RawDescriptionHelpFormatter).parse_args()
-    for section in groups([2000, 2019, 2023, 2024, 2025, 2099]), easters(), table_3():
+    for section in groups([2000, 2019, 2023, 2024, 2025, 2099]), easters(), table_3(), parts():
         for line in section:
             print(line)
 

@@ -11,7 +11,6 @@ pub record GoodBefore (readings : List ℕ) (at : ℕ) : Type 0 where
   pub within : at ≤ length readings
   pub passed : at + leading goodReading (drop at readings) ≡ leading goodReading readings
 
--- no reading and one, as a number of 32 bits, is above `bits`
-pub record Joined (readings : List ℕ) (bits : ℕ) : Type 0 where
-  pub fits : bits < 2 ^ 32
-  pub above : (i : ℕ) → i < length readings → (getD readings i 0 + 1) % 2 ^ 32 ≤ bits
+-- no reading and `more`, as a number of 32 bits, is above `bits`
+abbrev pub Joined : List ℕ → ℕ → ℕ → Type 0
+Joined readings more bits = (i : ℕ) → i < length readings → (getD readings i 0 + more) % 2 ^ 32 ≤ bits

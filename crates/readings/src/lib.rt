@@ -1,5 +1,7 @@
 // Whether readings are complete, and the first that is out of range. Total functions over slices of any length and any values.
 ghost use mathlib.Core.Path.{_≡_};
+ghost use mathlib.Core.Bool.{true};
+ghost use Prim.Native.Nat.{_≤_};
 ghost use Rattle.lists.specs.Lists.{all, leading};
 ghost use Rattle.method.specs.Table.{present, goodReading};
 ghost use Rattle.readings.specs.Steps.{GoodBefore, Joined};
@@ -25,47 +27,44 @@ fn is_good(reading: u32) -> bool
     (reading <= 10000000) | (reading == MISSING)
 }
 
-// Every reading and one, their bits put together: none of them is above it.
-fn joined(block: &[u32]) -> u32
-    ensures { λ r. ⌜ Joined (now (block .entry)) r ⌝ }
+// Every reading and `more`, their bits put together: none of them is above it.
+fn joined(block: &[u32], more: u32) -> u32
+    ensures { λ r. ⌜ Joined (now (block .entry)) more r ⌝ }
 {
     let mut bits = 0;
     for i in 0..block.len() {
-        bits = bits | std::num::wrapping_add_u32(block[i], 1);
+        bits = bits | std::num::wrapping_add_u32(block[i], more);
     }
     bits
 }
 
-// Whether every reading is good, each tested, without a branch in the loop.
-fn each_is_good(block: &[u32]) -> bool
-    ensures { λ r. ⌜ r ≡ all goodReading (now (block .entry)) ⌝ }
+// Whether every reading of a block is known to be good, without a branch for each; a missing one passes where `more` is 1, and counts as 0.
+// The bits of readings above some eight million do not tell: up to 10,000,000 and no further they and 6777215 are below 2^24.
+fn block_is_good(block: &[u32], more: u32) -> bool
+    requires { ⌜ more ≤ 1 ⌝ }
+    ensures { λ r. ⌜ (r ≡ true → all goodReading (now (block .entry)) ≡ true) ⌝ }
 {
-    let mut all_good = true;
-    for i in 0..block.len() {
-        all_good = all_good & is_good(block[i]);
-    }
-    all_good
-}
-
-// Whether every reading of a block is good. Below some eight million all are known to be at one test, and missing ones do not matter.
-fn block_is_good(block: &[u32]) -> bool
-    ensures { λ r. ⌜ r ≡ all goodReading (now (block .entry)) ⌝ }
-{
-    if joined(block) <= 10000001 {
+    let bits = joined(block, more);
+    if bits <= 10000000 + more {
         true
     } else {
-        each_is_good(block)
+        if bits < 16777216 {
+            joined(block, 6777215) < 16777216
+        } else {
+            false
+        }
     }
 }
 
-// A place that only good readings stand before: it passes over blocks of 96 up to the first that has a bad one.
-fn good_blocks(readings: &[u32]) -> usize
+// A place that only good readings stand before: from such a place on it passes over blocks of 96 that are known to be good.
+fn good_blocks(readings: &[u32], start: usize, more: u32) -> usize
+    requires { ⌜ GoodBefore (now readings) start × (more ≤ 1) ⌝ }
     ensures { λ r. ⌜ GoodBefore (now (readings .entry)) r ⌝ }
 {
-    let mut at = 0;
+    let mut at = start;
     while 96 <= readings.len() - at {
         let end = at + 96;
-        if block_is_good(&readings[at..end]) {
+        if block_is_good(&readings[at..end], more) {
             at = end;
         } else {
             return at;
@@ -74,11 +73,13 @@ fn good_blocks(readings: &[u32]) -> usize
     at
 }
 
-// The place of the first reading out of range that is not the missing mark; the number of readings where there is none.
+// The place of the first reading out of range that is not the missing mark; the number of readings where there is none. Up to the first
+// block that has a missing one the test is shorter.
 pub fn first_bad_reading(readings: &[u32]) -> usize
     ensures { λ r. ⌜ r ≡ leading goodReading (now (readings .entry)) ⌝ }
 {
-    let mut i = good_blocks(readings);
+    let none_missing = good_blocks(readings, 0, 0);
+    let mut i = good_blocks(readings, none_missing, 1);
     while i < readings.len() {
         if is_good(readings[i]) {
             i += 1;

@@ -66,7 +66,7 @@ pub(crate) fn groups() {
 }
 
 // A date as `2024-05-05`.
-fn put_date(line: &mut [u8; 80], at: usize, date: Date) -> usize {
+pub(crate) fn put_date(line: &mut [u8; 80], at: usize, date: Date) -> usize {
     let mut next = put_four(line, at, date.year);
     next = put(line, next, b'-');
     next = put_two(line, next, date.month);

@@ -2,9 +2,11 @@
 // tests/vectors/make_stdout.py made from the papers and knows nothing of this code.
 mod days;
 mod line;
+mod parts;
 
 fn main() {
     days::groups();
     days::easters();
     days::table_3();
+    parts::parts();
 }

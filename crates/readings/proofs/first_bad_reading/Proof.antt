@@ -10,13 +10,16 @@ use Rattle.readings.proofs.first_bad_reading.Statement.{statement}
 use Rattle.readings.proofs.first_bad_reading.Tie as tie
 
 abbrev Inv-loop : tie.InvT-loop
-Inv-loop readings i₀ i = GoodBefore readings i
+Inv-loop readings none-missing i₀ i = GoodBefore readings i
 
 abbrev μ-loop : tie.MeasureT-loop
-μ-loop readings i₀ i = length readings - i
+μ-loop readings none-missing i₀ i = length readings - i
 
 good-blocks-requires : tie.Need-good-blocks-requires Inv-loop μ-loop
 good-blocks-requires c κs = search needs
+
+good-blocks-requires-2 : tie.Need-good-blocks-requires-2 Inv-loop μ-loop
+good-blocks-requires-2 c κs = search needs
 
 loop-holds : tie.Need-loop-holds Inv-loop μ-loop
 loop-holds c = search needs
@@ -39,7 +42,7 @@ loop-less c = search needs
 loop-again : tie.Need-loop-again Inv-loop μ-loop
 loop-again c =
     let l = c .before .before .before .before .loop in
-    let xs = c .before .before .before .before .before .before .before .args .readings .now in
+    let xs = c .before .before .before .before .before .before .before .before .args .readings .now in
     let good = sym (c .before .is-good .ensures) ∙ c .if1 .taken in
     record {
       within = search needs;
@@ -49,14 +52,14 @@ loop-again c =
 returns : tie.Need-returns Inv-loop μ-loop
 returns c =
     let l = c .before .before .before .before .loop in
-    let xs = c .before .before .before .before .before .before .before .args .readings .now in
+    let xs = c .before .before .before .before .before .before .before .before .args .readings .now in
     let bad = sym (c .before .is-good .ensures) ∙ c .if1 .left in
     sym (leading-stop goodReading xs (l .i) 0 (c .before .before .before .loop-test .taken) bad) ∙ l .inv .passed
 
 returns-2 : tie.Need-returns-2 Inv-loop μ-loop
 returns-2 c =
     let l = c .before .loop in
-    sym (leading-end goodReading (c .before .before .before .before .args .readings .now) (l .i) (c .loop-test .left)) ∙ l .inv .passed
+    sym (leading-end goodReading (c .before .before .before .before .before .args .readings .now) (l .i) (c .loop-test .left)) ∙ l .inv .passed
 
 pub first-bad-reading-spec : {M : Type 1} → statement M
 first-bad-reading-spec =
@@ -65,6 +68,7 @@ first-bad-reading-spec =
     Inv-loop
     μ-loop
     good-blocks-requires
+    good-blocks-requires-2
     loop-holds
     mul-is-good
     shared-slice-read-is-good

@@ -1,6 +1,6 @@
--- `readings::good_blocks` meets its contract, which is the invariant.
+-- `readings::good_blocks` meets its contract, which is the invariant: only good readings stand before `at`.
 use Prim.Native.Nat.{_+_, _-_}
-use mathlib.Core.Path.{sym, _∙_}
+use mathlib.Core.Path.{_∙_}
 use borrow.Author.Needs.{needs}
 use lib.ListN.{length}
 use Rattle.lists.proofs.All.{leading-part}
@@ -10,10 +10,10 @@ use Rattle.readings.proofs.good_blocks.Statement.{statement}
 use Rattle.readings.proofs.good_blocks.Tie as tie
 
 abbrev Inv-loop : tie.InvT-loop
-Inv-loop readings at₀ at = GoodBefore readings at
+Inv-loop readings start more at₀ at = GoodBefore readings at
 
 abbrev μ-loop : tie.MeasureT-loop
-μ-loop readings at₀ at = length readings - at
+μ-loop readings start more at₀ at = length readings - at
 
 loop-holds : tie.Need-loop-holds Inv-loop μ-loop
 loop-holds c = search needs
@@ -46,7 +46,7 @@ loop-again : tie.Need-loop-again Inv-loop μ-loop
 loop-again c =
     let l = c .before .before .before .before .loop in
     let xs = c .before .before .before .before .before .before .args .readings .now in
-    let good = sym (c .before .block-is-good .ensures) ∙ c .if1 .taken in
+    let good = c .before .block-is-good .ensures (c .if1 .taken) in
     record {
       within = search needs;
       passed = leading-part goodReading xs (l .at) (l .at + 96) (search needs) (search needs) good ∙ l .inv .passed;

@@ -1,4 +1,4 @@
--- `readings::joined` meets its contract. The invariant: none of the readings passed, and one, is above the bits.
+-- `readings::joined` meets its contract. The invariant: none of the readings passed, and `more`, is above the bits.
 use Prim.Native.Nat.{ℕ, _+_, _-_, _%_, _^_, _≤_, _<_}
 use native.Mathlib.Omega.{arith}
 use borrow.Author.Needs.{needs}
@@ -8,13 +8,13 @@ use Rattle.readings.proofs.joined.Statement.{statement}
 use Rattle.readings.proofs.joined.Tie as tie
 
 abbrev Inv-loop : tie.InvT-loop
-Inv-loop block bits₀ i₀ i-end bits i = (i ≤ length block) × (bits < 2 ^ 32) × ((k : ℕ) → k < i → (getD block k 0 + 1) % 2 ^ 32 ≤ bits)
+Inv-loop block more bits₀ i₀ i-end bits i = (i ≤ length block) × ((k : ℕ) → k < i → (getD block k 0 + more) % 2 ^ 32 ≤ bits)
 
 abbrev μ-loop : tie.MeasureT-loop
-μ-loop block bits₀ i₀ i-end bits i = length block - i
+μ-loop block more bits₀ i₀ i-end bits i = length block - i
 
 loop-holds : tie.Need-loop-holds Inv-loop μ-loop
-loop-holds c = (omega arith, omega arith, λ k h. absurd (omega arith))
+loop-holds c = (omega arith, λ k h. absurd (omega arith))
 
 mul-wrapping-add-u32 : tie.Need-mul-wrapping-add-u32 Inv-loop μ-loop
 mul-wrapping-add-u32 c = search needs
@@ -34,14 +34,13 @@ loop-less c = search needs
 loop-again : tie.Need-loop-again Inv-loop μ-loop
 loop-again c =
     let l = c .before .before .before .loop in
-    let xs = c .before .before .before .before .before .args .block .now in
-    let more = joins xs (l .i) (l .bits) (c .wrapping-add-u32 .result) (l .inv .1) (c .wrapping-add-u32 .ensures) (l .inv .2) in
-    (search needs, more .0, more .1)
+    let a = c .before .before .before .before .before .args in
+    (search needs, rw (c .wrapping-add-u32 .ensures) (joins (a .block .now) (a .more) (l .i) (l .bits) (l .inv .1)))
 
 returns : tie.Need-returns Inv-loop μ-loop
 returns c =
     let l = c .before .loop in
-    record { fits = l .inv .1; above = λ k h. l .inv .2 k (omega (arith, c .loop-test .left)) }
+    λ k h. l .inv .1 k (omega (arith, c .loop-test .left))
 
 pub joined-spec : {M : Type 1} → statement M
 joined-spec =
