@@ -1,30 +1,25 @@
 -- Demand 3 in the customer's words, over the verdict of a lent table: an extract that is well formed and holds the event.
-use mathlib.Core.Path.{_≡_, refl, sym, ap, _∙_}
-use mathlib.Core.Logic.{_↔_, ⊎-elim}
-use mathlib.Core.Bool.{Bool, true, false, cond, _||_}
-use mathlib.Core.List.{reverse}
-use mathlib.Core.Option.{Option, none, some}
+use mathlib.Core.Path.{_≡_, sym, ap, _∙_}
+use mathlib.Core.Bool.{true, false}
 use Prim.Native.Nat.{ℕ, _-_, _≤_, _<_}
 use native.Mathlib.Omega.{arith}
-use lib.ListN.{length, getD}
-use lib.Dec.{leb, eqb}
-use borrow.Author.Tests.{leb-true, le-leb, eqb-true}
+use lib.Dec.{leb}
+use borrow.Author.Tests.{leb-true, le-leb}
 use Rattle.lists.specs.Lists.{all}
-use Rattle.lists.proofs.Bools.{and-left, and-right, either, clash}
+use Rattle.lists.proofs.Bools.{and-left, and-right}
 use Rattle.calendar.specs.declared.Group.{Group}
 use Rattle.method.specs.declared.Request.{Request}
 use Rattle.method.specs.declared.Refusal.the-variants.{MarginTooShort}
-use Rattle.method.specs.Table.{Table, Day, History, heldDays, held, history, shaped, isExtract}
-use Rattle.method.specs.Method.{Method, short, few, chose, dated, window, chosen, reach, wholeReach, isShort, outcome}
-use Rattle.method.specs.Adjustment.{Baseline}
+use Rattle.method.specs.Table.{Table, heldDays, held, history, shaped, isExtract}
+use Rattle.method.specs.Method.{short, reach, wholeReach}
 use Rattle.method.specs.HighXofY.{highXofY}
-use Rattle.method.specs.Verdict.{Reply, refused, answered, number, carries, tableRefusals, requestRefusals, closing, firstOf}
+use Rattle.method.specs.Verdict.{refused, number, tableRefusals, firstOf}
 use Rattle.method.specs.Verdict.{methodology, verdict, wellFormed}
-use Rattle.method.specs.Demands.{LongerFormed, Part, heldBefore, Undecided, isMargin, isSettled, reported, NoneEarlier}
-use Rattle.method.proofs.Tables.{formed-is, cutTo, cut-part, cut-before}
+use Rattle.method.specs.Demands.{LongerFormed, Part, heldBefore, cutTo, Undecided, Parted, isMargin, isSettled, reported, NoneEarlier}
+use Rattle.method.proofs.Tables.{formed-is, cut-part, cut-before}
 use Rattle.method.proofs.Reach.{reach-held}
 use Rattle.method.proofs.HighXofY.{lawful}
-use Rattle.method.proofs.Replies.{earlier-cases, plain, hidden-other, margin-is}
+use Rattle.method.proofs.Replies.{margin-is}
 use Rattle.method.proofs.Settled.{settled-margin, settled-early, settled-reach}
 use Rattle.method.proofs.Demand3.{demand3}
 
@@ -59,10 +54,11 @@ module _ (group : ℕ → Group) (t : Table) (r : Request) (room : ℕ)
   verdict-stable clear l x = demand3 group t r room well holds .stable (sym (ap isMargin is) ∙ clear) l x ∙ sym is
 
   -- "'Margin too short' is given, once no earlier refusal applies, exactly when two longer well-formed histories .. have different baseline
-  -- windows"
-  pub verdict-margin : NoneEarlier t r room → (isMargin (verdict group t r room) ≡ true) ↔ Undecided group t r
+  -- windows": any two give it, and the two that are shown are strictly longer
+  pub verdict-margin : NoneEarlier t r room
+      → (isMargin (verdict group t r room) ≡ true → Parted group t r) × (Undecided group t r → isMargin (verdict group t r room) ≡ true)
   verdict-margin n = (
-    λ e. demand3 group t r room well holds .only-when n (sym (ap isMargin is) ∙ e) .0,
+    λ e. demand3 group t r room well holds .only-when n (sym (ap isMargin is) ∙ e),
     λ u. ap isMargin is ∙ demand3 group t r room well holds .given-when n u,
   )
 
