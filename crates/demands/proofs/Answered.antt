@@ -46,13 +46,13 @@ window-enough c size e =
     r = request c
 
 -- and N days are chosen
-count : (t : Table) (r : Request) → NOf r ≤ length (windowOf t r) → length (dated (chosenOf t r)) ≡ NOf r
+count-chosen : (t : Table) (r : Request) → NOf r ≤ length (windowOf t r) → length (dated (chosenOf t r)) ≡ NOf r
 unfolding chosen highXofY
-count t r e =
+count-chosen t r e =
     rw (length-map, length-take, length-sorted (higher r) (windowOf t r), le-ltb (length (windowOf t r)) (NOf r) e) (omega arith)
 
 pub chosen-count : (c : Call) (size : ℕ) → any applies (rows c size) ≡ false → length (dated (chosenOf (extract c) (request c))) ≡ NOf (request c)
-chosen-count c size e = count (extract c) (request c) (window-enough c size e)
+chosen-count c size e = count-chosen (extract c) (request c) (window-enough c size e)
 
 pub numerators-count : (t : Table) (r : Request) → length (numeratorsOf t r) ≡ r .e - r .s
 unfolding numeratorsOf

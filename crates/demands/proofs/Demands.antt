@@ -13,7 +13,7 @@ use Rattle.calendar.specs.Holidays.{group}
 use Rattle.method.specs.declared.Request.{Request}
 use Rattle.method.specs.declared.Refusal.{Refusal}
 use Rattle.method.specs.declared.Refusal.the-variants.{MarginTooShort}
-use Rattle.method.specs.Table.{Table, held}
+use Rattle.method.specs.Table.{Table}
 use Rattle.method.specs.Method.{wholeReach}
 use Rattle.method.specs.HighXofY.{highXofY}
 use Rattle.method.specs.Verdict.{Reply, Answer as Numbers, refused, answered, methodology, verdict}
@@ -60,8 +60,8 @@ module _ (c : Call) (a : Answer) (out after : List ℕ) (gives : Gives c a out a
   to-refused : (w : Refusal) → a .given ≡ Refused w → replyOf c out ≡ refused w
   to-refused w e = is-refused (replyOf c out) w (sym (given-is refl) ∙ e)
 
-  none : a .given ≡ Answered → any applies (rows c (length out)) ≡ false
-  none e =
+  none-applies : a .given ≡ Answered → any applies (rows c (length out)) ≡ false
+  none-applies e =
       let n = is-answered (replyOf c out) (sym (given-is refl) ∙ e) in
       none-first (rows c (length out)) (answerOver t r) (n .0) (n .1)
 
@@ -70,10 +70,10 @@ module _ (c : Call) (a : Answer) (out after : List ℕ) (gives : Gives c a out a
 
   module _ (e : a .given ≡ Answered) where
     answers : replyOf c out ≡ answered (answerOver t r)
-    answers = to-answered (none e)
+    answers = to-answered (none-applies e)
 
     is-verdict : verdict group t r (room c out) ≡ answered (answerOver t r)
-    is-verdict = sym (late c out (rw answers (unfold member in refl)) .form .its) ∙ answers
+    is-verdict = sym (late c out (rw answers (unfold member in refl)) .over .its) ∙ answers
 
     output : after ≡ stand c (numeratorsOf t r) ++ drop (quarters c) out
     unfolding answerOver
@@ -91,8 +91,8 @@ module _ (c : Call) (a : Answer) (out after : List ℕ) (gives : Gives c a out a
     rest : drop (quarters c) after ≡ drop (quarters c) out
     rest = rw output (drop-at (stand c (numeratorsOf t r)) (drop (quarters c) out) (quarters c) stands)
 
-    written : take (quarters c) after ≡ stand c (numeratorsOf t r)
-    written = rw output (take-at (stand c (numeratorsOf t r)) (drop (quarters c) out) (quarters c) stands)
+    stands-first : take (quarters c) after ≡ stand c (numeratorsOf t r)
+    stands-first = rw output (take-at (stand c (numeratorsOf t r)) (drop (quarters c) out) (quarters c) stands)
 
   long : length after ≡ length out
   long =
@@ -108,7 +108,7 @@ module _ (c : Call) (a : Answer) (out after : List ℕ) (gives : Gives c a out a
           λ e. first-in (rows c (length out)) (answerOver t r) w (to-refused w e),
           λ f. given-is (first-of (rows c (length out)) (answered (answerOver t r)) w f) ∙ given-refused w,
         );
-        answered-when = (none, λ n. given-is (to-answered n) ∙ given-answered (answerOver t r));
+        answered-when = (none-applies, λ n. given-is (to-answered n) ∙ given-answered (answerOver t r));
         kept = λ w e. gets-kept c a out after w (gets-same c a out after (to-refused w e) gets);
         long = long;
         rest = rest;
@@ -120,11 +120,11 @@ module _ (c : Call) (a : Answer) (out after : List ℕ) (gives : Gives c a out a
   demand2 e =
       record {
         days = ap (λ (x : Answer). x .chosen .days) its;
-        count = ap (λ (x : Answer). x .chosen .count) its ∙ chosen-count c (length out) (none e);
+        count = ap (λ (x : Answer). x .chosen .count) its ∙ chosen-count c (length out) (none-applies e);
         reach = ap (λ (x : Answer). x .chosen .reach) its;
         denominator = ap (λ (x : Answer). x .denominator) its;
         adjusted = ap (λ (x : Answer). x .adjustment) its;
-        numerators = written e;
+        numerators = stands-first e;
         never-above = never-above group t r (room c out) (answerOver t r) (is-verdict e);
         over = ap (λ (n : ℕ). member n (60 ∷ 24 ∷ [])) (ap (λ (x : Answer). x .denominator) its) ∙ over-60-or-24 (group (r .event));
       }
@@ -136,12 +136,12 @@ module _ (c : Call) (a : Answer) (out after : List ℕ) (gives : Gives c a out a
   is-late : member (result a) (0 ∷ 8 ∷ 9 ∷ 10 ∷ []) ≡ true → Late c out
   is-late e = late c out (rw number-is at e)
 
-  module _ (s : Settled c a out after) where
+  module _ (s : Settled a) where
     l : Late c out
     l = is-late (settled-late (result a) s)
 
     its : replyOf c out ≡ verdict group t r (room c out)
-    its = l .form .its
+    its = l .over .its
 
     settled : isSettled (verdict group t r (room c out)) ≡ true
     settled = sym (ap isSettled its) ∙ sym (settled-is (replyOf c out)) ∙ (rw number-is at s)
@@ -153,50 +153,50 @@ module _ (c : Call) (a : Answer) (out after : List ℕ) (gives : Gives c a out a
     stable m x =
         gets-same c a out after
         (its ∙
-        sym (verdict-stable group t r (room c out) (l .form .isOne) (l .form .well) (l .holds) (settled-margin (verdict group t r (room c out)) settled) m x))
+        sym (verdict-stable group t r (room c out) (l .over .isOne) (l .over .well) (l .holds) (settled-margin (verdict group t r (room c out)) settled) m x))
         gets
 
     within : reported a ≤ heldBefore t r
-    within = omega (arith, reported-as, reach-within group t r (room c out) (l .form .isOne) (l .form .well) (l .holds) settled)
+    within = omega (arith, reported-as, reach-within group t r (room c out) (l .over .isOne) (l .over .well) (l .holds) settled)
 
     same : Gets c (verdict group (cutTo t r (reported a)) r (room c out)) a out after
     same =
         gets-same c a out after
-        (its ∙ sym (reach-same group t r (room c out) (l .form .isOne) (l .form .well) (l .holds) settled) ∙
+        (its ∙ sym (reach-same group t r (room c out) (l .over .isOne) (l .over .well) (l .holds) settled) ∙
         sym (ap (λ (k : ℕ). verdict group (cutTo t r k) r (room c out)) reported-as))
         gets
 
     fewest : (k : ℕ) → k < reported a
         → verdict group (cutTo t r k) r (room c out) ≡ refused (MarginTooShort (wholeReach (highXofY group r)))
     fewest k less =
-        reach-fewest group t r (room c out) (l .form .isOne) (l .form .well) (l .holds) settled k (omega (arith, less, reported-as))
+        reach-fewest group t r (room c out) (l .over .isOne) (l .over .well) (l .holds) settled k (omega (arith, less, reported-as))
 
   given-when : member (result a) (0 ∷ 8 ∷ 9 ∷ 10 ∷ []) ≡ true → Undecided group t r → result a ≡ 8
   given-when e u =
       let x = is-late e in
-      let margin = verdict-margin group t r (room c out) (x .form .isOne) (x .form .well) (x .holds) (x .none) .1 u in
-      number-is ∙ eqb-true (numberIn (replyOf c out)) 8 (sym (margin-is (replyOf c out)) ∙ ap isMargin (x .form .its) ∙ margin)
+      let margin = verdict-margin group t r (room c out) (x .over .isOne) (x .over .well) (x .holds) (x .none) .1 u in
+      number-is ∙ eqb-true (numberIn (replyOf c out)) 8 (sym (margin-is (replyOf c out)) ∙ ap isMargin (x .over .its) ∙ margin)
 
-  only-when : result a ≡ 8 → Parted group t r
-  only-when e =
+  shown : result a ≡ 8 → Parted group t r
+  shown e =
       let x = is-late (rw e (unfold member in refl)) in
-      verdict-margin group t r (room c out) (x .form .isOne) (x .form .well) (x .holds) (x .none) .0
-      (sym (ap isMargin (x .form .its)) ∙ margin-is (replyOf c out) ∙ eq-eqb (numberIn (replyOf c out)) 8 (sym number-is ∙ e))
+      verdict-margin group t r (room c out) (x .over .isOne) (x .over .well) (x .holds) (x .none) .0
+      (sym (ap isMargin (x .over .its)) ∙ margin-is (replyOf c out) ∙ eq-eqb (numberIn (replyOf c out)) 8 (sym number-is ∙ e))
 
   demand3 : Demand3 c a out after
   demand3 =
       record {
         stable = stable;
-        given-when = given-when;
-        only-when = only-when;
-        held = within;
-        same = same;
-        fewest = fewest;
+        exactly = λ e. (λ m. shown m .two, given-when e);
+        shown = shown;
+        reach-held = within;
+        reach-same = same;
+        reach-fewest = λ s k less. fewest s k (omega (arith, less));
       }
 
   -- ---- what plays no part
   plays-none : NoPart c a out after
-  plays-none u x n e =
+  plays-none e u x n =
       let f = past c out (rw number-is at (ap not e)) in
       let other = none-of-table u (rw table-rows at n) in
       gets-same c a out after

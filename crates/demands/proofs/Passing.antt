@@ -8,7 +8,6 @@ use lib.Dec.{eqb}
 use Rattle.lists.specs.Lists.{all, any, member}
 use Rattle.lists.proofs.Bools.{bool-cases, clash}
 use Rattle.calendar.specs.Holidays.{group}
-use Rattle.method.specs.declared.Request.{Request}
 use Rattle.method.specs.declared.Refusal.{Refusal}
 use Rattle.method.specs.Table.{Table, held, history, isExtract}
 use Rattle.method.specs.Method.{outcome}
@@ -27,7 +26,7 @@ passes : (q : Reply → Bool) (rs : List (Bool × Refusal)) (x : Reply) → all 
     → (any test rs ≡ false) × (firstOf rs x ≡ x)
 passes q rs x o e = ⊎-elim (λ y. absurd (clash e (early-other q rs x o y))) (λ n. (n, none-early rs x n)) (bool-cases (any test rs))
 
--- a test of a reply that 11 and 12, and that 1 to 3, and that 4 to 7 fail
+-- a test of a reply that 11 and 12 fail, and that 1 to 3 fail
 module _ (q : Reply → Bool) where
   abbrev pub NotOfFile : Type 0
   NotOfFile = (c : Call) → all (other q) (fileRows c) ≡ true
@@ -35,19 +34,16 @@ module _ (q : Reply → Bool) where
   abbrev pub NotOfTable : Type 0
   NotOfTable = (t : Table) → all (other q) (tableRefusals t) ≡ true
 
-  abbrev pub NotOfRequest : Type 0
-  NotOfRequest = (t : Table) (r : Request) (room : ℕ) → all (other q) (requestRefusals t r room) ≡ true
-
 -- the reply is the verdict over a well-formed extract
-pub record Formed (c : Call) (out : List ℕ) : Type 0 where
+pub record OverFormed (c : Call) (out : List ℕ) : Type 0 where
   pub its : replyOf c out ≡ verdict group (extract c) (request c) (room c out)
   pub same : verdict group (extract c) (request c) (room c out) ≡ methodology group (extract c) (request c) (room c out)
   pub isOne : isExtract (extract c) ≡ true
   pub well : wellFormed (extract c) ≡ true
 
-pub formed : (q : Reply → Bool) → NotOfFile q → NotOfTable q → (c : Call) (out : List ℕ) → q (replyOf c out) ≡ true → Formed c out
+pub over-formed : (q : Reply → Bool) → NotOfFile q → NotOfTable q → (c : Call) (out : List ℕ) → q (replyOf c out) ≡ true → OverFormed c out
 unfolding verdict
-formed q f t c out e =
+over-formed q f t c out e =
     let file = passes q (fileRows c) (verdict group (extract c) (request c) (room c out)) (f c) (rw (over-extract c out) at e) in
     let its = over-extract c out ∙ file .1 in
     let table = passes q (tableRefusals (extract c)) (methodology group (extract c) (request c) (room c out)) (t (extract c)) (rw its at e) in
@@ -56,7 +52,7 @@ formed q f t c out e =
 
 -- and no refusal before 8 applies: the event is held
 pub record Late (c : Call) (out : List ℕ) : Type 0 where
-  pub form : Formed c out
+  pub over : OverFormed c out
   pub none : NoneEarlier (extract c) (request c) (room c out)
   pub holds : held (history (extract c)) (request c .event) ≡ true
 
@@ -71,10 +67,10 @@ late-file (ofFile file place) = refl
 pub late : (c : Call) (out : List ℕ) → isLate (replyOf c out) ≡ true → Late c out
 unfolding methodology
 late c out e =
-    let f = formed isLate late-file (λ t. unfold tableRefusals all member in refl) c out e in
+    let f = over-formed isLate late-file (λ t. unfold tableRefusals all member in refl) c out e in
     let n = passes isLate (requestRefusals (extract c) (request c) (room c out)) (closing (outcome (highXofY group (request c)) (history (extract c))))
     (unfold requestRefusals all member in refl) (rw (f .its ∙ f .same) at e) in
-    record { form = f; none = n .0; holds = known (extract c) (request c) (room c out) (n .0) .1 }
+    record { over = f; none = n .0; holds = known (extract c) (request c) (room c out) (n .0) .1 }
 
 -- a settled reply is one of these
 pub settled-late : (n : ℕ) → member n (0 ∷ 9 ∷ 10 ∷ []) ≡ true → member n (0 ∷ 8 ∷ 9 ∷ 10 ∷ []) ≡ true
@@ -95,5 +91,5 @@ unfolding fileRows all member
 past-file (overTable t r) = refl
 past-file (ofFile file place) = refl
 
-pub past : (c : Call) (out : List ℕ) → isPast (replyOf c out) ≡ true → Formed c out
-past c out e = formed isPast past-file (λ t. unfold tableRefusals all member in refl) c out e
+pub past : (c : Call) (out : List ℕ) → isPast (replyOf c out) ≡ true → OverFormed c out
+past c out e = over-formed isPast past-file (λ t. unfold tableRefusals all member in refl) c out e

@@ -1,11 +1,12 @@
 -- The tests of 01's rows are those of the definitions: a test and its contrary, of numbers, of two tests and of lists.
-use Prim.Native.Nat.{ℕ}
+use Prim.Native.Nat.{ℕ, _<_}
 use mathlib.Core.Path.{_≡_, refl}
 use mathlib.Core.Bool.{Bool, true, false, not, cond, _&&_, _||_}
 use mathlib.Core.List.{List, [], _∷_}
 use mathlib.Core.Logic.{⊎-elim}
+use native.Mathlib.Omega.{arith}
 use lib.Dec.{leb, ltb, eqb}
-use borrow.Author.Tests.{lt-ltb, le-ltb, le-leb, lt-leb}
+use borrow.Author.Tests.{lt-ltb, le-ltb, le-leb, lt-leb, ne-eqb}
 use Rattle.lists.specs.Lists.{all, any}
 use Rattle.lists.proofs.Bools.{lt-or-le}
 use Rattle.calendar.specs.declared.Group.{Group}
@@ -41,19 +42,14 @@ any-not p q e [] = refl
 any-not p q e (x ∷ xs) = rw (e x, any-not p q e xs) (and-not (p x) (all p xs))
 
 -- none is chosen exactly where the window is below N
+one-least : (g : Group) → 0 < N g
+one-least Weekday = omega arith
+one-least Saturday = omega arith
+one-least HolidayGroup = omega arith
+
+taken-none : (n : ℕ) (b : Bool) → 0 < n → eqb (cond b 0 n) 0 ≡ b
+taken-none n true e = refl
+taken-none n false e = ne-eqb n 0 (λ z. omega arith)
+
 pub none-chosen : (g : Group) (k : ℕ) → eqb (cond (ltb k (N g)) 0 (N g)) 0 ≡ ltb k (N g)
-none-chosen Weekday k = go (ltb k 5)
-  where
-    go : (b : Bool) → eqb (cond b 0 5) 0 ≡ b
-    go true = refl
-    go false = refl
-none-chosen Saturday k = go (ltb k 2)
-  where
-    go : (b : Bool) → eqb (cond b 0 2) 0 ≡ b
-    go true = refl
-    go false = refl
-none-chosen HolidayGroup k = go (ltb k 2)
-  where
-    go : (b : Bool) → eqb (cond b 0 2) 0 ≡ b
-    go true = refl
-    go false = refl
+none-chosen g k = taken-none (N g) (ltb k (N g)) (one-least g)

@@ -15,7 +15,8 @@ use Rattle.baseline.specs.Ready.{Answers}
 use Rattle.bytewise.specs.Bytewise.{FileAnswers}
 use Rattle.entry.specs.Entry.{fileReply}
 
--- a request over a lent table (`baseline::baseline`), or the event at a place of a file (`entry::file_baseline`, which a C caller's entry gives)
+-- a request over a lent table (`baseline::baseline`), or the event at a place of a file (`entry::file_baseline`, of which `hp_baseline` gives a C
+-- caller `result` and the output)
 pub data Call : Type 0 where
   overTable : Table → Request → Call
   ofFile : List ℕ → ℕ → Call
@@ -42,7 +43,7 @@ abbrev pub room : Call → List ℕ → ℕ
 room (overTable t r) out = length out
 room (ofFile file place) out = length out / 4
 
--- the result `a` and the output, `out` before the call and `after` it, are those of a reply
+-- the result `a`, and the output that was `out` before and is `after` now, are those of a reply
 abbrev pub Gets : Call → Reply → Answer → List ℕ → List ℕ → Type 0
 Gets (overTable t r) reply a out after = Answers reply a out after
 Gets (ofFile file place) reply a out after = FileAnswers reply a out after

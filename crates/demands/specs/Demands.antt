@@ -32,6 +32,10 @@ OneOf n list = member n list ≡ true
 abbrev pub quarters : Call → ℕ
 quarters c = width c * (request c .e - request c .s)
 
+-- the result is an answer, "too few days" or "no adjustment window"
+abbrev pub Settled : Answer → Type 0
+Settled a = OneOf (result a) (0 ∷ 9 ∷ 10 ∷ [])
+
 module _ (c : Call) (a : Answer) (out after : List ℕ) where
   pub record Demand1 : Type 0 where
     -- "For every table, file and request the call ends in an answer or in one refusal from the list in document 01, in its order.": the first of
@@ -40,7 +44,7 @@ module _ (c : Call) (a : Answer) (out after : List ℕ) where
     -- "When, and only when"
     pub refused-when : (w : Refusal) → (a .given ≡ Refused w) ↔ FirstIn (rows c (length out)) w
     pub answered-when : (a .given ≡ Answered) ↔ (any applies (rows c (length out)) ≡ false)
-    -- "A refusal changes no buffer"
+    -- "A refusal changes no buffer": every other buffer is lent to be read only
     pub kept : (w : Refusal) → a .given ≡ Refused w → after ≡ out
     -- "an answer writes only the quarters of the event"
     pub long : length after ≡ length out
@@ -59,23 +63,19 @@ module _ (c : Call) (a : Answer) (out after : List ℕ) where
     pub never-above : all (λ x. leb x 1200000000) (numeratorsOf (extract c) (request c)) ≡ true
     pub over : OneOf (a .denominator) (60 ∷ 24 ∷ [])
 
-  -- an answer, "too few days" or "no adjustment window"
-  abbrev pub Settled : Type 0
-  Settled = OneOf (result a) (0 ∷ 9 ∷ 10 ∷ [])
-
   pub record Demand3 : Type 0 where
     -- "Where an event over a well-formed extract gets an answer, 'too few days' or 'no adjustment window', every longer well-formed history
     -- that agrees with the extract, for the same portfolio and request, gets the same by the methodology, all numbers included."
-    pub stable : Settled → (l : Table) → LongerFormed l (extract c) → Gets c (methodology group l (request c) (room c out)) a out after
+    pub stable : Settled a → (l : Table) → LongerFormed l (extract c) → Gets c (methodology group l (request c) (room c out)) a out after
     -- "'Margin too short' is given, once no earlier refusal applies, exactly when two longer well-formed histories agree with the extract and
-    -- have different baseline windows for that request.": any two give it; two strictly longer ones, with a day in one window alone, are shown
-    pub given-when : OneOf (result a) (0 ∷ 8 ∷ 9 ∷ 10 ∷ []) → Undecided group (extract c) (request c) → result a ≡ 8
-    pub only-when : result a ≡ 8 → Parted group (extract c) (request c)
+    -- have different baseline windows for that request.": and two strictly longer ones, with a day in one window alone, are shown
+    pub exactly : OneOf (result a) (0 ∷ 8 ∷ 9 ∷ 10 ∷ []) → (result a ≡ 8) ↔ Undecided group (extract c) (request c)
+    pub shown : result a ≡ 8 → Parted group (extract c) (request c)
     -- "The reported reach is the fewest days before the event that give this result.": so many are held; the extract cut to so many gets the same
     -- result, and cut to fewer it gets "margin too short"
-    pub held : Settled → reported a ≤ heldBefore (extract c) (request c)
-    pub same : Settled → Gets c (verdict group (cutTo (extract c) (request c) (reported a)) (request c) (room c out)) a out after
-    pub fewest : Settled → (k : ℕ) → k < reported a
+    pub reach-held : Settled a → reported a ≤ heldBefore (extract c) (request c)
+    pub reach-same : Settled a → Gets c (verdict group (cutTo (extract c) (request c) (reported a)) (request c) (room c out)) a out after
+    pub reach-fewest : Settled a → (k : ℕ) → k < reported a
         → verdict group (cutTo (extract c) (request c) k) (request c) (room c out) ≡ refused (MarginTooShort (wholeReach (highXofY group (request c))))
 
 -- `u` is `t` but for day D's mark, its readings from s on, and all later days; it may end on another day
@@ -85,11 +85,11 @@ pub record SameBefore (t u : Table) (r : Request) : Type 0 where
   pub days : (d : ℕ) → d < r .event → held (history t) d ≡ true → dayOf u d ≡ dayOf t d
   pub readings : take (r .s - 96) (dayOf u (r .event) .readings) ≡ take (r .s - 96) (dayOf t (r .event) .readings)
 
--- "Day D's marks, its readings from s on, and all later days play no part beyond refusals 1 to 3.": where these are not given over `u`, nor 11 and
--- 12 or these by the call, `u` gets what the call gives
+-- "Day D's marks, its readings from s on, and all later days play no part beyond refusals 1 to 3.": where the call gives none of 11, 12 and 1 to 3,
+-- and none of 1 to 3 applies to `u`, `u` gets what the call gives
 abbrev pub NoPart : Call → Answer → List ℕ → List ℕ → Type 0
 NoPart c a out after =
-    (u : Table) → SameBefore (extract c) u (request c) → any applies (tableRows u) ≡ false → member (result a) (11 ∷ 12 ∷ 1 ∷ 2 ∷ 3 ∷ []) ≡ false
+    member (result a) (11 ∷ 12 ∷ 1 ∷ 2 ∷ 3 ∷ []) ≡ false → (u : Table) → SameBefore (extract c) u (request c) → any applies (tableRows u) ≡ false
     → Gets c (verdict group u (request c) (room c out)) a out after
 
 pub record Demands (c : Call) (a : Answer) (out after : List ℕ) : Type 0 where

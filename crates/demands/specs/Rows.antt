@@ -123,7 +123,7 @@ rows c size =
 abbrev pub applies : Bool × Refusal → Bool
 applies row = row .0
 
--- the refusal of a row: its test holds, and none before it
+-- the refusal stands in a row of which the test holds, and no test before it does
 pub record FirstIn (rows : List (Bool × Refusal)) (w : Refusal) : Type 0 where
   pub place : ℕ
   pub its : getD rows place (false, w) ≡ (true, w)

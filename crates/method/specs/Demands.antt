@@ -1,9 +1,5 @@
--- The three demands of the order (document 00).
--- Demand 1 (one answer or one refusal of the list, in its order; no buffer changed by a refusal, only the event's quarters by an answer) and
--- demand 2 (window, ranked days, adjustment and baseline as document 01 fixes them) are the contract of the public call: its whole result and its
--- output are equations with `verdict` and `written`, for every table and request (crate baseline, `Answers`).
--- Demand 3 (cut tables) is stated here, over the same definitions. `proofs/Demand3` proves it for every group of days, table and request, and
--- `proofs/Extract` carries it to `verdict`.
+-- Demand 3 of the order (document 00), cut tables, over tables of any length. `proofs/Demand3` proves it for every group of days, table and
+-- request, and `proofs/Extract` carries it to `verdict`. All three demands, about what the calls give back, stand in crate demands.
 use mathlib.Core.Path.{_≡_}
 use mathlib.Core.Bool.{Bool, true, false, _||_}
 use mathlib.Core.List.{List, reverse}
