@@ -149,11 +149,14 @@ module _ (c : Call) (a : Answer) (out after : List ℕ) (gives : Gives c a out a
     reported-as : reported a ≡ reportedIn (verdict group t r (room c out))
     reported-as = ap reported is ∙ reported-is (replyOf c out) ∙ ap reportedIn its
 
+    clear : isMargin (verdict group t r (room c out)) ≡ false
+    clear = settled-margin (verdict group t r (room c out)) settled
+
     stable : (m : Table) → LongerFormed m t → Gets c (methodology group m r (room c out)) a out after
     stable m x =
         gets-same c a out after
         (its ∙
-        sym (verdict-stable group t r (room c out) (l .over .isOne) (l .over .well) (l .holds) (settled-margin (verdict group t r (room c out)) settled) m x))
+        sym (verdict-stable group t r (room c out) (l .over .isOne) (l .over .well) (l .holds) clear m x))
         gets
 
     within : reported a ≤ heldBefore t r
