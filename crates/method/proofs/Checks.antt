@@ -9,16 +9,17 @@ use Rattle.method.specs.Relevant.{daysBefore, relevant, relevantDays}
 use Rattle.method.specs.Method.{wholeReach, seen, eligibles, spares, window, chosen, reach, isShort, outcome}
 use Rattle.method.specs.Adjustment.{windowEnds, latestEnd, adjustmentEnd, places, S, A, B, baselineAt, baseline}
 use Rattle.method.specs.HighXofY.{complete, eligible, spare, eventSum, higher, insertBy, sortBy, highXofY}
-use Rattle.method.specs.Verdict.{tableRefusals, goodRequest, requestRefusals, closing, firstOf, methodology, verdict}
+use Rattle.method.specs.Verdict.{tableRefusals, goodRequest, requestRefusals, closing, firstOf, methodology, verdict, wellFormed}
 use Rattle.method.specs.Checks.{Checks}
 use Rattle.method.specs.Edges.{Edges}
 
 -- unfolding this unfolds every definition that the tables compute with
-definitions : ℕ
+unfoldable pub definitions : ℕ
 unfolding keep all any leading member sumOf leastOf leap months newYear dayNumber yearOf easter fixedHolidays easterHolidays holidays
     isHoliday group size offset dayOf held shaped isExtract daysBefore relevant relevantDays wholeReach seen eligibles spares window chosen reach
     isShort outcome windowEnds latestEnd adjustmentEnd places S A B baselineAt baseline complete eligible spare eventSum higher insertBy sortBy
     highXofY tableRefusals goodRequest requestRefusals closing firstOf methodology verdict
+    wellFormed
 definitions = 0
 
 pub checks : Checks
@@ -55,6 +56,7 @@ unfolding definitions
 edges =
     record {
       easter-sunday = refl;
+      easter-sunday-two = refl;
       ties = refl;
       forty-five = refl;
       filled = refl;
@@ -64,8 +66,24 @@ edges =
       n-12-missing = refl;
       s-missing = refl;
       none-left = refl;
+      s-yesterday = refl;
+      s-today = refl;
+      a-across = refl;
+      b-across = refl;
       reading-taken = refl;
       reading-refused = refl;
       alone = refl;
       later = refl;
+      latest-taken = refl;
+      earliest-taken = refl;
+      p-refused = refl;
+      s-refused = refl;
+      s-late-refused = refl;
+      e-refused = refl;
+      e-late-refused = refl;
+      n-refused = refl;
+      second-mark = refl;
+      reading-100 = refl;
+      not-held = refl;
+      numbers = refl;
     }

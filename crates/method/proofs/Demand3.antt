@@ -12,22 +12,22 @@ use Rattle.lists.proofs.Keep.{leastOf-from}
 use Rattle.calendar.specs.declared.Group.{Group}
 use Rattle.method.specs.declared.Request.{Request}
 use Rattle.method.specs.declared.Refusal.the-variants.{MarginTooShort}
-use Rattle.method.specs.Table.{Table, Day, heldDays, held, history}
+use Rattle.method.specs.Table.{Table, Day, held, history}
 use Rattle.method.specs.Relevant.{relevantDays}
 use Rattle.method.specs.Method.{Method, window, reach, wholeReach, isShort, outcome}
 use Rattle.method.specs.Adjustment.{Baseline}
 use Rattle.method.specs.HighXofY.{highXofY}
 use Rattle.method.specs.Verdict.{refused, closing, methodology, wellFormed}
-use Rattle.method.specs.Demands.{LongerFormed, Part, heldBefore, windowDays, Undecided, isMargin, NoneEarlier, Demand3}
+use Rattle.method.specs.Demands.{LongerFormed, Part, heldBefore, cutTo, Undecided, Parted, isMargin, NoneEarlier, Demand3}
 use Rattle.method.proofs.Histories.{Extends, extends-held}
 use Rattle.method.proofs.Stable.{same-window, same-outcome}
 use Rattle.method.proofs.Reach.{reach-held, wide-enough, reach-short, reach-enough}
 use Rattle.method.proofs.LookBack.{lookBack-is}
 use Rattle.method.proofs.HighXofY.{lawful, relevant-lookBack}
-use Rattle.method.proofs.Tables.{longer-extends, cutTo, cut-part, cut-before}
+use Rattle.method.proofs.Tables.{longer-extends, cut-part, cut-before}
 use Rattle.method.proofs.Settled.{settled-reach}
 use Rattle.method.proofs.Replies.{earlier-cases, plain, hidden, hidden-same, margin-is, margin-carries, same-refusals}
-use Rattle.method.proofs.Undecided.{undecided}
+use Rattle.method.proofs.Undecided.{parted}
 
 pub at-most-45 : (group : ℕ → Group) (r : Request) → wholeReach (highXofY group r) ≤ 45
 unfolding wholeReach highXofY
@@ -71,15 +71,13 @@ module _ (group : ℕ → Group) (t : Table) (r : Request) (room : ℕ)
 
   given-when : NoneEarlier t r room → Undecided group t r → isMargin (methodology group t r room) ≡ true
   given-when n u =
-      margin-is group t r room n ∙
-      ⊎-elim (λ e. e) (λ e. absurd (clash (inside e) (u .outside))) (bool-cases (isShort m (history t)))
+      margin-is group t r room n ∙ ⊎-elim (λ e. e) (λ e. absurd (u .differ (rw (alike e)))) (bool-cases (isShort m (history t)))
     where
-      inside : isShort m (history t) ≡ false → member (u .day) (windowDays group (u .other) r) ≡ true
-      inside e = rw (same-windows e (u .other) (u .other-longer), ← same-windows e (u .one) (u .one-longer)) (u .inside)
+      alike : isShort m (history t) ≡ false → window m (history (u .one)) ≡ window m (history (u .other))
+      alike e = same-windows e (u .one) (u .one-longer) ∙ sym (same-windows e (u .other) (u .other-longer))
 
-  only-when : NoneEarlier t r room → isMargin (methodology group t r room) ≡ true
-      → (u : Undecided group t r) × (heldDays t < heldDays (u .one)) × (heldDays t < heldDays (u .other))
-  only-when n e = undecided group t r well holds (sym (margin-is group t r room n) ∙ e)
+  only-when : NoneEarlier t r room → isMargin (methodology group t r room) ≡ true → Parted group t r
+  only-when n e = parted group t r well holds (sym (margin-is group t r room n) ∙ e)
 
   carried : isMargin (methodology group t r room) ≡ true → methodology group t r room ≡ refused (MarginTooShort (wholeReach m))
   carried e =

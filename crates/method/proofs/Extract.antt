@@ -1,30 +1,25 @@
 -- Demand 3 in the customer's words, over the verdict of a lent table: an extract that is well formed and holds the event.
 use mathlib.Core.Path.{_≡_, refl, sym, ap, _∙_}
-use mathlib.Core.Logic.{_↔_, ⊎-elim}
-use mathlib.Core.Bool.{Bool, true, false, cond, _||_}
-use mathlib.Core.List.{reverse}
-use mathlib.Core.Option.{Option, none, some}
+use mathlib.Core.Bool.{Bool, true, false, not, _||_}
 use Prim.Native.Nat.{ℕ, _-_, _≤_, _<_}
 use native.Mathlib.Omega.{arith}
-use lib.ListN.{length, getD}
-use lib.Dec.{leb, eqb}
-use borrow.Author.Tests.{leb-true, le-leb, eqb-true}
-use Rattle.lists.specs.Lists.{all}
-use Rattle.lists.proofs.Bools.{and-left, and-right, either, clash}
+use lib.Dec.{leb}
+use borrow.Author.Tests.{leb-true, le-leb}
+use Rattle.lists.specs.Lists.{all, any}
+use Rattle.lists.proofs.Bools.{clash, and-left, and-right}
 use Rattle.calendar.specs.declared.Group.{Group}
 use Rattle.method.specs.declared.Request.{Request}
+use Rattle.method.specs.declared.Refusal.{Refusal}
 use Rattle.method.specs.declared.Refusal.the-variants.{MarginTooShort}
-use Rattle.method.specs.Table.{Table, Day, History, heldDays, held, history, shaped, isExtract}
-use Rattle.method.specs.Method.{Method, short, few, chose, dated, window, chosen, reach, wholeReach, isShort, outcome}
-use Rattle.method.specs.Adjustment.{Baseline}
+use Rattle.method.specs.Table.{Table, heldDays, held, history, shaped, isExtract, goodMark, goodReading}
+use Rattle.method.specs.Method.{reach, wholeReach}
 use Rattle.method.specs.HighXofY.{highXofY}
-use Rattle.method.specs.Verdict.{Reply, refused, answered, number, carries, tableRefusals, requestRefusals, closing, firstOf}
-use Rattle.method.specs.Verdict.{methodology, verdict, wellFormed}
-use Rattle.method.specs.Demands.{LongerFormed, Part, heldBefore, Undecided, isMargin, isSettled, reported, NoneEarlier}
-use Rattle.method.proofs.Tables.{formed-is, cutTo, cut-part, cut-before}
+use Rattle.method.specs.Verdict.{refused, tableRefusals, firstOf, methodology, verdict, wellFormed}
+use Rattle.method.specs.Demands.{LongerFormed, Part, heldBefore, cutTo, Undecided, Parted, isMargin, isSettled, reported, NoneEarlier}
+use Rattle.method.proofs.Tables.{formed-is, cut-part, cut-before}
 use Rattle.method.proofs.Reach.{reach-held}
 use Rattle.method.proofs.HighXofY.{lawful}
-use Rattle.method.proofs.Replies.{earlier-cases, plain, hidden-other, margin-is}
+use Rattle.method.proofs.Replies.{margin-is}
 use Rattle.method.proofs.Settled.{settled-margin, settled-early, settled-reach}
 use Rattle.method.proofs.Demand3.{demand3}
 
@@ -35,6 +30,20 @@ unfolding verdict tableRefusals firstOf
 verdict-is group t r room extract well =
     let f = formed-is t well in
     rw (extract, f .good-marks, f .good-readings)
+
+-- where none of the refusals 1 to 3 applies, a table is a well-formed extract
+three : (a b c : Bool) → (not a || (not b || (not c || false))) ≡ false → (a ≡ true) × (b ≡ true) × (c ≡ true)
+three true true true e = (refl, refl, refl)
+three true true false e = absurd (clash refl e)
+three true false c e = absurd (clash refl e)
+three false b c e = absurd (clash refl e)
+
+pub none-of-table : (t : Table) → any (λ (p : Bool × Refusal). p .0) (tableRefusals t) ≡ false → (isExtract t ≡ true) × (wellFormed t ≡ true)
+unfolding tableRefusals any wellFormed isExtract
+none-of-table t e = (is .0, rw (and-right (leb (heldDays t) 128) (shaped t) (is .0), is .1, is .2))
+  where
+    is : (isExtract t ≡ true) × (all goodMark (t .marks) ≡ true) × (all goodReading (t .readings) ≡ true)
+    is = three (isExtract t) (all goodMark (t .marks)) (all goodReading (t .readings)) e
 
 shaped-is : (t : Table) → wellFormed t ≡ true → shaped t ≡ true
 unfolding wellFormed
@@ -59,10 +68,11 @@ module _ (group : ℕ → Group) (t : Table) (r : Request) (room : ℕ)
   verdict-stable clear l x = demand3 group t r room well holds .stable (sym (ap isMargin is) ∙ clear) l x ∙ sym is
 
   -- "'Margin too short' is given, once no earlier refusal applies, exactly when two longer well-formed histories .. have different baseline
-  -- windows"
-  pub verdict-margin : NoneEarlier t r room → (isMargin (verdict group t r room) ≡ true) ↔ Undecided group t r
+  -- windows": any two give it, and the two that are shown are strictly longer
+  pub verdict-margin : NoneEarlier t r room
+      → (isMargin (verdict group t r room) ≡ true → Parted group t r) × (Undecided group t r → isMargin (verdict group t r room) ≡ true)
   verdict-margin n = (
-    λ e. demand3 group t r room well holds .only-when n (sym (ap isMargin is) ∙ e) .0,
+    λ e. demand3 group t r room well holds .only-when n (sym (ap isMargin is) ∙ e),
     λ u. ap isMargin is ∙ demand3 group t r room well holds .given-when n u,
   )
 
@@ -79,18 +89,19 @@ module _ (group : ℕ → Group) (t : Table) (r : Request) (room : ℕ)
     reported-is : reported (verdict group t r room) ≡ reach (highXofY group r) (history t)
     reported-is = ap reported is ∙ settled-reach group t r room settled-method
 
-    within : reported (verdict group t r room) ≤ heldBefore t r
+    -- so many days before the event are held
+    pub reach-within : reported (verdict group t r room) ≤ heldBefore t r
     unfolding highXofY
-    within =
+    reach-within =
         rw reported-is (reach-held (highXofY group r) (lawful group r) (history t) holds (sym (margin-is group t r room none-earlier) ∙ clear))
 
     -- the table cut to `k` days before the event, at most the reach
     module _ (k : ℕ) (e : k ≤ reported (verdict group t r room)) where
       part : Part (cutTo t r k) t r
-      part = cut-part t r well holds k (omega (arith, e, within))
+      part = cut-part t r well holds k (omega (arith, e, reach-within))
 
       days : heldBefore (cutTo t r k) r ≡ k
-      days = cut-before t r well holds k (omega (arith, e, within))
+      days = cut-before t r well holds k (omega (arith, e, reach-within))
 
       part-is : verdict group (cutTo t r k) r room ≡ methodology group (cutTo t r k) r room
       part-is = verdict-is group (cutTo t r k) r room (part-extract t (cutTo t r k) r extract part) (part .formed)

@@ -2,6 +2,7 @@ pub mod Checks
 pub mod Falling
 pub mod LookBack
 pub mod Histories
+pub mod AnotherOrder
 pub mod Seen
 pub mod Longer
 pub mod Window

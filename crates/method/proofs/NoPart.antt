@@ -91,7 +91,7 @@ first-two true true c e = (refl, refl)
 first-two true false c e = absurd (clash refl e)
 first-two false b c e = absurd (clash refl e)
 
-known : (t : Table) (r : Request) (room : ℕ) → NoneEarlier t r room → (goodRequest r ≡ true) × (held (history t) (r .event) ≡ true)
+pub known : (t : Table) (r : Request) (room : ℕ) → NoneEarlier t r room → (goodRequest r ≡ true) × (held (history t) (r .event) ≡ true)
 unfolding requestRefusals any
 known t r room n =
     first-two (goodRequest r) (held (history t) (r .event)) (ltb (r .event) (r .participation) || (ltb room (r .e - r .s) || false)) n

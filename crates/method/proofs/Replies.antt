@@ -21,7 +21,7 @@ use Rattle.method.specs.HighXofY.{highXofY}
 use Rattle.method.specs.Verdict.{Reply, refused, requestRefusals, closing, firstOf, methodology}
 use Rattle.method.specs.Demands.{isMargin, NoneEarlier}
 
-abbrev test : Bool × Refusal → Bool
+abbrev pub test : Bool × Refusal → Bool
 test p = p .0
 
 -- a refusal of the list applies: it is the reply whatever else would be
@@ -35,7 +35,8 @@ early-same (t ∷ ts) x y e = go (t .0) e (early-same ts x y)
     go true e ih = refl
     go false e ih = ih e
 
-none-early : (rs : List (Bool × Refusal)) (x : Reply) → any test rs ≡ false → firstOf rs x ≡ x
+-- none applies: the reply is what comes after them
+pub none-early : (rs : List (Bool × Refusal)) (x : Reply) → any test rs ≡ false → firstOf rs x ≡ x
 unfolding any firstOf
 none-early [] x e = refl
 none-early (t ∷ ts) x e = go (t .0) e (none-early ts x)
@@ -46,10 +47,10 @@ none-early (t ∷ ts) x e = go (t .0) e (none-early ts x)
     go false e ih = ih e
 
 -- a reply of another kind than all the refusals
-abbrev other : (Reply → Bool) → Bool × Refusal → Bool
+abbrev pub other : (Reply → Bool) → Bool × Refusal → Bool
 other q p = not (q (refused (p .1)))
 
-early-other : (q : Reply → Bool) (rs : List (Bool × Refusal)) (x : Reply) → all (other q) rs ≡ true → any test rs ≡ true
+pub early-other : (q : Reply → Bool) (rs : List (Bool × Refusal)) (x : Reply) → all (other q) rs ≡ true → any test rs ≡ true
     → q (firstOf rs x) ≡ false
 unfolding any all firstOf
 early-other q [] x o e = absurd (clash e refl)

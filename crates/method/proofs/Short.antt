@@ -22,6 +22,13 @@ module _ {A O : Type 0} (m : Method A O) (h : History A) where
   abbrev pub Whole : Type 0
   Whole = (d : ℕ) → member d (m .relevant) ≡ true → h .first ≤ d
 
+  pub enough-cases : isShort m h ≡ false → Full ⊎ Whole
+  unfolding isShort
+  enough-cases e =
+      ⊎-elim (λ f. inl (ltb-false (length (eligibles m h)) (m .most) f))
+      (λ f. inr (λ d k. ltb-false d (h .first) (any-none (λ d. ltb d (h .first)) (m .relevant) f d k)))
+      (and-cases (ltb (length (eligibles m h)) (m .most)) (any (λ d. ltb d (h .first)) (m .relevant)) e)
+
   pub full-enough : Full → isShort m h ≡ false
   unfolding isShort
   full-enough e = rw (le-ltb (length (eligibles m h)) (m .most) e)
@@ -31,13 +38,6 @@ module _ {A O : Type 0} (m : Method A O) (h : History A) where
   whole-enough w =
       rw (any-false (λ d. ltb d (h .first)) (m .relevant) (λ d e. le-ltb d (h .first) (w d e)))
       (and-false (ltb (length (eligibles m h)) (m .most)))
-
-  pub enough-cases : isShort m h ≡ false → Full ⊎ Whole
-  unfolding isShort
-  enough-cases e =
-      ⊎-elim (λ f. inl (ltb-false (length (eligibles m h)) (m .most) f))
-      (λ f. inr (λ d k. ltb-false d (h .first) (any-none (λ d. ltb d (h .first)) (m .relevant) f d k)))
-      (and-cases (ltb (length (eligibles m h)) (m .most)) (any (λ d. ltb d (h .first)) (m .relevant)) e)
 
   module _ (short : isShort m h ≡ true) where
     pub short-few : length (eligibles m h) < m .most

@@ -82,7 +82,7 @@ module _ {A O : Type 0} (m : Method A O) (law : Lawful m) (h l : History A) (x :
 
     pub same-reach : reach m l ≡ reach m h
     unfolding reach
-    same-reach = rw same-window
+    same-reach = cc same-window
 
     pub same-outcome : outcome m l ≡ outcome m h
     same-outcome =

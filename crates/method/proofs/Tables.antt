@@ -18,7 +18,7 @@ use Rattle.dates.specs.Days.{lastDay}
 use Rattle.method.specs.declared.Request.{Request}
 use Rattle.method.specs.Table.{Table, heldDays, size, offset, dayOf, goodMark, goodReading, held, history, shaped}
 use Rattle.method.specs.Verdict.{wellFormed}
-use Rattle.method.specs.Demands.{Longer, Part, heldBefore}
+use Rattle.method.specs.Demands.{Longer, Part, heldBefore, without, cutTo}
 use Rattle.method.proofs.Histories.{Extends, held-first, held-last, is-held}
 
 -- the readings before the (k + j)-th day: those of `k` days, and those of the `j` days after them
@@ -98,10 +98,7 @@ day-size t e d h =
 pub longer-extends : {l t : Table} → Longer l t → Extends (history l) (history t)
 longer-extends x = record { starts = x .starts; ends = x .ends; agrees = x .agrees }
 
--- the table without its first `k` days
-unfoldable pub without : ℕ → Table → Table
-without k t = record { first = t .first + k; marks = drop k (t .marks); readings = drop (offset (t .first) k) (t .readings) }
-
+-- a table without its first `k` days
 module _ (k : ℕ) (t : Table) where
   without-day : (d : ℕ) → t .first + k ≤ d → dayOf t d ≡ dayOf (without k t) d
   unfolding dayOf without
@@ -150,10 +147,7 @@ module _ (k : ℕ) (t : Table) where
       split : k + (heldDays t - k) ≡ heldDays t
       split = omega arith
 
--- the table cut so that `k` days stand before the event
-abbrev pub cutTo : Table → Request → ℕ → Table
-cutTo t r k = without (heldBefore t r - k) t
-
+-- a table cut so that `k` days stand before the event
 module _ (t : Table) (r : Request) (well : wellFormed t ≡ true) (holds : held (history t) (r .event) ≡ true)
     (k : ℕ) (before : k ≤ heldBefore t r) where
   pub cut-before : heldBefore (cutTo t r k) r ≡ k

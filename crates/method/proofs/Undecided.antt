@@ -5,6 +5,7 @@ use mathlib.Core.Bool.{true, false}
 use Prim.Native.Nat.{ℕ, _-_, _≤_, _<_}
 use native.Mathlib.Omega.{arith}
 use Rattle.lists.specs.Lists.{member}
+use Rattle.lists.proofs.Bools.{clash}
 use Rattle.calendar.specs.declared.Group.{Group}
 use Rattle.method.specs.declared.Request.{Request}
 use Rattle.method.specs.Table.{Table, heldDays, dayOf, held, history, present, goodMark}
@@ -12,7 +13,7 @@ use Rattle.method.specs.Relevant.{relevantDays}
 use Rattle.method.specs.Method.{isShort}
 use Rattle.method.specs.HighXofY.{highXofY, complete, eligible, spare}
 use Rattle.method.specs.Verdict.{wellFormed}
-use Rattle.method.specs.Demands.{LongerFormed, windowDays, Undecided}
+use Rattle.method.specs.Demands.{LongerFormed, windowDays, Parted}
 use Rattle.method.proofs.Short.{short-day}
 use Rattle.method.proofs.Apart.{apart}
 use Rattle.method.proofs.HighXofY.{lawful}
@@ -71,17 +72,19 @@ module _ (group : ℕ → Group) (t : Table) (r : Request) (well : wellFormed t 
       (longer-extends (padded-longer gap 0 t room)) (longer-extends (padded-longer gap 2 t room)) holds short
       (put-eligible gap t room) (put-ineligible gap t room) (put-unspare gap t room) k k-relevant k-before (omega (arith, k-before))
 
-  pub undecided : (u : Undecided group t r) × (heldDays t < heldDays (u .one)) × (heldDays t < heldDays (u .other))
-  undecided = (
-    record {
-      one = filled 0;
-      other = filled 2;
-      one-longer = filled-longer 0 refl;
-      other-longer = filled-longer 2 refl;
-      day = windows .0;
-      inside = windows .1;
-      outside = windows .2;
-    },
-    filled-days 0,
-    filled-days 2,
-  )
+  pub parted : Parted group t r
+  parted =
+      record {
+        two = record {
+          one = filled 0;
+          other = filled 2;
+          one-longer = filled-longer 0 refl;
+          other-longer = filled-longer 2 refl;
+          differ = λ e. clash (rw e at (windows .1)) (windows .2);
+        };
+        one-adds = filled-days 0;
+        other-adds = filled-days 2;
+        day = windows .0;
+        inside = windows .1;
+        outside = windows .2;
+      }

@@ -1,21 +1,17 @@
--- The three demands of the order (document 00).
--- Demand 1 (one answer or one refusal of the list, in its order; no buffer changed by a refusal, only the event's quarters by an answer) and
--- demand 2 (window, ranked days, adjustment and baseline as document 01 fixes them) are the contract of the public call: its whole result and its
--- output are equations with `verdict` and `written`, for every table and request (crate baseline, `Answers`).
--- Demand 3 (cut tables) is stated here, over the same definitions. `proofs/Demand3` proves it for every group of days, table and request, and
--- `proofs/Extract` carries it to `verdict`.
+-- Demand 3 of the order (document 00), cut tables, over tables of any length. `proofs/Demand3` proves it for every group of days, table and
+-- request, and `proofs/Extract` carries it to `verdict`. All three demands, about what the calls give back, stand in crate demands.
 use mathlib.Core.Path.{_≡_}
 use mathlib.Core.Bool.{Bool, true, false, _||_}
 use mathlib.Core.List.{List, reverse}
 use Prim.Native.Nat.{ℕ, _+_, _-_, _≤_, _<_}
-use lib.ListN.{getD}
+use lib.ListN.{getD, drop}
 use lib.Dec.{eqb}
 use Rattle.lists.specs.Lists.{any, member}
 use Rattle.calendar.specs.declared.Group.{Group}
 use Rattle.method.specs.declared.Request.{Request}
 use Rattle.method.specs.declared.Refusal.{Refusal}
 use Rattle.method.specs.declared.Refusal.the-variants.{MarginTooShort}
-use Rattle.method.specs.Table.{Table, heldDays, dayOf, held, history}
+use Rattle.method.specs.Table.{Table, heldDays, offset, dayOf, held, history}
 use Rattle.method.specs.Method.{window, wholeReach, reach, dated}
 use Rattle.method.specs.HighXofY.{highXofY}
 use Rattle.method.specs.Verdict.{Reply, refused, answered, number, carries, requestRefusals, methodology, wellFormed}
@@ -42,19 +38,33 @@ pub record Part (p t : Table) (r : Request) : Type 0 where
 abbrev pub heldBefore : Table → Request → ℕ
 heldBefore t r = r .event - t .first
 
+-- the table without its first `k` days, and the table cut so that `k` days stand before the event
+unfoldable pub without : ℕ → Table → Table
+without k t = record { first = t .first + k; marks = drop k (t .marks); readings = drop (offset (t .first) k) (t .readings) }
+
+abbrev pub cutTo : Table → Request → ℕ → Table
+cutTo t r k = without (heldBefore t r - k) t
+
 -- the days of the baseline window of a table for a request
 abbrev pub windowDays : (ℕ → Group) → Table → Request → List ℕ
 windowDays group t r = dated (window (highXofY group r) (history t))
 
--- two longer well-formed histories agree with `t` and have different windows: a day is in the one and not in the other
+-- two longer well-formed histories agree with `t` and have different baseline windows: other days, or the same in another order
 pub record Undecided (group : ℕ → Group) (t : Table) (r : Request) : Type 0 where
   pub one : Table
   pub other : Table
   pub one-longer : LongerFormed one t
   pub other-longer : LongerFormed other t
+  pub differ : windowDays group one r ≡ windowDays group other r → ⊥
+
+-- the strongest evidence of it: both are strictly longer, and a day is in the one window and not in the other
+pub record Parted (group : ℕ → Group) (t : Table) (r : Request) : Type 0 where
+  pub two : Undecided group t r
+  pub one-adds : heldDays t < heldDays (two .one)
+  pub other-adds : heldDays t < heldDays (two .other)
   pub day : ℕ
-  pub inside : member day (windowDays group one r) ≡ true
-  pub outside : member day (windowDays group other r) ≡ false
+  pub inside : member day (windowDays group (two .one) r) ≡ true
+  pub outside : member day (windowDays group (two .other) r) ≡ false
 
 -- the reply is "margin too short"
 abbrev pub isMargin : Reply → Bool
@@ -82,10 +92,9 @@ pub record Demand3 (group : ℕ → Group) (t : Table) (r : Request) (room : ℕ
   pub stable : isMargin (methodology group t r room) ≡ false
       → (l : Table) → LongerFormed l t → methodology group l r room ≡ methodology group t r room
   -- "'Margin too short' is given, once no earlier refusal applies, exactly when two longer well-formed histories agree with the extract and
-  -- have different baseline windows for that request." The two that are shown are strictly longer
+  -- have different baseline windows for that request.": any two give it, and where it is given two strictly longer ones are shown
   pub given-when : NoneEarlier t r room → Undecided group t r → isMargin (methodology group t r room) ≡ true
-  pub only-when : NoneEarlier t r room → isMargin (methodology group t r room) ≡ true
-      → (u : Undecided group t r) × (heldDays t < heldDays (u .one)) × (heldDays t < heldDays (u .other))
+  pub only-when : NoneEarlier t r room → isMargin (methodology group t r room) ≡ true → Parted group t r
   -- it carries D minus the oldest relevant day, at most 45, and with that many days before the event it is never given
   pub carried : isMargin (methodology group t r room) ≡ true
       → methodology group t r room ≡ refused (MarginTooShort (wholeReach (highXofY group r)))

@@ -1,19 +1,19 @@
 -- Both sides of lines that 01 draws and does not mark P, and of the slips that it names. `proofs/Checks` proves them.
 use mathlib.Core.Path.{_≡_}
 use mathlib.Core.Bool.{true, false}
-use mathlib.Core.List.{List, [], _∷_, _++_}
+use mathlib.Core.List.{List, [], _∷_, _++_, map}
 use Prim.Native.Nat.{ℕ}
 use lib.ListN.{replicate, set}
 use Rattle.calendar.specs.Holidays.{group}
 use Rattle.method.specs.declared.Request.{Request}
-use Rattle.method.specs.declared.Refusal.{Refusal}
-use Rattle.method.specs.declared.Refusal.the-variants.{NotYetParticipating, MarginTooShort, TooFew}
-use Rattle.method.specs.Table.{Table, goodReading, missing, history}
+use Rattle.method.specs.declared.Refusal.the-variants.{BadFile, NoEvent, BadTable, BadMark, BadReading, BadRequest, NotHeld}
+use Rattle.method.specs.declared.Refusal.the-variants.{NotYetParticipating, NoRoom, MarginTooShort, TooFew, NoAdjustmentWindow}
+use Rattle.method.specs.Table.{Table, Day, goodReading, missing, history}
 use Rattle.method.specs.Method.{chosen, dated}
-use Rattle.method.specs.Adjustment.{adjustmentEnd}
+use Rattle.method.specs.Adjustment.{adjustmentEnd, places, S, A, B}
 use Rattle.method.specs.HighXofY.{highXofY}
-use Rattle.method.specs.Verdict.{Reply, refused, verdict}
-use Rattle.method.specs.Checks.{_January_, _February_, _April_, _May_, _July_, _August_, at15, marked, windowOf}
+use Rattle.method.specs.Verdict.{refused, number, goodRequest, verdict}
+use Rattle.method.specs.Checks.{_January_, _February_, _April_, _May_, _August_, at15, marked, windowOf}
 
 abbrev pub chosenOf : Table → Request → List ℕ
 chosenOf t r = dated (chosen (highXofY group r) (history t))
@@ -25,9 +25,23 @@ notified n = record { participation = 0; event = 1; s = 152; e = 156; n = n }
 abbrev pub fiveDays : ℕ → Table
 fiveDays mark = record { first = 20 August 2024; marks = set (replicate 9 0) 3 mark; readings = replicate 864 1000 }
 
+-- one chosen day of which quarter q reads q
+abbrev pub counting : List (ℕ × Day)
+counting = (0, record { mark = 0; readings = places 96 0 }) ∷ []
+
+-- two days, the second with this mark, and with this reading at place 100
+abbrev pub twoDays : ℕ → ℕ → Table
+twoDays mark reading = record { first = 27 August 2024; marks = 0 ∷ mark ∷ []; readings = set (replicate 192 1000) 100 reading }
+
+-- a request for day 9006 with these P, s, e and n
+abbrev pub asked : ℕ → ℕ → ℕ → ℕ → Request
+asked p s e n = record { participation = p; event = 9006; s = s; e = e; n = n }
+
 pub record Edges : Type 0 where
   -- D-1 is left out for a weekday alone: Easter Sunday's window has Holy Saturday, Good Friday and Labour Day
   pub easter-sunday : windowOf (marked (1 April 2024) (5 May 2024) []) (at15 8700 (5 May 2024)) ≡ 4 May 2024 ∷ 3 May 2024 ∷ 1 May 2024 ∷ []
+  -- and of its three days two are chosen: N is 2 for the holiday group too
+  pub easter-sunday-two : chosenOf (marked (1 April 2024) (5 May 2024) []) (at15 8700 (5 May 2024)) ≡ 4 May 2024 ∷ 3 May 2024 ∷ []
   -- equal sums: the nearer days are chosen, in that order
   pub ties : chosenOf (marked (1 January 2019) (2 February 2019) []) (at15 6900 6972) ≡ 26 January 2019 ∷ 19 January 2019 ∷ []
   -- of a Friday's look-back the 45th day is a Tuesday, and the 46th a Monday
@@ -42,9 +56,30 @@ pub record Edges : Type 0 where
   pub n-12-missing : adjustmentEnd (notified 12) (set (replicate 192 1000) 0 missing) ≡ 152
   pub s-missing : adjustmentEnd (notified 11) (set (replicate 192 1000) 151 missing) ≡ 151
   pub none-left : adjustmentEnd (notified 11) (replicate 11 1000 ++ replicate 181 missing) ≡ 0
+  -- "the reading at quarter t mod 96": day D-1's quarters on the ruler, and day D's; A and B over quarters 88 to 99, from one day to the other
+  pub s-yesterday : S counting 95 ≡ 95
+  pub s-today : S counting 97 ≡ 1
+  pub a-across : A (places 192 0) 100 ≡ 1122
+  pub b-across : B counting 100 ≡ 738
   -- "Reading 10,000,000 taken; 10,000,001 refused."
   pub reading-taken : goodReading 10000000 ≡ true
   pub reading-refused : goodReading 10000001 ≡ false
   -- "D equal to F and P equal to D: refusal 9 with 0 and 0. P one later: refusal 6."
   pub alone : verdict group (marked (28 August 2024) (28 August 2024) []) (at15 9006 9006) 4 ≡ refused (TooFew 0 0)
   pub later : verdict group (marked (28 August 2024) (28 August 2024) []) (at15 9007 9006) 4 ≡ refused NotYetParticipating
+  -- "s outside 96..191; e outside s+1..192; n above s", and P above 36,524: the last that are taken, and one further
+  pub latest-taken : goodRequest (asked 36524 191 192 191) ≡ true
+  pub earliest-taken : goodRequest (asked 0 96 97 0) ≡ true
+  pub p-refused : goodRequest (asked 36525 191 192 191) ≡ false
+  pub s-refused : goodRequest (asked 0 95 97 0) ≡ false
+  pub s-late-refused : goodRequest (asked 0 192 193 0) ≡ false
+  pub e-refused : goodRequest (asked 0 96 96 0) ≡ false
+  pub e-late-refused : goodRequest (asked 0 191 193 0) ≡ false
+  pub n-refused : goodRequest (asked 0 96 97 97) ≡ false
+  -- "Places count from 0 over the whole table.": of a mark with another bit the day's, of a reading its own
+  pub second-mark : verdict group (twoDays 4 1000) (at15 8700 9006) 4 ≡ refused (BadMark 1)
+  pub reading-100 : verdict group (twoDays 0 10000001) (at15 8700 9006) 4 ≡ refused (BadReading 100)
+  -- the day after the last is not held; every refusal has 01's number
+  pub not-held : verdict group (twoDays 0 1000) (at15 8700 9007) 4 ≡ refused NotHeld
+  pub numbers : map number (BadFile 0 ∷ NoEvent ∷ BadTable ∷ BadMark 0 ∷ BadReading 0 ∷ BadRequest ∷ NotHeld ∷ NotYetParticipating ∷ NoRoom ∷
+      MarginTooShort 0 ∷ TooFew 0 0 ∷ NoAdjustmentWindow 0 ∷ []) ≡ 11 ∷ 12 ∷ 1 ∷ 2 ∷ 3 ∷ 4 ∷ 5 ∷ 6 ∷ 7 ∷ 8 ∷ 9 ∷ 10 ∷ []

@@ -8,3 +8,4 @@ pub mod Lawful
 pub mod Demands
 pub mod Checks
 pub mod Edges
+pub mod AnotherOrder

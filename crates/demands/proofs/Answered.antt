@@ -1,0 +1,70 @@
+-- What an answer says of the rows, of the chosen days and of the numerators.
+use Prim.Native.Nat.{ℕ, _+_, _-_, _*_, _≤_}
+use mathlib.Core.Path.{_≡_, refl}
+use mathlib.Core.Bool.{Bool, true, false, _||_}
+use mathlib.Core.List.{List, [], _∷_, _++_}
+use native.Mathlib.Omega.{arith}
+use lib.ListN.{length, length-map, length-take}
+use borrow.Author.Tests.{ltb-false, le-ltb}
+use Rattle.lists.specs.Lists.{any, member}
+use Rattle.lists.proofs.Bools.{or-none-left, or-none-right}
+use Rattle.calendar.specs.declared.Group.{Group}
+use Rattle.calendar.specs.declared.Group.the-variants.{Weekday, Saturday, HolidayGroup}
+use Rattle.method.specs.declared.Request.{Request}
+use Rattle.method.specs.declared.Refusal.{Refusal}
+use Rattle.method.specs.Table.{Table}
+use Rattle.method.specs.Method.{dated, chosen}
+use Rattle.method.specs.HighXofY.{highXofY, higher, N}
+use Rattle.method.proofs.Sort.{length-sorted}
+use Rattle.places.proofs.Places.{length-places}
+use Rattle.demands.specs.Calls.{Call, overTable, ofFile, extract, request, width, room}
+use Rattle.demands.specs.Rows.{windowOf, chosenOf, NOf, numeratorsOf, fileRows, tableRows, requestRows, dayRows, rows, applies}
+
+none-after : (xs ys : List (Bool × Refusal)) → any applies (xs ++ ys) ≡ false → any applies ys ≡ false
+unfolding any
+none-after [] ys e = e
+none-after (x ∷ xs) ys e = none-after xs ys (or-none-right (x .0) (any applies (xs ++ ys)) e)
+
+second-row : (p q : Bool × Refusal) (rest : List (Bool × Refusal)) → any applies (p ∷ q ∷ rest) ≡ false → q .0 ≡ false
+unfolding any
+second-row p q rest e = or-none-left (q .0) (any applies rest) (or-none-right (p .0) (q .0 || any applies rest) e)
+
+-- where none of 8 to 10 applies, the window has N days; so where no row does
+window-least : (t : Table) (r : Request) → any applies (dayRows t r) ≡ false → NOf r ≤ length (windowOf t r)
+unfolding dayRows
+window-least t r e = ltb-false (length (windowOf t r)) (NOf r) (second-row _ _ _ e)
+
+window-enough : (c : Call) (size : ℕ) → any applies (rows c size) ≡ false → NOf (request c) ≤ length (windowOf (extract c) (request c))
+unfolding rows
+window-enough c size e =
+    window-least t r (none-after (requestRows t r (width c) size) (dayRows t r) (none-after (tableRows t) _ (none-after (fileRows c) _ e)))
+  where
+    t : Table
+    t = extract c
+
+    r : Request
+    r = request c
+
+-- and N days are chosen
+count-chosen : (t : Table) (r : Request) → NOf r ≤ length (windowOf t r) → length (dated (chosenOf t r)) ≡ NOf r
+unfolding chosen highXofY
+count-chosen t r e =
+    rw (length-map, length-take, length-sorted (higher r) (windowOf t r), le-ltb (length (windowOf t r)) (NOf r) e) (omega arith)
+
+pub chosen-count : (c : Call) (size : ℕ) → any applies (rows c size) ≡ false → length (dated (chosenOf (extract c) (request c))) ≡ NOf (request c)
+chosen-count c size e = count-chosen (extract c) (request c) (window-enough c size e)
+
+pub numerators-count : (t : Table) (r : Request) → length (numeratorsOf t r) ≡ r .e - r .s
+unfolding numeratorsOf
+numerators-count t r = simp (length-map, length-places)
+
+pub over-60-or-24 : (g : Group) → member (12 * N g) (60 ∷ 24 ∷ []) ≡ true
+unfolding member
+over-60-or-24 Weekday = refl
+over-60-or-24 Saturday = refl
+over-60-or-24 HolidayGroup = refl
+
+-- room for the quarters as numerators is room for them as they stand
+pub quarters-fit : (c : Call) (out : List ℕ) → request c .e - request c .s ≤ room c out → width c * (request c .e - request c .s) ≤ length out
+quarters-fit (overTable t r) out e = omega arith
+quarters-fit (ofFile file place) out e = omega arith

@@ -1,0 +1,131 @@
+-- What the contract of a call says of its result and its output, by the reply.
+use Prim.Native.Nat.{ℕ, _-_, _*_, _/_}
+use mathlib.Core.Path.{_≡_, refl, sym, ap, subst, _∙_}
+use mathlib.Core.List.{List, [], _∷_, _++_}
+use native.Mathlib.Omega.{arith}
+use native.Mathlib.Nat.{one-mul}
+use lib.ListN.{length, drop}
+use lib.Dec.{eqb}
+use Rattle.lists.specs.Lists.{member}
+use Rattle.calendar.specs.Holidays.{group}
+use Rattle.method.specs.declared.Request.{Request}
+use Rattle.method.specs.declared.Refusal.{Refusal}
+use Rattle.method.specs.declared.Refusal.the-variants.{BadFile, NoEvent, BadTable, BadMark, BadReading, BadRequest, NotHeld}
+use Rattle.method.specs.declared.Refusal.the-variants.{NotYetParticipating, NoRoom, MarginTooShort, TooFew, NoAdjustmentWindow}
+use Rattle.method.specs.Table.{Table}
+use Rattle.method.specs.Verdict.{Reply, Answer as Numbers, refused, answered, number, firstOf, verdict, written}
+use Rattle.method.specs.Demands.{isMargin, isSettled, reported as reportedIn}
+use Rattle.refusals.proofs.FirstRefusal.{first-append}
+use Rattle.record.proofs.Back.{reading-length}
+use Rattle.answer.specs.declared.Given.the-variants.{Answered, Refused}
+use Rattle.answer.specs.declared.Answer.{Answer}
+use Rattle.answer.specs.Answer.{answerOf}
+use Rattle.bytewise.specs.Bytewise.{bytesWritten}
+use Rattle.bytewise.proofs.Laws.{below-four}
+use Rattle.demands.specs.Calls.{Call, overTable, ofFile, extract, request, width, stand, room, Gets, Gives, result, reported}
+use Rattle.demands.specs.Rows.{fileRows, tableRows, requestRows, dayRows, rows, answerOver}
+use Rattle.demands.proofs.Rows.{verdict-rows, file-rows}
+
+-- the reply of a call by its rows
+abbrev pub replyOf : Call → List ℕ → Reply
+replyOf c out = firstOf (rows c (length out)) (answered (answerOver (extract c) (request c)))
+
+-- it is that of 11 and 12, and then the verdict over its extract
+pub over-extract : (c : Call) (out : List ℕ) → replyOf c out ≡ firstOf (fileRows c) (verdict group (extract c) (request c) (room c out))
+unfolding rows fileRows firstOf
+over-extract (overTable t r) out = sym (verdict-rows t r 1 (length out) (length out) (rw one-mul))
+over-extract (ofFile file place) out =
+    first-append (fileRows c) (tableRows t ++ (requestRows t r 4 (length out) ++ dayRows t r)) (answered (answerOver t r)) ∙
+    ap (firstOf (fileRows c)) (sym (verdict-rows t r 4 (length out) (length out / 4) (sym (below-four (length out) (r .e - r .s)))))
+  where
+    c : Call
+    c = ofFile file place
+
+    t : Table
+    t = extract c
+
+    r : Request
+    r = request c
+
+pub gets-same : (c : Call) (a : Answer) (out after : List ℕ) {x y : Reply} → x ≡ y → Gets c x a out after → Gets c y a out after
+gets-same c a out after e g = subst (λ (z : Reply). Gets c z a out after) e g
+
+pub gives-gets : (c : Call) (a : Answer) (out after : List ℕ) → Gives c a out after → Gets c (replyOf c out) a out after
+unfolding fileRows firstOf
+gives-gets (overTable t r) a out after g = gets-same (overTable t r) a out after (sym (over-extract (overTable t r) out)) g
+gives-gets (ofFile file place) a out after g =
+    gets-same (ofFile file place) a out after (file-rows file place (length out) ∙ sym (over-extract (ofFile file place) out)) g
+
+-- ---- the result
+pub gets-answer : (c : Call) (a : Answer) (out after : List ℕ) (x : Reply) → Gets c x a out after → a ≡ answerOf x
+gets-answer (overTable t r) a out after x g = g .answer
+gets-answer (ofFile file place) a out after x g = g .answer
+
+pub is-refused : (x : Reply) (w : Refusal) → answerOf x .given ≡ Refused w → x ≡ refused w
+unfolding answerOf
+is-refused (refused v) w e = cc
+is-refused (answered n) w e = let z : _≡_ {A = ℕ} 0 1 = cc in absurd (omega arith)
+
+pub is-answered : (x : Reply) → answerOf x .given ≡ Answered → (n : Numbers) × (x ≡ answered n)
+unfolding answerOf
+is-answered (refused v) e = let z : _≡_ {A = ℕ} 0 1 = cc in absurd (omega arith)
+is-answered (answered n) e = (n, refl)
+
+pub given-refused : (w : Refusal) → answerOf (refused w) .given ≡ Refused w
+unfolding answerOf
+given-refused w = refl
+
+pub given-answered : (n : Numbers) → answerOf (answered n) .given ≡ Answered
+unfolding answerOf
+given-answered n = refl
+
+-- 0, or the number of the refusal
+abbrev pub numberIn : Reply → ℕ
+numberIn (refused w) = number w
+numberIn (answered n) = 0
+
+pub result-is : (x : Reply) → result (answerOf x) ≡ numberIn x
+unfolding answerOf
+result-is (refused w) = refl
+result-is (answered n) = refl
+
+pub reported-is : (x : Reply) → reported (answerOf x) ≡ reportedIn x
+unfolding answerOf
+reported-is (refused w) = refl
+reported-is (answered n) = refl
+
+pub settled-is : (x : Reply) → member (numberIn x) (0 ∷ 9 ∷ 10 ∷ []) ≡ isSettled x
+unfolding member
+settled-is (answered n) = refl
+settled-is (refused (BadFile k)) = refl
+settled-is (refused NoEvent) = refl
+settled-is (refused BadTable) = refl
+settled-is (refused (BadMark k)) = refl
+settled-is (refused (BadReading k)) = refl
+settled-is (refused BadRequest) = refl
+settled-is (refused NotHeld) = refl
+settled-is (refused NotYetParticipating) = refl
+settled-is (refused NoRoom) = refl
+settled-is (refused (MarginTooShort k)) = refl
+settled-is (refused (TooFew n k)) = refl
+settled-is (refused (NoAdjustmentWindow k)) = refl
+
+pub margin-is : (x : Reply) → isMargin x ≡ eqb (numberIn x) 8
+margin-is (refused w) = refl
+margin-is (answered n) = refl
+
+-- ---- the output
+pub gets-kept : (c : Call) (a : Answer) (out after : List ℕ) (w : Refusal) → Gets c (refused w) a out after → after ≡ out
+unfolding written bytesWritten
+gets-kept (overTable t r) a out after w g = g .output
+gets-kept (ofFile file place) a out after w g = g .output
+
+pub gets-output : (c : Call) (a : Answer) (out after : List ℕ) (n : Numbers) → Gets c (answered n) a out after
+    → after ≡ stand c (n .numerators) ++ drop (width c * length (n .numerators)) out
+unfolding written bytesWritten
+gets-output (overTable t r) a out after n g = rw one-mul (g .output)
+gets-output (ofFile file place) a out after n g = g .output
+
+pub stand-length : (c : Call) (ns : List ℕ) → length (stand c ns) ≡ width c * length ns
+stand-length (overTable t r) ns = sym (one-mul (length ns))
+stand-length (ofFile file place) ns = reading-length ns

@@ -1,0 +1,139 @@
+-- The replies of the calls are those of 01's rows.
+use Prim.Native.Nat.{ℕ, _+_, _-_, _*_, _/_}
+use mathlib.Core.Path.{_≡_, refl, _∙_}
+use mathlib.Core.Bool.{Bool, true, false, not, cond, _&&_, _||_}
+use mathlib.Core.List.{List, [], _∷_, _++_, map}
+use mathlib.Core.Option.{none, some}
+use lib.ListN.{length}
+use lib.Dec.{leb, ltb, eqb}
+use Rattle.dates.specs.Days.{lastDay}
+use Rattle.calendar.specs.Holidays.{group}
+use Rattle.method.specs.declared.Request.{Request}
+use Rattle.method.specs.declared.Refusal.the-variants.{BadFile, NoEvent}
+use Rattle.method.specs.declared.Refusal.the-variants.{MarginTooShort, TooFew, NoAdjustmentWindow}
+use Rattle.method.specs.Table.{Table, heldDays, history, shaped, isExtract, goodMark, goodReading, missing}
+use Rattle.method.specs.Method.{short, few, chose, dated, wholeReach, isShort, outcome}
+use Rattle.method.specs.Adjustment.{Baseline, floored, adjustment, baselineAt, baseline}
+use Rattle.method.specs.HighXofY.{highXofY}
+use Rattle.method.specs.Verdict.{Reply, refused, answered, tableRefusals, goodRequest, requestRefusals, closing, firstOf, methodology, verdict}
+use Rattle.method.proofs.Tables.{offset-is}
+use Rattle.refusals.proofs.FirstRefusal.{first-append}
+use Rattle.baseline.proofs.Laws.{numerators-are}
+use Rattle.record.specs.declared.EventAt.the-variants.{Event, NoEvent as NoneThere}
+use Rattle.record.specs.declared.Read.the-variants.{File, Refused}
+use Rattle.record.specs.Reader.{isPF, goodEnd, eventsIn, shapeIn, readFile, tableIn, requestAt, eventAtPlace}
+use Rattle.entry.specs.Entry.{replyTo, fileReply}
+use Rattle.demands.specs.Calls.{ofFile}
+use Rattle.demands.specs.Rows.{chosenOf, windowOf, reachOf, endOf, AOf, BOf, NOf, numeratorsOf, answerOver}
+use Rattle.demands.specs.Rows.{fileRows, tableRows, requestRows, dayRows, rows}
+use Rattle.demands.proofs.Tests.{below-not, from-not, and-not, or-not, none-of-four, any-not, none-chosen}
+
+-- 1
+bad-table : (t : Table)
+    → (eqb (heldDays t) 0 || ltb 128 (heldDays t) || not (eqb (length (t .readings)) (96 * heldDays t)) || ltb 36524 (t .first + heldDays t - 1))
+    ≡ not (isExtract t)
+unfolding isExtract shaped
+bad-table t =
+    rw (below-not 128 (heldDays t), below-not 36524 (t .first + heldDays t - 1), offset-is (t .first) (heldDays t))
+    (none-of-four (eqb (heldDays t) 0) (leb (heldDays t) 128) (eqb (length (t .readings)) (96 * heldDays t)) (leb (t .first + heldDays t - 1) lastDay))
+
+-- 3
+bad-reading : (x : ℕ) → (ltb 10000000 x && not (eqb x missing)) ≡ not (goodReading x)
+bad-reading x = rw (below-not 10000000 x) (or-not (leb x 10000000) (eqb x missing))
+
+pub table-rows : (t : Table) → tableRows t ≡ tableRefusals t
+unfolding tableRows tableRefusals
+table-rows t =
+    rw (
+      bad-table t,
+      any-not goodMark (λ m. leb 4 m) (λ m. from-not 4 m) (t .marks),
+      any-not goodReading (λ x. ltb 10000000 x && not (eqb x missing)) bad-reading (t .readings),
+    )
+
+-- 4
+bad-request : (r : Request)
+    → (ltb 36524 (r .participation) || (ltb (r .s) 96 || ltb 191 (r .s)) || (ltb (r .e) (r .s + 1) || ltb 192 (r .e)) || ltb (r .s) (r .n))
+    ≡ not (goodRequest r)
+unfolding goodRequest
+bad-request r =
+    rw (
+      below-not 36524 (r .participation),
+      below-not (r .s) 96,
+      below-not 191 (r .s),
+      below-not (r .e) (r .s + 1),
+      below-not 192 (r .e),
+      below-not (r .s) (r .n),
+    )
+    (simp and-not)
+
+pub request-rows : (t : Table) (r : Request) (w size room : ℕ) → ltb size (w * (r .e - r .s)) ≡ ltb room (r .e - r .s)
+    → requestRows t r w size ≡ requestRefusals t r room
+unfolding requestRows requestRefusals
+request-rows t r w size room e = rw (bad-request r, e)
+
+-- 8 to 10, or the answer of what was worked out
+closing-rows : (s y z : Bool) (k p q n : ℕ) (days : List ℕ) (b : Baseline)
+    → closing (cond s (short k) (cond y (few p q) (chose days n (cond z none (some b)))))
+    ≡ firstOf ((s, MarginTooShort k) ∷ (y, TooFew p q) ∷ (z, NoAdjustmentWindow n) ∷ [])
+    (answered
+    (record { days = days; reach = n; denominator = b .denominator; adjusted = b .adjusted; numerators = map floored (b .numerators) }))
+unfolding closing firstOf
+closing-rows true y z k p q n days b = refl
+closing-rows false true z k p q n days b = refl
+closing-rows false false true k p q n days b = refl
+closing-rows false false false k p q n days b = refl
+
+worked : (t : Table) (r : Request) → Baseline
+worked t r = baselineAt r (NOf r) (chosenOf t r) (adjustment (NOf r) (AOf t r) (BOf t r))
+
+worked-is : (t : Table) (r : Request)
+    → record {
+      days = dated (chosenOf t r);
+      reach = reachOf t r;
+      denominator = worked t r .denominator;
+      adjusted = worked t r .adjusted;
+      numerators = map floored (worked t r .numerators);
+    } ≡ answerOver t r
+unfolding worked answerOver numeratorsOf baselineAt
+worked-is t r = rw (numerators-are r (NOf r) (chosenOf t r) (AOf t r) (BOf t r))
+
+day-rows : (t : Table) (r : Request) → closing (outcome (highXofY group r) (history t)) ≡ firstOf (dayRows t r) (answered (answerOver t r))
+unfolding outcome highXofY baseline isShort wholeReach dayRows worked
+day-rows t r =
+    closing-rows (isShort (highXofY group r) (history t)) (eqb (cond (ltb (length (windowOf t r)) (NOf r)) 0 (NOf r)) 0) (eqb (endOf t r) 0)
+    (wholeReach (highXofY group r)) (length (windowOf t r)) (reachOf t r) (reachOf t r) (dated (chosenOf t r)) (worked t r) ∙
+    rw (none-chosen (group (r .event)) (length (windowOf t r)), worked-is t r)
+
+pub verdict-rows : (t : Table) (r : Request) (w size room : ℕ) → ltb size (w * (r .e - r .s)) ≡ ltb room (r .e - r .s)
+    → verdict group t r room ≡ firstOf (tableRows t ++ (requestRows t r w size ++ dayRows t r)) (answered (answerOver t r))
+unfolding verdict methodology
+verdict-rows t r w size room e =
+    rw (
+      first-append (tableRows t) (requestRows t r w size ++ dayRows t r) (answered (answerOver t r)),
+      first-append (requestRows t r w size) (dayRows t r) (answered (answerOver t r)),
+      table-rows t,
+      request-rows t r w size room e,
+      day-rows t r,
+    )
+
+-- 11 and 12
+module _ (file : List ℕ) (place room : ℕ) where
+  its : Reply
+  its = verdict group (tableIn file) (requestAt file place) (room / 4)
+
+  at-place : (b : Bool) → replyTo (cond b (Event (requestAt file place)) NoneThere) (tableIn file) room ≡ cond (not b) (refused NoEvent) its
+  unfolding its
+  at-place true = refl
+  at-place false = refl
+
+  in-file : (p g : Bool)
+      → replyTo (eventAtPlace (cond p (cond g (File (shapeIn file)) (Refused (goodEnd file))) (Refused 0)) file place) (tableIn file) room
+      ≡ cond (not (p && g)) (refused (BadFile (cond p (goodEnd file) 0))) (cond (leb (eventsIn file) place) (refused NoEvent) its)
+  unfolding shapeIn
+  in-file true true = at-place (ltb place (eventsIn file)) ∙ rw (from-not (eventsIn file) place)
+  in-file true false = refl
+  in-file false g = refl
+
+  pub file-rows : fileReply file place room ≡ firstOf (fileRows (ofFile file place)) (verdict group (tableIn file) (requestAt file place) (room / 4))
+  unfolding fileReply readFile fileRows firstOf its
+  file-rows = in-file (isPF file) (eqb (goodEnd file) (length file))

@@ -1,0 +1,67 @@
+-- The calls that the demands speak of, and what their contracts say that they give back.
+use Prim.Native.Nat.{ℕ, _/_}
+use mathlib.Core.List.{List, reverse}
+use lib.ListN.{length, getD}
+use Rattle.calendar.specs.Holidays.{group}
+use Rattle.method.specs.declared.Request.{Request}
+use Rattle.method.specs.Table.{Table}
+use Rattle.method.specs.Verdict.{Reply, carries, verdict}
+use Rattle.record.specs.Layout.{readingBytes}
+use Rattle.record.specs.Reader.{tableIn, requestAt}
+use Rattle.answer.specs.declared.Given.{Given}
+use Rattle.answer.specs.declared.Given.the-variants.{Answered, Refused}
+use Rattle.answer.specs.declared.Answer.{Answer}
+use Rattle.baseline.specs.Ready.{Answers}
+use Rattle.bytewise.specs.Bytewise.{FileAnswers}
+use Rattle.entry.specs.Entry.{fileReply}
+use Rattle.telling.specs.Telling.{numberOf}
+
+-- a request over a lent table (`baseline::baseline`), or the event at a place of a file (`entry::file_baseline`, of which `hp_baseline` gives a C
+-- caller `result` and the output)
+pub data Call : Type 0 where
+  overTable : Table → Request → Call
+  ofFile : List ℕ → ℕ → Call
+
+-- its extract, and its request
+abbrev pub extract : Call → Table
+extract (overTable t r) = t
+extract (ofFile file place) = tableIn file
+
+abbrev pub request : Call → Request
+request (overTable t r) = r
+request (ofFile file place) = requestAt file place
+
+-- how many places of the output a numerator takes, how numerators stand there, and for how many there is room
+abbrev pub width : Call → ℕ
+width (overTable t r) = 1
+width (ofFile file place) = 4
+
+abbrev pub stand : Call → List ℕ → List ℕ
+stand (overTable t r) numerators = numerators
+stand (ofFile file place) numerators = readingBytes numerators
+
+abbrev pub room : Call → List ℕ → ℕ
+room (overTable t r) out = length out
+room (ofFile file place) out = length out / 4
+
+-- the result `a`, and the output that was `out` before and is `after` now, are those of a reply
+abbrev pub Gets : Call → Reply → Answer → List ℕ → List ℕ → Type 0
+Gets (overTable t r) reply a out after = Answers reply a out after
+Gets (ofFile file place) reply a out after = FileAnswers reply a out after
+
+-- the call gives them back: its contract, as it stands in its source
+abbrev pub Gives : Call → Answer → List ℕ → List ℕ → Type 0
+Gives (overTable t r) a out after = Answers (verdict group t r (length out)) a out after
+Gives (ofFile file place) a out after = FileAnswers (fileReply file place (length out)) a out after
+
+-- "it gets 0 or the refusal number"
+abbrev pub result : Answer → ℕ
+result a = numberOf (a .given)
+
+-- the reach that is reported: an answer's own, else the last number that 9 or 10 carries
+abbrev pub reachIn : Given → ℕ → ℕ
+reachIn Answered reach = reach
+reachIn (Refused w) reach = getD (reverse (carries w)) 0 0
+
+abbrev pub reported : Answer → ℕ
+reported a = reachIn (a .given) (a .chosen .reach)

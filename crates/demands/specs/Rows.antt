@@ -1,0 +1,130 @@
+-- 01's table of refusals, row by row, and what is answered where none applies.
+use Prim.Native.Nat.{ℕ, _+_, _-_, _*_}
+use mathlib.Core.Path.{_≡_}
+use mathlib.Core.Bool.{Bool, true, false, not, cond, _&&_, _||_}
+use mathlib.Core.List.{List, [], _∷_, _++_, map}
+use lib.ListN.{length, getD, take}
+use lib.Dec.{leb, ltb, eqb}
+use Rattle.lists.specs.Lists.{any, leading, leastOf}
+use Rattle.calendar.specs.Holidays.{group}
+use Rattle.method.specs.declared.Request.{Request}
+use Rattle.method.specs.declared.Refusal.{Refusal}
+use Rattle.method.specs.declared.Refusal.the-variants.{BadFile, NoEvent, BadTable, BadMark, BadReading, BadRequest, NotHeld}
+use Rattle.method.specs.declared.Refusal.the-variants.{NotYetParticipating, NoRoom, MarginTooShort, TooFew, NoAdjustmentWindow}
+use Rattle.method.specs.Table.{Table, Day, heldDays, dayOf, held, history, goodMark, goodReading, missing}
+use Rattle.method.specs.Relevant.{relevantDays}
+use Rattle.method.specs.Method.{eligibles, window, chosen, reach, dated}
+use Rattle.method.specs.Adjustment.{ruler, adjustmentEnd, places, S, A, B, adjustment}
+use Rattle.method.specs.HighXofY.{highXofY, Y, N}
+use Rattle.method.specs.Verdict.{Answer}
+use Rattle.record.specs.Reader.{isPF, goodEnd, eventsIn}
+use Rattle.demands.specs.Calls.{Call, overTable, ofFile, extract, request, width}
+
+-- the methodology of an extract and a request: window, chosen days and reach; the ruler, where the adjustment window ends, A and B
+module _ (t : Table) (r : Request) where
+  abbrev pub windowOf : List (ℕ × Day)
+  windowOf = window (highXofY group r) (history t)
+
+  abbrev pub chosenOf : List (ℕ × Day)
+  chosenOf = chosen (highXofY group r) (history t)
+
+  abbrev pub reachOf : ℕ
+  reachOf = reach (highXofY group r) (history t)
+
+  abbrev pub rulerOf : List ℕ
+  rulerOf = ruler (dayOf t (r .event - 1)) (dayOf t (r .event))
+
+  abbrev pub endOf : ℕ
+  endOf = adjustmentEnd r rulerOf
+
+  abbrev pub AOf : ℕ
+  AOf = A rulerOf endOf
+
+  abbrev pub BOf : ℕ
+  BOf = B chosenOf endOf
+
+-- Y and N of a request
+abbrev pub YOf : Request → ℕ
+YOf r = Y (group (r .event))
+
+abbrev pub NOf : Request → ℕ
+NOf r = N (group (r .event))
+
+-- "The baseline at event quarter t is max(0, 12·S(t) + N·A - B)/(12N)": the numerators, where `-` stops at 0
+unfoldable pub numeratorsOf : Table → Request → List ℕ
+numeratorsOf t r = map (λ q. 12 * S (chosenOf t r) q + NOf r * AOf t r - BOf t r) (places (r .e - r .s) (r .s))
+
+-- what is answered
+unfoldable pub answerOver : Table → Request → Answer
+answerOver t r =
+    record {
+      days = dated (chosenOf t r);
+      reach = reachOf t r;
+      denominator = 12 * NOf r;
+      adjusted = adjustment (NOf r) (AOf t r) (BOf t r);
+      numerators = numeratorsOf t r;
+    }
+
+-- "Refusal numbers, tested in this order": "When, and only when", and what it carries
+unfoldable pub fileRows : Call → List (Bool × Refusal)
+fileRows (overTable t r) = []
+fileRows (ofFile file place) =
+    -- 11: "file not as laid down (file callers only)", "byte offset of that record"
+    (not (isPF file && eqb (goodEnd file) (length file)), BadFile (cond (isPF file) (goodEnd file) 0)) ∷
+    -- 12: "no event at that place (host entry only)"
+    (leb (eventsIn file) place, NoEvent) ∷ []
+
+unfoldable pub tableRows : Table → List (Bool × Refusal)
+tableRows t =
+    -- 1: "h is 0 or above 128, readings not 96·h, or F+h-1 above 36,524"
+    (
+      eqb (heldDays t) 0 || ltb 128 (heldDays t) || not (eqb (length (t .readings)) (96 * heldDays t)) ||
+          ltb 36524 (t .first + heldDays t - 1),
+      BadTable,
+    ) ∷
+    -- 2: "a mark with another bit", "day place of the first"
+    (any (λ m. leb 4 m) (t .marks), BadMark (leading goodMark (t .marks))) ∷
+    -- 3: "a reading above 10,000,000 that is not the missing mark", "place of the first"
+    (any (λ x. ltb 10000000 x && not (eqb x missing)) (t .readings), BadReading (leading goodReading (t .readings))) ∷ []
+
+-- where `size` is the output's length, and `w` the places of it that a numerator takes
+unfoldable pub requestRows : Table → Request → ℕ → ℕ → List (Bool × Refusal)
+requestRows t r w size =
+    -- 4: "P above 36,524; s outside 96..191; e outside s+1..192; n above s"
+    (
+      ltb 36524 (r .participation) || (ltb (r .s) 96 || ltb 191 (r .s)) || (ltb (r .e) (r .s + 1) || ltb 192 (r .e)) || ltb (r .s) (r .n),
+      BadRequest,
+    ) ∷
+    -- 5: "D not held"
+    (not (held (history t) (r .event)), NotHeld) ∷
+    -- 6: "P later than D"
+    (ltb (r .event) (r .participation), NotYetParticipating) ∷
+    -- 7: "output shorter than e-s quarters"; of a file "below 4(e-s) bytes"
+    (ltb size (w * (r .e - r .s)), NoRoom) ∷ []
+
+unfoldable pub dayRows : Table → Request → List (Bool × Refusal)
+dayRows t r =
+    -- 8: "margin too short: eligible held days below Y and a relevant day before F", "D minus the oldest relevant day"
+    (
+      ltb (length (eligibles (highXofY group r) (history t))) (YOf r) && any (λ d. ltb d (t .first)) (relevantDays group r),
+      MarginTooShort (r .event - leastOf (r .event) (relevantDays group r)),
+    ) ∷
+    -- 9: "too few: window below N", "its size, reach"
+    (ltb (length (windowOf t r)) (NOf r), TooFew (length (windowOf t r)) (reachOf t r)) ∷
+    -- 10: "no adjustment window", "reach"
+    (eqb (endOf t r) 0, NoAdjustmentWindow (reachOf t r)) ∷ []
+
+-- 11, 12, 1 to 10
+unfoldable pub rows : Call → ℕ → List (Bool × Refusal)
+rows c size =
+    fileRows c ++ (tableRows (extract c) ++ (requestRows (extract c) (request c) (width c) size ++ dayRows (extract c) (request c)))
+
+-- the test of a row
+abbrev pub applies : Bool × Refusal → Bool
+applies row = row .0
+
+-- the refusal stands in a row of which the test holds, and no test before it does
+pub record FirstIn (rows : List (Bool × Refusal)) (w : Refusal) : Type 0 where
+  pub place : ℕ
+  pub its : getD rows place (false, w) ≡ (true, w)
+  pub none-before : any applies (take place rows) ≡ false
