@@ -4,7 +4,7 @@ ghost use lib.ListN.{length};
 ghost use Rattle.calendar.specs.Holidays.{group};
 ghost use Rattle.method.specs.Verdict.{verdict};
 ghost use Rattle.table.specs.Lent.{tableOf};
-ghost use Rattle.table.specs.Part.{placeOf};
+ghost use Rattle.table.specs.Part.{partPlace};
 ghost use Rattle.record.specs.Reader.{readFile, eventAtPlace};
 ghost use Rattle.answer.specs.Answer.{answerOf};
 ghost use Rattle.entry.specs.Entry.{fileReply};
@@ -95,7 +95,7 @@ pub extern "C" fn hp_told_table(
 // The place of a day's first reading in a table in memory.
 #[no_mangle]
 pub extern "C" fn hp_day_part(first: u32, marks: &[u8], readings: &[u32], day: u32) -> i64
-    ensures { λ r. ⌜ r ≡ placeTold (placeOf (tableOf first (now (marks .entry)) (now (readings .entry))) day) ⌝ }
+    ensures { λ r. ⌜ r ≡ placeTold (partPlace (tableOf first (now (marks .entry)) (now (readings .entry))) day) ⌝ }
 {
     let place = table::part_place(first, marks, readings, day);
     showing::tell_place(place)

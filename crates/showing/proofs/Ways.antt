@@ -4,13 +4,13 @@ use mathlib.Core.Path.{_≡_, sym, ap, _∙_}
 use lib.IntN.{ℤ}
 use Rattle.record.specs.declared.Read.{Read}
 use Rattle.record.specs.declared.EventAt.{EventAt}
-use Rattle.telling.specs.Names.{named}
+use Rattle.telling.specs.Names.{byName}
 use Rattle.showing.specs.Showing.{fileRow, fileTold, eventRow, eventTold}
 
-pub of-read : {read read′ : Read} (name : ℕ) {x : ℤ} → read ≡ read′ → x ≡ named (fileRow read′) name → x ≡ fileTold read name
+pub of-read : {read read′ : Read} (name : ℕ) {x : ℤ} → read ≡ read′ → x ≡ byName (fileRow read′) name → x ≡ fileTold read name
 unfolding fileTold
-of-read name e h = h ∙ ap (λ (r : Read). named (fileRow r) name) (sym e)
+of-read name e h = h ∙ ap (λ (r : Read). byName (fileRow r) name) (sym e)
 
-pub of-event : {at at′ : EventAt} (name : ℕ) {x : ℤ} → at ≡ at′ → x ≡ named (eventRow at′) name → x ≡ eventTold at name
+pub of-event : {at at′ : EventAt} (name : ℕ) {x : ℤ} → at ≡ at′ → x ≡ byName (eventRow at′) name → x ≡ eventTold at name
 unfolding eventTold
-of-event name e h = h ∙ ap (λ (a : EventAt). named (eventRow a) name) (sym e)
+of-event name e h = h ∙ ap (λ (a : EventAt). byName (eventRow a) name) (sym e)

@@ -13,7 +13,7 @@ use Rattle.listing.specs.declared.Listed.{Listed}
 use Rattle.listing.specs.declared.Listed.the-variants.{Length, NoRoom}
 use Rattle.table.specs.declared.Place.{Place}
 use Rattle.table.specs.declared.Place.the-variants.{Nowhere, From}
-use Rattle.telling.specs.Names.{nothing, named, refusalRow, rowFrom}
+use Rattle.telling.specs.Names.{untold, byName, refusalRow, rowFrom}
 
 -- from HP_FILE_PARTICIPATION on, which is 12: P, the portfolio number, F, h and the number of events
 unfoldable pub shapeRow : Shape → List ℤ
@@ -27,7 +27,7 @@ fileRow (Refused at) = refusalRow (BadFile at)
 
 -- what a file tells by name; refused, it is 11: "file not as laid down"
 unfoldable pub fileTold : Read → ℕ → ℤ
-fileTold read name = named (fileRow read) name
+fileTold read name = byName (fileRow read) name
 
 -- from HP_EVENT_DAY on, which is 17: D, s, e and n
 unfoldable pub requestRow : Request → List ℤ
@@ -40,11 +40,11 @@ eventRow (RefusedEvent at) = refusalRow (BadFile at)
 
 -- what an event tells by name; refused, it is 11, or 12: "no event at that place"
 unfoldable pub eventTold : EventAt → ℕ → ℤ
-eventTold at name = named (eventRow at) name
+eventTold at name = byName (eventRow at) name
 
 -- the place of a day's first reading
 abbrev pub placeTold : Place → ℤ
-placeTold Nowhere = nothing
+placeTold Nowhere = untold
 placeTold (From at) = pos at
 
 -- the length of a listing; -HP_NO_ROOM, which is -7, where it does not fit

@@ -1,6 +1,6 @@
 // What a caller written in C is told of a record file, of an event in it, of the part of a day, and of a listing, by include/honeyplank.h.
 ghost use mathlib.Core.Path.{_≡_};
-ghost use Rattle.telling.specs.Names.{named};
+ghost use Rattle.telling.specs.Names.{byName};
 ghost use Rattle.showing.specs.Showing.{shapeRow, fileTold, requestRow, eventTold, placeTold, listedTold};
 use listing::Listed;
 use method::Refusal;
@@ -13,7 +13,7 @@ use telling::NOTHING;
 
 // Of a file that is as laid down.
 fn tell_shape(shape: Shape, name: u32) -> i64
-    ensures { λ r. ⌜ r ≡ named (shapeRow shape) name ⌝ }
+    ensures { λ r. ⌜ r ≡ byName (shapeRow shape) name ⌝ }
 {
     match name {
         0 => 0,
@@ -38,7 +38,7 @@ pub fn tell_file(read: Read, name: u32) -> i64
 
 // Of an event.
 fn tell_request(request: Request, name: u32) -> i64
-    ensures { λ r. ⌜ r ≡ named (requestRow request) name ⌝ }
+    ensures { λ r. ⌜ r ≡ byName (requestRow request) name ⌝ }
 {
     match name {
         0 => 0,

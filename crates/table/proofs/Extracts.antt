@@ -13,7 +13,7 @@ use Rattle.dates.specs.Days.{lastDay}
 use Rattle.method.specs.Table.{Table, heldDays, offset, shaped, isExtract, held, history, size, dayOf, dayPart}
 use Rattle.method.proofs.Tables.{offset-is}
 use Rattle.table.specs.declared.Place.the-variants.{Nowhere, From}
-use Rattle.table.specs.Part.{hasDay, partStart, DayPart, placeOf}
+use Rattle.table.specs.Part.{hasDay, partStart, DayPart, partPlace}
 
 -- the tests of refusal 1, in code's form
 pub record Extract (t : Table) : Type 0 where
@@ -156,16 +156,16 @@ module _ (t : Table) (day : ℕ) where
 
   -- where the part of a day stands, by each way out of the code
   module _ {part : List ℕ} (e : part ≡ dayPart t day) where
-    pub place-nowhere : length part ≡ 0 → Nowhere ≡ placeOf t day
-    unfolding placeOf
+    pub place-nowhere : length part ≡ 0 → Nowhere ≡ partPlace t day
+    unfolding partPlace
     place-nowhere h = rw (← e, eq-eqb (length part) 0 h)
 
     module _ (some : length part ≡ 0 → ⊥) where
       pub part-some : hasDay t day ≡ true
       part-some = ⊎-elim (λ h. h) (λ h. absurd (some (ap length (e ∙ part-empty h)))) (bool-cases (hasDay t day))
 
-      pub place-from : {start : ℕ} → start ≡ offset (t .first) (day - t .first) → From start ≡ placeOf t day
-      unfolding placeOf partStart
+      pub place-from : {start : ℕ} → start ≡ offset (t .first) (day - t .first) → From start ≡ partPlace t day
+      unfolding partPlace partStart
       place-from s = rw (← e, ne-eqb (length part) 0 some, part-some, s)
 
   -- it is a place among at most 128 days of readings

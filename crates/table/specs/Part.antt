@@ -24,5 +24,5 @@ pub record DayPart (t : Table) (day : ℕ) (whole : ℕ × ℕ) (part : List ℕ
   pub byte : at .1 ≡ whole .1 + 4 * partStart t day
 
 -- where the part stands among the readings; an empty part stands nowhere
-unfoldable pub placeOf : Table → ℕ → Place
-placeOf t day = cond (eqb (length (dayPart t day)) 0) Nowhere (From (partStart t day))
+unfoldable pub partPlace : Table → ℕ → Place
+partPlace t day = cond (eqb (length (dayPart t day)) 0) Nowhere (From (partStart t day))

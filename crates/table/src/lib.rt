@@ -6,7 +6,7 @@ ghost use Prim.Native.Nat.{ℕ, _-_, _≤_};
 ghost use Rattle.method.specs.Table.{isExtract, held, history, offset};
 ghost use Rattle.table.specs.Lent.{tableOf};
 ghost use Rattle.table.specs.Directory.{entriesOf, directoryOf};
-ghost use Rattle.table.specs.Part.{hasDay, DayPart, placeOf};
+ghost use Rattle.table.specs.Part.{hasDay, DayPart, partPlace};
 use numbers::counts;
 use rooms::Directory;
 
@@ -121,7 +121,7 @@ pub fn day_part<'a>(first: u32, marks: &[u8], readings: &'a [u32], day: u32) -> 
 
 // Where that part stands in the lent readings; an empty part stands nowhere.
 pub fn part_place(first: u32, marks: &[u8], readings: &[u32], day: u32) -> Place
-    ensures { λ r. ⌜ r ≡ placeOf (tableOf first (now (marks .entry)) (now (readings .entry))) day ⌝ }
+    ensures { λ r. ⌜ r ≡ partPlace (tableOf first (now (marks .entry)) (now (readings .entry))) day ⌝ }
 {
     let part = day_part(first, marks, readings, day);
     if part.len() == 0 {

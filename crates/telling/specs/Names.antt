@@ -7,12 +7,12 @@ use Rattle.method.specs.declared.Refusal.{Refusal}
 use Rattle.method.specs.Verdict.{number, carries}
 
 -- HP_NOTHING, which is -2^63: what a result does not tell
-abbrev pub nothing : ℤ
-nothing = negsuc 9223372036854775807
+abbrev pub untold : ℤ
+untold = negsuc 9223372036854775807
 
--- the number of a name; nothing past the row
-unfoldable pub named : List ℤ → ℕ → ℤ
-named row name = getD row name nothing
+-- the number of a name, its place in the row; untold past the last
+unfoldable pub byName : List ℤ → ℕ → ℤ
+byName row name = getD row name untold
 
 -- of a refusal: HP_RESULT is its number, and HP_CARRIED and HP_CARRIED_SECOND are the numbers that it carries
 unfoldable pub refusalRow : Refusal → List ℤ
@@ -20,4 +20,4 @@ refusalRow w = pos (number w) ∷ map pos (carries w)
 
 -- of what is not refused: HP_RESULT is 0, and the numbers stand from the name `first` on
 unfoldable pub rowFrom : ℕ → List ℤ → List ℤ
-rowFrom first numbers = pos 0 ∷ (replicate (first - 1) nothing ++ numbers)
+rowFrom first numbers = pos 0 ∷ (replicate (first - 1) untold ++ numbers)

@@ -8,16 +8,16 @@ use Rattle.choose.specs.declared.Chosen.{Chosen}
 use Rattle.answer.specs.declared.Given.{Given}
 use Rattle.answer.specs.declared.Given.the-variants.{Answered, Refused}
 use Rattle.answer.specs.declared.Answer.{Answer}
-use Rattle.telling.specs.Names.{named, refusalRow, rowFrom}
+use Rattle.telling.specs.Names.{byName, refusalRow, rowFrom}
 
 -- "it gets 0 or the refusal number"
 abbrev pub numberOf : Given → ℕ
 numberOf Answered = 0
 numberOf (Refused w) = number w
 
--- the chosen day of a rank, counted from 0; nothing past the last one chosen
+-- the chosen day of a rank, counted from 0; untold past the last one chosen
 unfoldable pub dayOfRank : Chosen → ℕ → ℤ
-dayOfRank chosen rank = named (map pos (take (chosen .count) (chosen .days))) rank
+dayOfRank chosen rank = byName (map pos (take (chosen .count) (chosen .days))) rank
 
 -- from HP_COUNT on, which is 3: N, HP_DAY_1 to HP_DAY_5, the reach, the denominator, and the adjustment's numerator, which is 11
 unfoldable pub answerRow : Answer → List ℤ
@@ -32,4 +32,4 @@ rowOf (Refused w) a = refusalRow w
 
 -- what an answer tells by name
 unfoldable pub toldBy : Answer → ℕ → ℤ
-toldBy a name = named (rowOf (a .given) a) name
+toldBy a name = byName (rowOf (a .given) a) name

@@ -3,7 +3,7 @@ ghost use mathlib.Core.Path.{_≡_};
 ghost use mathlib.Core.List.{map};
 ghost use lib.ListN.{take};
 ghost use lib.IntN.{pos};
-ghost use Rattle.telling.specs.Names.{named, refusalRow};
+ghost use Rattle.telling.specs.Names.{byName, refusalRow};
 ghost use Rattle.telling.specs.Telling.{numberOf, answerRow, toldBy};
 use answer::Answer;
 use answer::Given;
@@ -34,7 +34,7 @@ pub fn signed(x: u32) -> i64
 
 // The number at a place of the first `count`; nothing past them.
 fn number_at(numbers: &[u32], count: usize, place: usize) -> i64
-    ensures { λ r. ⌜ r ≡ named (map pos (take count (now (numbers .entry)))) place ⌝ }
+    ensures { λ r. ⌜ r ≡ byName (map pos (take count (now (numbers .entry)))) place ⌝ }
 {
     if count <= place {
         return NOTHING;
@@ -47,7 +47,7 @@ fn number_at(numbers: &[u32], count: usize, place: usize) -> i64
 
 // Of a refusal: its number under the name 0, and what it carries under 1 and 2.
 pub fn tell_refusal(refusal: Refusal, name: u32) -> i64
-    ensures { λ r. ⌜ r ≡ named (refusalRow refusal) name ⌝ }
+    ensures { λ r. ⌜ r ≡ byName (refusalRow refusal) name ⌝ }
 {
     let told = carried::tell(refusal);
     if name == 0 {
@@ -59,7 +59,7 @@ pub fn tell_refusal(refusal: Refusal, name: u32) -> i64
 
 // Of an answer that is not refused.
 fn tell_answered(answer: Answer, name: u32) -> i64
-    ensures { λ r. ⌜ r ≡ named (answerRow answer) name ⌝ }
+    ensures { λ r. ⌜ r ≡ byName (answerRow answer) name ⌝ }
 {
     let days = answer.chosen.days;
     let chosen = answer.chosen.count as usize;

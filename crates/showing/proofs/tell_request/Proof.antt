@@ -1,7 +1,7 @@
 -- `showing::tell_request` meets its contract, name by name.
 use native.Mathlib.Omega.{arith}
 use borrow.Author.Needs.{needs}
-use Rattle.telling.specs.Names.{named, rowFrom}
+use Rattle.telling.specs.Names.{byName, rowFrom}
 use Rattle.telling.proofs.Telling.{back, no-name}
 use Rattle.showing.specs.Showing.{requestRow}
 use Rattle.showing.proofs.tell_request.Statement.{statement}
@@ -20,23 +20,23 @@ signed-requires-4 : tie.Need-signed-requires-4
 signed-requires-4 c κs = search needs
 
 returns : tie.Need-returns
-unfolding named requestRow rowFrom
+unfolding byName requestRow rowFrom
 returns c = rw (c .match .keys1)
 
 returns-2 : tie.Need-returns-2
-unfolding named requestRow rowFrom
+unfolding byName requestRow rowFrom
 returns-2 c = rw (c .before .match .keys2) (back (c .signed .result) (c .signed .ok) (c .signed .ensures))
 
 returns-3 : tie.Need-returns-3
-unfolding named requestRow rowFrom
+unfolding byName requestRow rowFrom
 returns-3 c = rw (c .before .match .keys3) (back (c .signed2 .result) (c .signed2 .ok) (c .signed2 .ensures))
 
 returns-4 : tie.Need-returns-4
-unfolding named requestRow rowFrom
+unfolding byName requestRow rowFrom
 returns-4 c = rw (c .before .match .keys4) (back (c .signed3 .result) (c .signed3 .ok) (c .signed3 .ensures))
 
 returns-5 : tie.Need-returns-5
-unfolding named requestRow rowFrom
+unfolding byName requestRow rowFrom
 returns-5 c = rw (c .before .match .keys5) (back (c .signed4 .result) (c .signed4 .ok) (c .signed4 .ensures))
 
 returns-6 : tie.Need-returns-6

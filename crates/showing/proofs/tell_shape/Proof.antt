@@ -1,7 +1,7 @@
 -- `showing::tell_shape` meets its contract, name by name.
 use native.Mathlib.Omega.{arith}
 use borrow.Author.Needs.{needs}
-use Rattle.telling.specs.Names.{named, rowFrom}
+use Rattle.telling.specs.Names.{byName, rowFrom}
 use Rattle.telling.proofs.Telling.{back, no-name}
 use Rattle.showing.specs.Showing.{shapeRow}
 use Rattle.showing.proofs.tell_shape.Statement.{statement}
@@ -23,27 +23,27 @@ signed-requires-5 : tie.Need-signed-requires-5
 signed-requires-5 c κs = search needs
 
 returns : tie.Need-returns
-unfolding named shapeRow rowFrom
+unfolding byName shapeRow rowFrom
 returns c = rw (c .match .keys1)
 
 returns-2 : tie.Need-returns-2
-unfolding named shapeRow rowFrom
+unfolding byName shapeRow rowFrom
 returns-2 c = rw (c .before .match .keys2) (back (c .signed .result) (c .signed .ok) (c .signed .ensures))
 
 returns-3 : tie.Need-returns-3
-unfolding named shapeRow rowFrom
+unfolding byName shapeRow rowFrom
 returns-3 c = rw (c .before .match .keys3) (back (c .signed2 .result) (c .signed2 .ok) (c .signed2 .ensures))
 
 returns-4 : tie.Need-returns-4
-unfolding named shapeRow rowFrom
+unfolding byName shapeRow rowFrom
 returns-4 c = rw (c .before .match .keys4) (back (c .signed3 .result) (c .signed3 .ok) (c .signed3 .ensures))
 
 returns-5 : tie.Need-returns-5
-unfolding named shapeRow rowFrom
+unfolding byName shapeRow rowFrom
 returns-5 c = rw (c .before .match .keys5) (back (c .signed4 .result) (c .signed4 .ok) (c .signed4 .ensures))
 
 returns-6 : tie.Need-returns-6
-unfolding named shapeRow rowFrom
+unfolding byName shapeRow rowFrom
 returns-6 c = rw (c .before .match .keys6) (back (c .signed5 .result) (c .signed5 .ok) (c .signed5 .ensures))
 
 returns-7 : tie.Need-returns-7

@@ -4,7 +4,7 @@ use mathlib.Core.Path.{refl}
 use native.Mathlib.Omega.{arith}
 use borrow.Author.Needs.{needs}
 use lib.Signed.{mag}
-use Rattle.telling.specs.Names.{named, rowFrom}
+use Rattle.telling.specs.Names.{byName, rowFrom}
 use Rattle.telling.specs.Telling.{answerRow}
 use Rattle.telling.proofs.Telling.{back, no-name, day-told}
 use Rattle.telling.proofs.tell_answered.Statement.{statement}
@@ -35,23 +35,23 @@ number-at-requires : tie.Need-number-at-requires
 number-at-requires c κs = search needs
 
 returns : tie.Need-returns
-unfolding named answerRow rowFrom
+unfolding byName answerRow rowFrom
 returns c = rw (c .match .keys1)
 
 returns-2 : tie.Need-returns-2
-unfolding named answerRow rowFrom
+unfolding byName answerRow rowFrom
 returns-2 c = rw (c .before .match .keys2) (back (c .signed .result) (c .signed .ok) (c .signed .ensures))
 
 returns-3 : tie.Need-returns-3
-unfolding named answerRow rowFrom
+unfolding byName answerRow rowFrom
 returns-3 c = rw (c .before .match .keys3) (back (c .signed2 .result) (c .signed2 .ok) (c .signed2 .ensures))
 
 returns-4 : tie.Need-returns-4
-unfolding named answerRow rowFrom
+unfolding byName answerRow rowFrom
 returns-4 c = rw (c .before .match .keys4) (back (c .signed3 .result) (c .signed3 .ok) (c .signed3 .ensures))
 
 returns-5 : tie.Need-returns-5
-unfolding named answerRow rowFrom
+unfolding byName answerRow rowFrom
 returns-5 c =
     let z = c .before .before .before .before .args .answer .adjustment in
     let small : mag z < 2 ^ 63 = omega (arith, c .struct-told .given) in
