@@ -1,5 +1,5 @@
 -- The listing, event by event, whole, and told into a buffer.
-use Prim.Native.Nat.{ℕ, suc, _+_, _-_, _*_, _≤_, _<_}
+use Prim.Native.Nat.{ℕ, suc, _+_, _-_, _≤_, _<_}
 use mathlib.Core.Path.{_≡_, sym}
 use mathlib.Core.List.{List, append-nil}
 use native.Mathlib.Omega.{arith}

@@ -1,5 +1,4 @@
 -- `listing::listing` meets its contract: by way of a buffer of its own, or straight into the lent one.
-use native.Mathlib.Omega.{arith}
 use borrow.Author.Needs.{needs}
 use Rattle.listing.proofs.Whole.{straight}
 use Rattle.listing.proofs.listing.Statement.{statement}
