@@ -1,6 +1,5 @@
 // The line of an event. 01: "Event line: D, s, e, N, chosen days by rank, reach, denominator, adjustment numerator." and "Refusal line: D, s, e,
 // number and what it carries."
-ghost use mathlib.Core.Path.{_≡_};
 ghost use mathlib.Core.List.{[], _∷_, _++_, map};
 ghost use Prim.Native.Nat.{_+_, _*_, _≤_};
 ghost use lib.ListN.{length, take};

@@ -1,4 +1,4 @@
--- The worked listing of 01, byte for byte from its file's bytes, by computation of the definitions.
+-- The worked listing of 01, byte for byte from its file's bytes, and the longest event, by computation of the definitions.
 use Prim.Native.Nat.{ℕ}
 use mathlib.Core.Path.{_≡_, refl}
 use Rattle.lists.specs.Lists.{keep, all, any, leading, member, sumOf, leastOf}
@@ -18,6 +18,7 @@ use Rattle.lines.specs.Lines.{spaced, lineText, linesText}
 use Rattle.lines.specs.Listing.{refusedLine, headerLine, eventLine, quarterLine, quarterLines, refusalLine, eventLines, repliedLines, linesFrom}
 use Rattle.lines.specs.Listing.{listingLines, listing}
 use Rattle.lines.specs.Worked.{workedContents, workedListing}
+use Rattle.lines.specs.Edges.{Edges}
 
 -- unfolding this unfolds every definition that the case computes with
 definitions : ℕ
@@ -33,3 +34,7 @@ definitions = 0
 pub worked-listing : listing (fileOf workedContents) ≡ workedListing
 unfolding definitions
 worked-listing = refl
+
+pub edges : Edges
+unfolding definitions
+edges = record { whole-day = refl }

@@ -4,16 +4,20 @@ use mathlib.Core.Path.{_≡_, sym, _∙_, ap}
 use mathlib.Core.List.{List, [], _++_, append-nil}
 use mathlib.Core.Logic.{⊎-elim}
 use native.Mathlib.Omega.{arith}
-use lib.ListN.{length, take, drop, length-append}
+use lib.ListN.{length, take, drop, getD, length-append}
 use lib.Seq.{length-take-le, take-at}
+use mir.Syntax.{w8}
+use mir.Val.{Fits}
 use borrow.Author.Tests.{le-leb}
 use Rattle.lists.proofs.Bools.{lt-or-le}
 use Rattle.filling.specs.Told.{toldFirst}
+use Rattle.record.proofs.Bytes.{below-take}
 use Rattle.lines.specs.Listing.{listing, longest}
 use Rattle.lines.proofs.Whole.{listing-cut}
 use Rattle.listing.specs.declared.Listed.{Listed}
 use Rattle.listing.specs.declared.Listed.the-variants.{Length, NoRoom}
 use Rattle.listing.specs.Lists.{mostListing, Lists}
+use Rattle.listing_length.proofs.Most.{listing-most}
 use Rattle.list.specs.Prints.{Prints}
 
 module _ (bytes : List ℕ) (count : ℕ) (within : count ≤ length bytes) (enough : longest < length bytes) where
@@ -31,9 +35,10 @@ module _ (bytes : List ℕ) (count : ℕ) (within : count ≤ length bytes) (eno
           ap listing (sym first) ∙ listing-cut count (take count bytes ++ more) (omega arith) long
 
   -- a text that any listing fits
-  module _ {before after : List ℕ} {r : Listed} (q : Lists (take count bytes) before r after) (room : mostListing ≤ length before) where
+  module _ (known : (i : ℕ) → Fits w8 (getD bytes i 0)) {before after : List ℕ} {r : Listed} (q : Lists (take count bytes) before r after)
+      (room : mostListing ≤ length before) where
     fits : length (listing (take count bytes)) ≤ length before
-    fits = omega (arith, q .most)
+    fits = omega (arith, listing-most (take count bytes) (below-take count bytes (λ i. known i .fits)))
 
     found : r ≡ Length (length (listing (take count bytes)))
     found = rw (le-leb (length (listing (take count bytes))) (length before) fits) at (q .result)

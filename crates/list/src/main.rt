@@ -7,12 +7,10 @@ ghost use Rattle.list.specs.Prints.{Prints};
 use libc::STDIN_FILENO;
 use libc::STDOUT_FILENO;
 use listing::Listed;
+use listing::MOST_LISTING;
 
 // One byte more than the longest file that is as laid down: what comes after it changes no listing.
 const MOST: usize = 50441;
-
-// The room that any listing fits.
-const ROOM: usize = 213194;
 
 // The listing of the input, of which so many bytes were read, at the start of the text: how long it is.
 fn list(bytes: &[u8], count: usize, text: &mut [u8]) -> usize
@@ -27,7 +25,7 @@ fn list(bytes: &[u8], count: usize, text: &mut [u8]) -> usize
 
 fn main() {
     let mut bytes = [0u8; MOST];
-    let mut text = [0u8; ROOM];
+    let mut text = [0u8; MOST_LISTING];
     let count = io::read_full(STDIN_FILENO, &mut bytes);
     let end = list(&bytes, count, &mut text);
     io::write_all(STDOUT_FILENO, &text[..end]);

@@ -1,2 +1,2 @@
-pub mod Holding
-mod Whole
+mod Holding
+pub mod Whole

@@ -1,5 +1,5 @@
 -- The listing, event by event, whole, and told into a buffer.
-use Prim.Native.Nat.{ℕ, suc, _+_, _-_, _*_, _≤_, _<_}
+use Prim.Native.Nat.{ℕ, suc, _+_, _-_, _≤_, _<_}
 use mathlib.Core.Path.{_≡_, sym}
 use mathlib.Core.List.{List, append-nil}
 use native.Mathlib.Omega.{arith}
@@ -25,7 +25,7 @@ use Rattle.first_line.specs.Room.{openingRoom}
 use Rattle.event_lines.specs.Room.{linesRoom}
 use Rattle.listing.specs.declared.Listed.{Listed}
 use Rattle.listing.specs.declared.Listed.the-variants.{Length, NoRoom}
-use Rattle.listing.specs.Lists.{mostListing, Lists}
+use Rattle.listing.specs.Lists.{Lists}
 
 -- ---- the events before `place` are written
 module _ {d : List ℕ} {at : ℕ} {t : List ℕ} {r : ℕ} {e : List ℕ} (file : List ℕ) (events place : ℕ)
@@ -61,20 +61,18 @@ unfolding put toldFirst
 put-first d t = rw zero-add
 
 module _ (file out : List ℕ) where
-  fitting : {r : ℕ} {after : List ℕ} → r ≡ length (listing file) → r ≤ length out → r ≤ mostListing → after ≡ put out 0 (listing file)
-      → Lists file out (Length r) after
-  fitting e fits most holds =
+  fitting : {r : ℕ} {after : List ℕ} → r ≡ length (listing file) → r ≤ length out → after ≡ put out 0 (listing file) → Lists file out (Length r) after
+  fitting e fits holds =
       let long : length (listing file) ≤ length out = omega arith in
       record {
         result = rw (le-leb (length (listing file)) (length out) long, e);
         output = rw holds (put-first out (listing file));
-        most = omega arith;
       }
 
-  pub straight : {r : ℕ} {after : List ℕ} → Writes out 0 (listing file) r after → r ≤ mostListing → Lists file out (Length r) after
-  straight w most = fitting (omega (arith, w .next)) (omega (arith, w .next, w .fits)) most (w .holds)
+  pub straight : {r : ℕ} {after : List ℕ} → Writes out 0 (listing file) r after → Lists file out (Length r) after
+  straight w = fitting (omega (arith, w .next)) (omega (arith, w .next, w .fits)) (w .holds)
 
-  module _ {own filled : List ℕ} {end : ℕ} (w : Writes own 0 (listing file) end filled) (most : end ≤ mostListing) where
+  module _ {own filled : List ℕ} {end : ℕ} (w : Writes own 0 (listing file) end filled) where
     long-is : end ≡ length (listing file)
     long-is = omega (arith, w .next)
 
@@ -92,11 +90,10 @@ module _ (file out : List ℕ) where
         record {
           result = rw (lt-leb (length (listing file)) (length out) long);
           output = rw (lt-leb (length (listing file)) (length out) long);
-          most = omega (arith, long-is);
         }
 
     pub copied : {r : ℕ} {after : List ℕ} → end ≤ length out → Puts out 0 (take end filled) r after → Lists file out (Length end) after
-    copied h p = fitting long-is h most (rw text-is at (p .holds))
+    copied h p = fitting long-is h (rw text-is at (p .holds))
 
 -- ---- one result
 pub lists-unique : {file out : List ℕ} {r r′ : Listed} {e e′ : List ℕ} → Lists file out r e → Lists file out r′ e′ → (r ≡ r′) × (e ≡ e′)

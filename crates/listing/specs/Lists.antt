@@ -1,5 +1,5 @@
 -- The whole listing of a file in one lent buffer.
-use Prim.Native.Nat.{ℕ, _+_, _*_, _≤_}
+use Prim.Native.Nat.{ℕ, _+_, _*_}
 use mathlib.Core.Path.{_≡_}
 use mathlib.Core.Bool.{cond}
 use mathlib.Core.List.{List}
@@ -20,4 +20,3 @@ mostListing = openingRoom + 64 * linesRoom
 pub record Lists (file out : List ℕ) (r : Listed) (out′ : List ℕ) : Type 0 where
   pub result : r ≡ cond (leb (length (listing file)) (length out)) (Length (length (listing file))) NoRoom
   pub output : out′ ≡ toldFirst (listing file) out
-  pub most : length (listing file) ≤ mostListing

@@ -20,7 +20,7 @@ pub enum Listed {
 }
 
 // The room that any listing fits: 74 bytes for the first line, and 3,330 for each of 64 events.
-const MOST: usize = 213194;
+pub const MOST_LISTING: usize = 213194;
 
 const QUARTERS: usize = 96;
 
@@ -94,7 +94,7 @@ fn put_listing(file: &[u8], out: &mut [u8]) -> usize
 fn copied(file: &[u8], out: &mut [u8]) -> Listed
     ensures { λ r. ⌜ Lists (now (file .entry)) (now (out .entry)) r (now (out .exit)) ⌝ }
 {
-    let mut own = [0u8; MOST];
+    let mut own = [0u8; MOST_LISTING];
     let end = put_listing(file, &mut own);
     if out.len() < end {
         return Listed::NoRoom;
@@ -107,7 +107,7 @@ fn copied(file: &[u8], out: &mut [u8]) -> Listed
 pub fn listing(file: &[u8], out: &mut [u8]) -> Listed
     ensures { λ r. ⌜ Lists (now (file .entry)) (now (out .entry)) r (now (out .exit)) ⌝ }
 {
-    if out.len() < MOST {
+    if out.len() < MOST_LISTING {
         return copied(file, out);
     }
     let end = put_listing(file, out);

@@ -27,7 +27,7 @@ same-length c = search needs
 returns : tie.Need-returns
 returns c =
     let s = c .before .before .before .before .before .before .before .before .before .before in
-    printed (s .args .bytes .now) (s .args .count) (s .pre .0) (s .pre .1) (c .before .before .before .before .before .listing .ensures) (s .pre .2) (c .before .size .given .1)
+    printed (s .args .bytes .now) (s .args .count) (s .pre .0) (s .pre .1) (c .before .before .before .before .before .before .before .before .before .shared-slice-known .given) (c .before .before .before .before .before .listing .ensures) (s .pre .2) (c .before .size .given .1)
 
 same-length-2 : tie.Need-same-length-2
 same-length-2 c = search needs
@@ -35,7 +35,7 @@ same-length-2 c = search needs
 returns-2 : tie.Need-returns-2
 returns-2 c =
     let s = c .before .before .before .before .before .before .before .before .before in
-    never-none (s .args .bytes .now) (s .args .count) (s .pre .0) (s .pre .1) (c .before .before .before .before .listing .ensures) (s .pre .2) (c .enum-told .given .1)
+    never-none (s .args .bytes .now) (s .args .count) (s .pre .0) (s .pre .1) (c .before .before .before .before .before .before .before .before .shared-slice-known .given) (c .before .before .before .before .listing .ensures) (s .pre .2) (c .enum-told .given .1)
 
 pub list-spec : {M : Type 1} → statement M
 list-spec =

@@ -17,19 +17,19 @@ returns : tie.Need-returns
 returns c =
     let l = c .before .before .put-listing .ensures in
     let a = c .before .before .before .before .before .before .args in
-    not-fitting (a .file .now) (a .out .now) (l .0) (l .1) (c .if1 .taken)
+    not-fitting (a .file .now) (a .out .now) (l .0) (c .if1 .taken)
 
 array-share-prefix-own : tie.Need-array-share-prefix-own
 array-share-prefix-own c =
     let l = c .before .before .before .put-listing .ensures in
     let a = c .before .before .before .before .before .before .before .args in
-    end-within (a .file .now) (a .out .now) (l .0) (l .1)
+    end-within (a .file .now) (a .out .now) (l .0)
 
 slice-aggregate-put-bytes : tie.Need-slice-aggregate-put-bytes
 slice-aggregate-put-bytes c =
     let p = c .before .before .before .before .put-listing in
     let a = c .before .before .before .before .before .before .before .before .args in
-    sym (length-take-le (p .result) (p .last .1 .0) (end-within (a .file .now) (a .out .now) (p .ensures .0) (p .ensures .1)))
+    sym (length-take-le (p .result) (p .last .1 .0) (end-within (a .file .now) (a .out .now) (p .ensures .0)))
 
 put-bytes-requires : tie.Need-put-bytes-requires
 put-bytes-requires c κs = search needs
@@ -44,7 +44,7 @@ returns-2 : tie.Need-returns-2
 returns-2 c =
     let l = c .before .before .before .before .before .before .before .put-listing .ensures in
     let a = c .before .before .before .before .before .before .before .before .before .before .before .args in
-    copied (a .file .now) (a .out .now) (l .0) (l .1) (c .before .before .before .before .before .if1 .left) (c .before .before .put-bytes .ensures .0)
+    copied (a .file .now) (a .out .now) (l .0) (c .before .before .before .before .before .if1 .left) (c .before .before .put-bytes .ensures .0)
 
 pub copied-spec : {M : Type 1} → statement M
 copied-spec =

@@ -1,5 +1,4 @@
 -- `listing::listing` meets its contract: by way of a buffer of its own, or straight into the lent one.
-use native.Mathlib.Omega.{arith}
 use borrow.Author.Needs.{needs}
 use Rattle.listing.proofs.Whole.{straight}
 use Rattle.listing.proofs.listing.Statement.{statement}
@@ -27,7 +26,7 @@ returns-2 : tie.Need-returns-2
 returns-2 c =
     let l = c .before .before .put-listing .ensures in
     let a = c .before .before .before .before .before .before .before .args in
-    straight (a .file .now) (a .out .now) (l .0) (l .1)
+    straight (a .file .now) (a .out .now) (l .0)
 
 pub listing-spec : {M : Type 1} → statement M
 listing-spec =

@@ -1,0 +1,3 @@
+mod Near
+mod Texts
+pub mod Most

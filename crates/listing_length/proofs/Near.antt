@@ -1,0 +1,232 @@
+-- How large the numbers of a verdict get, over readings of 32 bits.
+use Prim.Native.Nat.{ℕ, _+_, _-_, _*_, _%_, _^_, _≤_, _<_}
+use mathlib.Core.Path.{_≡_, refl, _∙_}
+use mathlib.Core.Bool.{Bool, true, false, cond, _&&_}
+use mathlib.Core.List.{List, [], _∷_, map}
+use mathlib.Core.Option.{Option, none, some}
+use native.Mathlib.Omega.{arith}
+use native.Mathlib.Nat.{mul-suc}
+use lib.ListN.{length, drop, getD, length-append, length-take}
+use lib.Dec.{ltb, eqb}
+use lib.Signed.{mag}
+use borrow.Author.Tests.{le-leb, lt-ltb, leb-true, ltb-true}
+use Rattle.lists.specs.Lists.{all, leading, sumOf, keep, member, leastOf}
+use Rattle.lists.proofs.Bools.{both}
+use Rattle.lists.proofs.All.{all-append, all-take, all-drop, all-at}
+use Rattle.lists.proofs.Keep.{kept-member}
+use Rattle.lists.proofs.Leading.{leading-most}
+use Rattle.calendar.specs.declared.Group.{Group}
+use Rattle.calendar.specs.declared.Group.the-variants.{Weekday, Saturday, HolidayGroup}
+use Rattle.method.specs.declared.Request.{Request}
+use Rattle.method.specs.declared.Refusal.{Refusal}
+use Rattle.method.specs.Table.{Table, Day, History, history, dayOf, held, size, offset, goodMark, goodReading}
+use Rattle.method.specs.Relevant.{relevantDays}
+use Rattle.method.specs.Method.{Method, short, few, chose, dated, seen, eligibles, spares, window, chosen, reach, wholeReach, isShort, outcome}
+use Rattle.method.specs.Adjustment.{ruler, adjustmentEnd, places, S, A, B, adjustment, Baseline, baselineAt, baseline}
+use Rattle.method.specs.HighXofY.{Y, N, eligible, spare, higher, sortBy, highXofY}
+use Rattle.method.specs.Verdict.{Answer, Reply, refused, answered, carries, tableRefusals, requestRefusals, closing, firstOf, methodology, verdict}
+use Rattle.method.proofs.LookBack.{lookBack-is}
+use Rattle.method.proofs.HighXofY.{relevant-lookBack}
+use Rattle.method.proofs.Sort.{all-sorted}
+use Rattle.choose.proofs.Days.{all-keep, all-mapped}
+use Rattle.places.proofs.Places.{length-places}
+use Rattle.numerators.proofs.Signed.{mag-difference}
+use Rattle.numerators.proofs.Windows.{small, ruler-most}
+
+-- ---- Y and N
+ten-most : (g : Group) → Y g + N g ≤ 15
+ten-most Weekday = omega arith
+ten-most Saturday = omega arith
+ten-most HolidayGroup = omega arith
+
+five-most : (g : Group) → N g ≤ 5
+five-most Weekday = omega arith
+five-most Saturday = omega arith
+five-most HolidayGroup = omega arith
+
+five-times : (g : Group) (a m : ℕ) → a ≤ m → N g * a ≤ 5 * m
+five-times Weekday a m h = omega arith
+five-times Saturday a m h = omega arith
+five-times HolidayGroup a m h = omega arith
+
+taken-most : (x : Bool) (n : ℕ) → cond x 0 n ≤ n
+taken-most true n = omega arith
+taken-most false n = omega arith
+
+either-less : (x : Bool) (d a b : ℕ) → cond x (d - a) (d - b) ≤ d
+either-less true d a b = omega arith
+either-less false d a b = omega arith
+
+sum-of-each : (f : ℕ → ℕ) (b : ℕ) → ((q : ℕ) → f q ≤ b) → (qs : List ℕ) → sumOf (map f qs) ≤ b * length qs
+unfolding sumOf
+sum-of-each f b h [] = omega arith
+sum-of-each f b h (q ∷ qs) = omega (arith, h q, sum-of-each f b h qs, mul-suc b (length qs))
+
+-- ---- days before `event` with readings of 32 bits
+module _ (event : ℕ) where
+  abbrev near : ℕ × Day → Bool
+  near p = ltb (p .0) event && all small (p .1 .readings)
+
+  days-small : event ≤ 65535 → (l : List (ℕ × Day)) → all near l ≡ true → all small (dated l) ≡ true
+  unfolding all
+  days-small h [] e = refl
+  days-small h (p ∷ l) e =
+      let k = both (near p) (all near l) e in
+      let o : p .0 ≤ 4294967295 = omega (arith, ltb-true (p .0) event (both (ltb (p .0) event) (all small (p .1 .readings)) (k .0) .0)) in
+      rw (le-leb (p .0) 4294967295 o) (days-small h l (k .1))
+
+  S-most : (l : List (ℕ × Day)) (t : ℕ) → all near l ≡ true → S l t ≤ 4294967295 * length l
+  unfolding S sumOf all
+  S-most [] t e = omega arith
+  S-most (p ∷ l) t e =
+      let k = both (near p) (all near l) e in
+      let rs = both (ltb (p .0) event) (all small (p .1 .readings)) (k .0) .1 in
+      omega (arith, leb-true (getD (p .1 .readings) (t % 96) 0) 4294967295 (all-at small 0 refl (p .1 .readings) rs (t % 96)), S-most l t (k .1))
+
+-- ---- a verdict
+pub record NearAnswer (a : Answer) : Type 0 where
+  pub days : all small (a .days) ≡ true
+  pub reach : a .reach ≤ 4294967295
+  pub denominator : a .denominator ≤ 60
+  pub adjusted : mag (a .adjusted) < 2 ^ 63
+
+abbrev pub Near : Reply → Type 0
+Near (refused w) = all small (carries w) ≡ true
+Near (answered a) = NearAnswer a
+
+carry-small : Bool × Refusal → Bool
+carry-small t = all small (carries (t .1))
+
+one-near : (x : Bool) (w : Refusal) (later : Reply) → all small (carries w) ≡ true → Near later → Near (cond x (refused w) later)
+one-near true w later e n = e
+one-near false w later e n = n
+
+first-near : (ts : List (Bool × Refusal)) (reply : Reply) → all carry-small ts ≡ true → Near reply → Near (firstOf ts reply)
+unfolding firstOf all carry-small
+first-near [] reply e n = n
+first-near (t ∷ ts) reply e n =
+    let k = both (carry-small t) (all carry-small ts) e in
+    one-near (t .0) (t .1) (firstOf ts reply) (k .0) (first-near ts reply (k .1) n)
+
+one-small : (n : ℕ) → n ≤ 4294967295 → all small (n ∷ []) ≡ true
+unfolding all
+one-small n h = rw (le-leb n 4294967295 h)
+
+two-small : (m n : ℕ) → m ≤ 4294967295 → n ≤ 4294967295 → all small (m ∷ n ∷ []) ≡ true
+unfolding all
+two-small m n h k = rw (le-leb m 4294967295 h, le-leb n 4294967295 k)
+
+module _ (group : ℕ → Group) (t : Table) (r : Request) (few-marks : length (t .marks) ≤ 128) (few-readings : length (t .readings) ≤ 12288)
+    (good : all small (t .readings) ≡ true) (early : r .event ≤ 65535) where
+  abbrev how : Method Day (Option Baseline)
+  how = highXofY group r
+
+  abbrev h : History Day
+  h = history t
+
+  abbrev g : Group
+  g = group (r .event)
+
+  day-small : (d : ℕ) → all small (dayOf t d .readings) ≡ true
+  unfolding dayOf
+  day-small d = all-take small (size d) (drop (offset (t .first) (d - t .first)) (t .readings)) (all-drop small (offset (t .first) (d - t .first)) (t .readings) good)
+
+  seen-near : all (near (r .event)) (seen how h) ≡ true
+  unfolding seen highXofY
+  seen-near = all-mapped (near (r .event)) (λ d. (d, dayOf t d)) (keep (held h) (relevantDays group r)) each
+    where
+      each : (d : ℕ) → member d (keep (held h) (relevantDays group r)) ≡ true → near (r .event) (d, dayOf t d) ≡ true
+      each d m =
+          let before = lookBack-is (r .event) d .0 (relevant-lookBack group r d (kept-member (held h) (relevantDays group r) d m)) .0 in
+          rw (lt-ltb d (r .event) before, day-small d)
+
+  window-near : all (near (r .event)) (window how h) ≡ true
+  unfolding window eligibles spares highXofY
+  window-near =
+      let kept = all-keep (near (r .event)) (λ (p : ℕ × Day). eligible (p .1)) (seen how h) seen-near in
+      let spare-days = keep (λ (p : ℕ × Day). spare (p .1)) (seen how h) in
+      let sorted = all-sorted (higher r) (near (r .event)) spare-days ∙ all-keep (near (r .event)) (λ (p : ℕ × Day). spare (p .1)) (seen how h) seen-near in
+      rw (
+        all-append,
+        all-take (near (r .event)) (Y g) (eligibles how h) kept,
+        all-take (near (r .event)) (N g - length (eligibles how h)) (spares how h) sorted,
+      )
+
+  chosen-near : all (near (r .event)) (chosen how h) ≡ true
+  unfolding chosen highXofY
+  chosen-near =
+      all-take (near (r .event)) (how .taken (length (window how h))) (sortBy (higher r) (window how h))
+      (all-sorted (higher r) (near (r .event)) (window how h) ∙ window-near)
+
+  chosen-few : length (chosen how h) ≤ 5
+  unfolding chosen highXofY
+  chosen-few = rw length-take (omega (arith, taken-most (ltb (length (window how h)) (N g)) (N g), five-most g))
+
+  window-few : length (window how h) ≤ 15
+  unfolding window highXofY
+  window-few = simp (length-append, length-take) (omega (arith, ten-most g))
+
+  whole-small : wholeReach how ≤ 4294967295
+  unfolding wholeReach highXofY
+  whole-small = omega arith
+
+  reach-small : reach how h ≤ 4294967295
+  unfolding reach wholeReach highXofY
+  reach-small =
+      omega (
+        arith,
+        either-less (eqb (length (window how h)) (Y g)) (r .event) (leastOf (r .event) (dated (window how h)))
+            (leastOf (r .event) (relevantDays group r)),
+      )
+
+  abbrev yesterday : Day
+  yesterday = dayOf t (r .event - 1)
+
+  abbrev today : Day
+  today = dayOf t (r .event)
+
+  abbrev end : ℕ
+  end = adjustmentEnd r (ruler yesterday today)
+
+  adjusted-small : mag (adjustment (N g) (A (ruler yesterday today) end) (B (chosen how h) end)) < 2 ^ 63
+  unfolding B
+  adjusted-small =
+      let own = ruler-most (yesterday .readings) (today .readings) end (day-small (r .event - 1)) (day-small (r .event)) in
+      let each : (q : ℕ) → S (chosen how h) q ≤ 4294967295 * length (chosen how h) = λ q. S-most (r .event) (chosen how h) q chosen-near in
+      let sums = sum-of-each (S (chosen how h)) (4294967295 * length (chosen how h)) each (places 12 (end - 12)) in
+      mag-difference (N g * A (ruler yesterday today) end) (B (chosen how h) end) (2 ^ 63)
+      (omega (arith, five-times g (A (ruler yesterday today) end) 51539607540 own))
+      (omega (arith, chosen-few, rw length-places at sums))
+
+  closing-near : Near (closing (outcome how h))
+  unfolding closing outcome highXofY baseline baselineAt
+  closing-near = go (isShort how h) (eqb (how .taken (length (window how h))) 0) (eqb end 0)
+    where
+      go : (x y z : Bool) → Near (closing (cond x (short (wholeReach how)) (cond y (few (length (window how h)) (reach how h))
+          (chose (dated (chosen how h)) (reach how h)
+          (cond z none (some (baselineAt r (N g) (chosen how h) (adjustment (N g) (A (ruler yesterday today) end) (B (chosen how h) end)))))))))
+      go true y z = one-small (wholeReach how) whole-small
+      go false true z = two-small (length (window how h)) (reach how h) (omega (arith, window-few)) reach-small
+      go false false true = one-small (reach how h) reach-small
+      go false false false =
+          record {
+            days = days-small (r .event) early (chosen how h) chosen-near;
+            reach = reach-small;
+            denominator = omega (arith, five-most g);
+            adjusted = adjusted-small;
+          }
+
+  table-small : all carry-small (tableRefusals t) ≡ true
+  unfolding tableRefusals all carry-small
+  table-small =
+      let mark : leading goodMark (t .marks) ≤ 4294967295 = omega (arith, leading-most goodMark (t .marks)) in
+      let reading : leading goodReading (t .readings) ≤ 4294967295 = omega (arith, leading-most goodReading (t .readings)) in
+      rw (le-leb (leading goodMark (t .marks)) 4294967295 mark, le-leb (leading goodReading (t .readings)) 4294967295 reading)
+
+  request-small : (room : ℕ) → all carry-small (requestRefusals t r room) ≡ true
+  unfolding requestRefusals all carry-small
+  request-small room = refl
+
+  pub verdict-near : (room : ℕ) → Near (verdict group t r room)
+  unfolding verdict methodology
+  verdict-near room = first-near (tableRefusals t) _ table-small (first-near (requestRefusals t r room) _ (request-small room) closing-near)

@@ -1,0 +1,13 @@
+-- How long a listing gets at most. `proofs/Most` proves it.
+use Prim.Native.Nat.{ℕ, _≤_}
+use mathlib.Core.Path.{_≡_}
+use mathlib.Core.List.{List}
+use lib.ListN.{length}
+use Rattle.record.specs.Layout.{Below}
+use Rattle.lines.specs.Listing.{listing}
+use Rattle.listing.specs.Lists.{mostListing}
+
+pub record Most : Type 0 where
+  -- a file is bytes
+  pub listings : (file : List ℕ) → Below 256 file → length (listing file) ≤ mostListing
+  pub number : mostListing ≡ 213194

@@ -1,0 +1,1 @@
+// How long a listing gets at most; no code.
