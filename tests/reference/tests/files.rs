@@ -3,6 +3,9 @@
 mod common;
 
 use common::{flat, set_day, set_mark, set_reading};
+use reference::generate::records::{
+    day_record as dy, day_records, event_record as ev, head_record as pf,
+};
 use reference::listing::rounded;
 use reference::record::read;
 use reference::table::MISSING;
@@ -18,26 +21,8 @@ portfolio 77 from 6900 held 6951 22
 6966 152 156 refused 8 42
 ";
 
-fn pf(p: u16, portfolio: u32) -> Vec<u8> {
-    [&b"PF"[..], &p.to_le_bytes(), &portfolio.to_le_bytes()].concat()
-}
-
-fn dy(day: u16, mark: u8, readings: &[u32]) -> Vec<u8> {
-    let mut record = [&b"DY"[..], &day.to_le_bytes(), &[mark, 0]].concat();
-    record.extend(readings.iter().flat_map(|reading| reading.to_le_bytes()));
-    record
-}
-
-fn ev(d: u16, s: u8, e: u8, n: u8) -> Vec<u8> {
-    [&b"EV"[..], &d.to_le_bytes(), &[s, e, n, 0]].concat()
-}
-
 fn days(table: &Table) -> Vec<u8> {
-    let parts = table.readings.chunks(96).zip(&table.marks);
-    (table.first as u16..)
-        .zip(parts)
-        .flat_map(|(day, (readings, &mark))| dy(day, mark, readings))
-        .collect()
+    day_records(table).concat()
 }
 
 fn worked_table() -> Table {
