@@ -131,8 +131,8 @@ fn compare_call(table: &Table, request: &Request, room: usize, seed: u64) -> Res
         result = verdict(table.view(), request, QUARTERS);
     }
     Told::of(&result).check("hp_told_table", &some_names(seed), |name| proved_told(table, request, name))?;
-    if seed % 4 == 0 {
-        for day in some_days(table, request, seed / 4) {
+    if seed % 16 == 0 {
+        for day in some_days(table, request, seed / 16) {
             same(&format!("hp_day_part of {day}"), &proved_part(table, day), &expected_part(table, day))?;
         }
     }

@@ -110,8 +110,8 @@ pub fn every_name() -> Vec<u32> {
 
 /// The names that a seed asks for: one, because each costs a whole call, and now and then every name.
 pub fn some_names(seed: u64) -> Vec<u32> {
-    match seed % 64 {
+    match seed % 256 {
         0 => every_name(),
-        turn => vec![((seed / 64 + turn) % (NAMES as u64 + 1)) as u32],
+        turn => vec![((seed / 256 + turn) % (NAMES as u64 + 1)) as u32],
     }
 }
