@@ -5,9 +5,10 @@
 #include "check.h"
 #include "honeyplank.h"
 #include "record.h"
+#include "told.h"
 
 /* PLACES: the events of the largest file, and one place where there is none */
-enum { DEEP = 1 << 20, THREADS = 4, CALLS = 650, PLACES = 65, LAST_NAME = HP_EVENT_NOTICE };
+enum { DEEP = 1 << 20, THREADS = 4, CALLS = 650, PLACES = 65 };
 
 static struct record_file file;
 static ucontext_t home, away;

@@ -4,7 +4,7 @@
 #[path = "../../reference/tests/common/mod.rs"]
 mod common;
 
-use common::{flat, request, set_day, set_mark, set_reading};
+use common::{august, flat, request, set_day, set_mark, set_reading, worked_file, worked_table, TABLE_5, WORKED};
 use compare::program::{prints, program, run};
 use compare::told::{every_name, Told, DAYS};
 use compare::{begins, files, proved, proved_part, proved_told, UNTOUCHED};
@@ -89,19 +89,19 @@ fn check_listing(file: &[u8], text: &str) {
 }
 
 /// Day numbers: 28 August 2024 is 9006, and 2 February 2019 is 6972.
-fn july(date: u32) -> u32 {
+fn of_july(date: u32) -> u32 {
     8947 + date
 }
 
-fn august(date: u32) -> u32 {
+fn of_august(date: u32) -> u32 {
     8978 + date
 }
 
-fn january(date: u32) -> u32 {
+fn of_january(date: u32) -> u32 {
     6939 + date
 }
 
-fn february(date: u32) -> u32 {
+fn of_february(date: u32) -> u32 {
     6970 + date
 }
 
@@ -110,19 +110,9 @@ fn at_three(p: u32, d: u32) -> Request {
     request(p, d, 152, 156, 148)
 }
 
+/// 1000 kW at each quarter, of five days and of two.
 const THOUSAND: [(u32, u32); 4] = [(60_000, 1000); 4];
 const THOUSAND_OF_TWO: [(u32, u32); 4] = [(24_000, 1000); 4];
-
-/// Held up to 28 August 2024, with the events of 7 and 23 August marked, all 1000 kW.
-fn held_from(first: u32) -> Table {
-    let mut table = flat(first, august(28), 1000);
-    for marked in [august(7), august(23)] {
-        if marked >= first {
-            set_mark(&mut table, marked, 1);
-        }
-    }
-    table
-}
 
 /// Lets each of these days be the highest in turn: the ones of the window are then chosen first, the others are not chosen.
 fn check_window(table: &Table, d: u32, days: impl Iterator<Item = u32>, window: &[u32]) {
@@ -143,55 +133,41 @@ const AUGUST_WINDOW: [u32; 10] = [26, 22, 21, 20, 19, 16, 14, 13, 12, 9];
 /// "window 26, 22, 21, 20, 19, 16, 14, 13, 12, 9 August, reach 19. Held from 10 August: refusal 8 carrying 44."
 #[test]
 fn event_of_28_august() {
-    let due = Answered(&[26, 22, 21, 20, 19].map(august), 19, 60, 0, &THOUSAND);
-    check(&held_from(july(1)), &at_three(8700, august(28)), &due);
-    check(&held_from(august(9)), &at_three(8700, august(28)), &due);
-    check(&held_from(august(10)), &at_three(8700, august(28)), &Refused(8, &[44]));
-    check_window(&held_from(july(1)), august(28), august(1)..august(28), &AUGUST_WINDOW.map(august));
+    let due = Answered(&[26, 22, 21, 20, 19].map(of_august), 19, 60, 0, &THOUSAND);
+    check(&august(of_july(1)), &at_three(8700, of_august(28)), &due);
+    check(&august(of_august(9)), &at_three(8700, of_august(28)), &due);
+    check(&august(of_august(10)), &at_three(8700, of_august(28)), &Refused(8, &[44]));
+    check_window(&august(of_july(1)), of_august(28), of_august(1)..of_august(28), &AUGUST_WINDOW.map(of_august));
 }
 
 /// 003, Tables 3 and 4: the calendar from 7 January to 2 February 2019, and the three days of Saturday's event; a Sunday is alike, and on a
 /// Friday the day before is left out.
 #[test]
 fn days_of_tables_3_and_4() {
-    let table = flat(6900, february(3), 1000);
-    let due = Answered(&[26, 19].map(january), 21, 24, 0, &THOUSAND_OF_TWO);
-    check(&table, &at_three(6900, february(2)), &due);
-    check_window(&table, february(2), january(7)..february(2), &[26, 19, 12].map(january));
-    check(&table, &at_three(6900, february(3)), &Answered(&[27, 20].map(january), 21, 24, 0, &THOUSAND_OF_TWO));
-    check_window(&table, february(3), january(7)..february(3), &[27, 20, 13].map(january));
-    let weekdays = [30, 29, 28, 25, 24, 23, 22, 21, 18, 17].map(january);
-    check(&table, &at_three(6900, february(1)), &Answered(&weekdays[..5], 15, 60, 0, &THOUSAND));
-    check_window(&table, february(1), january(7)..february(1), &weekdays);
+    let table = flat(6900, of_february(3), 1000);
+    let due = Answered(&[26, 19].map(of_january), 21, 24, 0, &THOUSAND_OF_TWO);
+    check(&table, &at_three(6900, of_february(2)), &due);
+    check_window(&table, of_february(2), of_january(7)..of_february(2), &[26, 19, 12].map(of_january));
+    check(&table, &at_three(6900, of_february(3)), &Answered(&[27, 20].map(of_january), 21, 24, 0, &THOUSAND_OF_TWO));
+    check_window(&table, of_february(3), of_january(7)..of_february(3), &[27, 20, 13].map(of_january));
+    let weekdays = [30, 29, 28, 25, 24, 23, 22, 21, 18, 17].map(of_january);
+    check(&table, &at_three(6900, of_february(1)), &Answered(&weekdays[..5], 15, 60, 0, &THOUSAND));
+    check_window(&table, of_february(1), of_january(7)..of_february(1), &weekdays);
 }
-
-/// 003, Table 5 in kW.
-const TABLE_5: [[u32; 4]; 10] = [
-    [6300, 7700, 6200, 7300],
-    [6200, 7300, 7500, 6100],
-    [7800, 7100, 6000, 4500],
-    [4900, 6900, 6600, 5800],
-    [4900, 6700, 5000, 7000],
-    [5800, 7800, 5000, 4200],
-    [5300, 7300, 6600, 4500],
-    [5000, 4400, 6300, 6700],
-    [6500, 4100, 4300, 5300],
-    [4300, 6500, 5900, 4800],
-];
 
 /// 003, Tables 5 and 6, on the ten days of 28 August's window: days 1, 2, 3, 4 and 7 are chosen, and with no adjustment the baselines are the
 /// averages of Table 6.
 #[test]
 fn ranks_and_averages_of_tables_5_and_6() {
-    let mut table = held_from(july(1));
+    let mut table = august(of_july(1));
     for (date, readings) in AUGUST_WINDOW.into_iter().zip(TABLE_5) {
         for (quarter, reading) in (56..).zip(readings) {
-            set_reading(&mut table, august(date), quarter, reading);
+            set_reading(&mut table, of_august(date), quarter, reading);
         }
     }
     let averages = [(366_000, 6100), (435_600, 7260), (394_800, 6580), (338_400, 5640)];
-    let due = Answered(&[26, 22, 21, 20, 14].map(august), 19, 60, 0, &averages);
-    check(&table, &at_three(8700, august(28)), &due);
+    let due = Answered(&[26, 22, 21, 20, 14].map(of_august), 19, 60, 0, &averages);
+    check(&table, &at_three(8700, of_august(28)), &due);
 }
 
 /// Easter, Holy Saturday and 15 August, as the days that an event is ranked among.
@@ -209,26 +185,10 @@ fn events_about_the_feasts() {
 /// 01's worked listing, whole; its first numerator is the line "N 2, S 2507, A 15132, B 30000: numerator 30348".
 #[test]
 fn worked_listing() {
-    let mut table = flat(6951, 6972, 1000);
-    for (day, reading) in [(6951, 1300), (6958, 1100), (6965, 1200), (6972, 1261)] {
-        set_day(&mut table, day, reading);
-    }
-    set_reading(&mut table, 6951, 56, 1307);
     let quarters = [(30_348, 1265), (30_264, 1261), (30_264, 1261), (30_264, 1261)];
-    check(&table, &at_three(6900, 6972), &Answered(&[6951, 6965], 21, 24, 264, &quarters));
-    check(&table, &at_three(6900, 6966), &Refused(8, &[42]));
-    let events = [event_record(6972, 152, 156, 148), event_record(6966, 152, 156, 148)].concat();
-    let file = [head_record(6900, 77), day_records(&table).concat(), events].concat();
-    let text = "\
-portfolio 77 from 6900 held 6951 22
-6972 152 156 days 2 6951 6965 reach 21 over 24 adj 264
-152 30348 1265
-153 30264 1261
-154 30264 1261
-155 30264 1261
-6966 152 156 refused 8 42
-";
-    check_listing(&file, text);
+    check(&worked_table(), &at_three(6900, 6972), &Answered(&[6951, 6965], 21, 24, 264, &quarters));
+    check(&worked_table(), &at_three(6900, 6966), &Refused(8, &[42]));
+    check_listing(&worked_file(), WORKED);
 }
 
 /// "N 2, S 10, A 0, B 1200: numerator 0".
@@ -246,24 +206,24 @@ fn baseline_is_not_below_nought() {
 /// "Reading 10,000,000 taken; 10,000,001 refused."
 #[test]
 fn highest_reading() {
-    let mut table = held_from(july(1));
-    set_reading(&mut table, july(2), 5, 10_000_000);
-    let due = Answered(&[26, 22, 21, 20, 19].map(august), 19, 60, 0, &THOUSAND);
-    check(&table, &at_three(8700, august(28)), &due);
-    set_reading(&mut table, july(2), 5, 10_000_001);
-    check(&table, &at_three(8700, august(28)), &Refused(3, &[101]));
+    let mut table = august(of_july(1));
+    set_reading(&mut table, of_july(2), 5, 10_000_000);
+    let due = Answered(&[26, 22, 21, 20, 19].map(of_august), 19, 60, 0, &THOUSAND);
+    check(&table, &at_three(8700, of_august(28)), &due);
+    set_reading(&mut table, of_july(2), 5, 10_000_001);
+    check(&table, &at_three(8700, of_august(28)), &Refused(3, &[101]));
 }
 
 /// "n 12 uses ruler quarter 0; n 11 takes the other rule": quarter 0 of the day before is 12 kW higher, and the last quarter before the event 24.
 #[test]
 fn notice_at_12_and_at_11() {
-    let mut table = held_from(july(1));
-    set_reading(&mut table, august(27), 0, 1012);
-    set_reading(&mut table, august(28), 55, 1024);
-    let days = [26, 22, 21, 20, 19].map(august);
+    let mut table = august(of_july(1));
+    set_reading(&mut table, of_august(27), 0, 1012);
+    set_reading(&mut table, of_august(28), 55, 1024);
+    let days = [26, 22, 21, 20, 19].map(of_august);
     for (n, adjustment, quarter) in [(13, 0, (60_000, 1000)), (12, 60, (60_060, 1001)), (11, 120, (60_120, 1002))] {
         let due = Answered(&days, 19, 60, adjustment, &[quarter; 4]);
-        check(&table, &request(8700, august(28), 152, 156, n), &due);
+        check(&table, &request(8700, of_august(28), 152, 156, n), &due);
     }
 }
 
@@ -271,24 +231,24 @@ fn notice_at_12_and_at_11() {
 /// refusal 9."
 #[test]
 fn event_day_as_the_fifth() {
-    let mut table = flat(august(20), august(28), 1000);
-    let ask = at_three(august(20), august(28));
-    set_day(&mut table, august(21), 900);
-    set_mark(&mut table, august(21), 1);
-    check(&table, &ask, &Answered(&[26, 23, 22, 20, 21].map(august), 8, 60, 1200, &THOUSAND));
+    let mut table = flat(of_august(20), of_august(28), 1000);
+    let ask = at_three(of_august(20), of_august(28));
+    set_day(&mut table, of_august(21), 900);
+    set_mark(&mut table, of_august(21), 1);
+    check(&table, &ask, &Answered(&[26, 23, 22, 20, 21].map(of_august), 8, 60, 1200, &THOUSAND));
     for mark in [2, 3] {
-        set_mark(&mut table, august(21), mark);
+        set_mark(&mut table, of_august(21), mark);
         check(&table, &ask, &Refused(9, &[4, 8]));
     }
-    set_mark(&mut table, august(21), 1);
-    set_reading(&mut table, august(21), 95, MISSING);
+    set_mark(&mut table, of_august(21), 1);
+    set_reading(&mut table, of_august(21), 95, MISSING);
     check(&table, &ask, &Refused(9, &[4, 8]));
 }
 
 /// "D equal to F and P equal to D: refusal 9 with 0 and 0. P one later: refusal 6."
 #[test]
 fn first_day_is_event_day() {
-    let table = flat(august(28), august(28), 1000);
-    check(&table, &at_three(august(28), august(28)), &Refused(9, &[0, 0]));
-    check(&table, &at_three(august(29), august(28)), &Refused(6, &[]));
+    let table = flat(of_august(28), of_august(28), 1000);
+    check(&table, &at_three(of_august(28), of_august(28)), &Refused(9, &[0, 0]));
+    check(&table, &at_three(of_august(29), of_august(28)), &Refused(6, &[]));
 }
