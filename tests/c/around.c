@@ -14,13 +14,13 @@ static struct record_file file;
 static ucontext_t home, away;
 static size_t place, listing_room;
 
-/* A file as large as there is: 128 days of about this load and 64 events, the last one over all of its day. */
+/* A file as large as there is: 128 days of about this load, each a thousandth higher, and 64 events, the last one over all of its day. */
 static void put_largest(struct record_file *largest, uint32_t load)
 {
     uint32_t i;
     put_head(largest, 0, 1);
     for (i = 0; i < 128; i++)
-        put_day(largest, 8879 + i, 0, load + i);
+        put_day(largest, 8879 + i, 0, load + load / 1000 * i);
     for (i = 0; i < 63; i++)
         put_event(largest, 9006 - i, 152, 156, 148);
     put_event(largest, 9006, 96, 192, 96);
@@ -151,6 +151,7 @@ static void check_threads(void)
         CHECK(callers[i].length > 0);
     }
     CHECK(memcmp(callers[0].due[63].out, callers[1].due[63].out, HP_MOST_BYTES) != 0);
+    CHECK(callers[0].due[63].told[HP_ADJUSTMENT] != callers[1].due[63].told[HP_ADJUSTMENT]);
     CHECK(memcmp(callers[0].listing, callers[1].listing, HP_MOST_LISTING) != 0);
     for (i = 0; i < THREADS; i++)
         CHECK(pthread_create(&threads[i], NULL, call_often, &callers[i]) == 0);
