@@ -1,58 +1,62 @@
 /* event_kw FILE PLACE: the baseline of one event of a record file, in kW, a line a quarter.
  * cc event_kw.c $(pkg-config --cflags --libs honeyplank) -o event_kw */
-#include <fcntl.h>
 #include <inttypes.h>
 #include <stdio.h>
 #include <stdlib.h>
-#include <sys/mman.h>
-#include <sys/stat.h>
-#include <unistd.h>
 
 #include "honeyplank.h"
 
-/* Maps a file; an empty one is NULL with a length of 0, which every entry takes. */
-static const uint8_t *map(const char *path, size_t *length)
-{
-    struct stat about;
-    int file = open(path, O_RDONLY);
-    void *bytes = NULL;
-    if (file < 0 || fstat(file, &about) != 0)
-        bytes = MAP_FAILED;
-    else if ((*length = (size_t)about.st_size) > 0)
-        bytes = mmap(NULL, *length, PROT_READ, MAP_PRIVATE, file, 0);
-    if (bytes == MAP_FAILED) {
-        perror(path);
-        exit(1);
-    }
-    close(file);
-    return bytes;
-}
+/* What each refusal means, by its number; what it carries is printed after it. */
+static const char *const reasons[] = {
+    [HP_BAD_TABLE] = "the file holds no days, or days after 2099",
+    [HP_BAD_MARK] = "a mark that means nothing, at the day of place",
+    [HP_BAD_READING] = "a reading above the highest, at place",
+    [HP_BAD_REQUEST] = "the request is out of range",
+    [HP_NOT_HELD] = "the file does not hold the event day",
+    [HP_NOT_YET_PARTICIPATING] = "participation starts after the event day",
+    [HP_NO_ROOM] = "too little room for the answer",
+    [HP_MARGIN_TOO_SHORT] = "the file starts too late; days before the event that always suffice:",
+    [HP_TOO_FEW] = "too few days to choose from; how many there are, and the reach:",
+    [HP_NO_ADJUSTMENT_WINDOW] = "no three hours without a gap before the event; the reach:",
+    [HP_BAD_FILE] = "no record file: what is not as laid down starts at byte",
+    [HP_NO_EVENT] = "the file has no event at that place",
+};
 
 int main(int argc, char **argv)
 {
+    static uint8_t file[50441]; /* a byte more than the longest record file, so that a longer one is refused */
     uint8_t out[HP_MOST_BYTES];
-    int64_t told[HP_TOLD_LENGTH];
-    uint32_t event[HP_EVENT_LENGTH], refused, t;
-    size_t length = 0, place;
-    const uint8_t *file;
-
     if (argc != 3) {
         fprintf(stderr, "usage: event_kw FILE PLACE\n");
         return 2;
     }
-    file = map(argv[1], &length);
-    place = strtoul(argv[2], NULL, 10);
-    refused = hp_baseline_told(file, length, place, out, sizeof out, told, HP_TOLD_LENGTH);
+    FILE *from = fopen(argv[1], "rb");
+    if (from == NULL) {
+        perror(argv[1]);
+        return 2;
+    }
+    size_t length = fread(file, 1, sizeof file, from), place = strtoul(argv[2], NULL, 10);
+    fclose(from);
+
+    uint32_t refused = hp_baseline(file, length, place, out, sizeof out);
     if (refused != HP_ANSWERED) {
-        fprintf(stderr, "refused: number %" PRIu32 "\n", refused);
+        fprintf(stderr, "refused %" PRIu32 ": %s", refused, reasons[refused]);
+        for (uint32_t name = HP_CARRIED; name <= HP_CARRIED_SECOND; name++) {
+            int64_t carried = hp_told(file, length, place, name);
+            if (carried != HP_NOTHING)
+                fprintf(stderr, " %" PRId64, carried);
+        }
+        fprintf(stderr, "\n");
         return 1;
     }
-    hp_event(file, length, place, event, HP_EVENT_LENGTH);
-    for (t = 0; t < event[HP_EVENT_END] - event[HP_EVENT_START]; t++) {
-        const uint8_t *b = out + 4 * t;
-        int64_t numerator = b[0] | b[1] << 8 | b[2] << 16 | (int64_t)b[3] << 24, over = told[HP_TOLD_DENOMINATOR];
-        uint32_t minute = 60 + 15 * (event[HP_EVENT_START] - 96 + t); /* the dispatch day starts at 01:00 */
-        printf("%02" PRIu32 ":%02" PRIu32 " %" PRId64 " kW\n", minute / 60 % 24, minute % 60, (2 * numerator + over) / (2 * over));
+
+    int64_t start = hp_event(file, length, place, HP_EVENT_START), end = hp_event(file, length, place, HP_EVENT_END);
+    int64_t over = hp_told(file, length, place, HP_DENOMINATOR);
+    for (int64_t t = start; t < end; t++) {
+        const uint8_t *b = out + 4 * (t - start);
+        int64_t numerator = b[0] | b[1] << 8 | b[2] << 16 | (int64_t)b[3] << 24;
+        int64_t minute = 60 + 15 * (t - 96); /* the dispatch day starts at 01:00 */
+        printf("%02" PRId64 ":%02" PRId64 " %" PRId64 " kW\n", minute / 60 % 24, minute % 60, (2 * numerator + over) / (2 * over));
     }
     return 0;
 }

@@ -5,41 +5,52 @@
 #include "check.h"
 #include "honeyplank.h"
 #include "record.h"
+#include "told.h"
 
 /* PLACES: the events of the largest file, and one place where there is none */
 enum { DEEP = 1 << 20, THREADS = 4, CALLS = 650, PLACES = 65 };
 
 static struct record_file file;
 static ucontext_t home, away;
-static size_t place;
+static size_t place, listing_room;
 
-/* A file as large as there is: 128 days of about this load and 64 events, the last one over all of its day. */
+/* A file as large as there is: 128 days of about this load, each a thousandth higher, and 64 events, the last one over all of its day. */
 static void put_largest(struct record_file *largest, uint32_t load)
 {
     uint32_t i;
     put_head(largest, 0, 1);
     for (i = 0; i < 128; i++)
-        put_day(largest, 8879 + i, 0, load + i);
+        put_day(largest, 8879 + i, 0, load + load / 1000 * i);
     for (i = 0; i < 63; i++)
         put_event(largest, 9006 - i, 152, 156, 148);
     put_event(largest, 9006, 96, 192, 96);
 }
 
-/* Every entry once. */
+/* Every entry but hp_listing, by every name. */
 static void call_all(void)
 {
     static uint8_t out[HP_MOST_BYTES], marks[128];
-    static uint32_t words[HP_SHAPE_LENGTH], readings[128 * QUARTERS], numerators[QUARTERS];
-    static int64_t told[HP_TOLD_LENGTH];
-    hp_file(file.bytes, file.length, words, HP_SHAPE_LENGTH);
-    hp_event(file.bytes, file.length, place, words, HP_SHAPE_LENGTH);
+    static uint32_t readings[128 * QUARTERS], numerators[QUARTERS];
+    uint32_t name;
     hp_baseline(file.bytes, file.length, place, out, sizeof out);
-    hp_baseline_told(file.bytes, file.length, place, out, sizeof out, told, HP_TOLD_LENGTH);
-    hp_baseline_table(8879, marks, 128, readings, 128 * QUARTERS, 0, 9006, 96, 192, 96, numerators, QUARTERS, told, HP_TOLD_LENGTH);
+    hp_baseline_table(8879, marks, 128, readings, 128 * QUARTERS, 0, 9006, 96, 192, 96, numerators, QUARTERS);
+    hp_day_part(8879, marks, 128, readings, 128 * QUARTERS, 9006);
+    for (name = 0; name <= LAST_NAME; name++) {
+        hp_told(file.bytes, file.length, place, name);
+        hp_told_table(8879, marks, 128, readings, 128 * QUARTERS, 0, 9006, 96, 192, 96, name);
+        hp_file(file.bytes, file.length, name);
+        hp_event(file.bytes, file.length, place, name);
+    }
 }
 
-/* How deep the entries go on a stack that was filled before. */
-static size_t depth(void)
+static void call_listing(void)
+{
+    static uint8_t text[HP_MOST_LISTING];
+    hp_listing(file.bytes, file.length, text, listing_room);
+}
+
+/* How deep a call goes on a stack that was filled before. */
+static size_t depth(void (*call)(void))
 {
     static uint8_t stack[DEEP];
     size_t i;
@@ -48,35 +59,78 @@ static size_t depth(void)
     away.uc_stack.ss_sp = stack;
     away.uc_stack.ss_size = sizeof stack;
     away.uc_link = &home;
-    makecontext(&away, call_all, 0);
+    makecontext(&away, call, 0);
     swapcontext(&home, &away);
     for (i = 0; i < DEEP && stack[i] == UNTOUCHED; i++)
         ;
     return DEEP - i;
 }
 
-/* One thread's file, with what its events gave before any thread ran. */
+static size_t deeper(size_t one, size_t other)
+{
+    return one > other ? one : other;
+}
+
+static void check_stack(void)
+{
+    static const size_t rooms[] = {0, HP_MOST_LISTING - 1, HP_MOST_LISTING};
+    size_t all = 0, listing = 0, i;
+    put_largest(&file, 1000);
+    for (place = 0; place < PLACES; place++)
+        all = deeper(all, depth(call_all));
+    for (i = 0; i < sizeof rooms / sizeof rooms[0]; i++) {
+        listing_room = rooms[i];
+        listing = deeper(listing, depth(call_listing));
+    }
+    printf("stack: %zu bytes; hp_listing: %zu\n", all, listing);
+    CHECK(all > 0 && all <= HP_STACK);
+    CHECK(listing > 0 && listing <= HP_STACK_LISTING);
+}
+
+/* What a file's entries give at a place. */
+struct given {
+    int64_t number, told[LAST_NAME + 1];
+    uint8_t out[HP_MOST_BYTES];
+};
+
+/* One thread's file, with what it gave before any thread ran. */
 struct caller {
     struct record_file file;
-    uint32_t numbers[PLACES];
-    uint8_t due[PLACES][HP_MOST_BYTES];
+    struct given due[PLACES];
+    uint8_t listing[HP_MOST_LISTING], again[HP_MOST_LISTING];
+    int64_t length;
     int wrong;
 };
 
-static uint32_t baseline_of(const struct record_file *its, size_t event, uint8_t out[HP_MOST_BYTES])
+static struct given given_at(const struct record_file *its, size_t event)
 {
-    memset(out, UNTOUCHED, HP_MOST_BYTES);
-    return hp_baseline(its->bytes, its->length, event, out, HP_MOST_BYTES);
+    struct given given;
+    uint32_t name;
+    memset(&given, UNTOUCHED, sizeof given);
+    given.number = hp_baseline(its->bytes, its->length, event, given.out, HP_MOST_BYTES);
+    for (name = 0; name <= LAST_NAME; name++)
+        given.told[name] = hp_told(its->bytes, its->length, event, name);
+    return given;
 }
 
-static void *call_often(void *given)
+static int64_t list(const struct record_file *its, uint8_t *text)
 {
-    struct caller *caller = given;
+    memset(text, UNTOUCHED, HP_MOST_LISTING);
+    return hp_listing(its->bytes, its->length, text, HP_MOST_LISTING - 1);
+}
+
+static void *call_often(void *passed)
+{
+    struct caller *caller = passed;
     int i;
     for (i = 0; i < CALLS; i++) {
-        uint8_t out[HP_MOST_BYTES];
         size_t event = (size_t)i % PLACES;
-        if (baseline_of(&caller->file, event, out) != caller->numbers[event] || memcmp(out, caller->due[event], sizeof out) != 0)
+        struct given given = given_at(&caller->file, event);
+        if (memcmp(&given, &caller->due[event], sizeof given) != 0)
+            caller->wrong++;
+        if (event != 0)
+            continue;
+        if (list(&caller->file, caller->again) != caller->length || memcmp(caller->again, caller->listing, HP_MOST_LISTING) != 0)
             caller->wrong++;
     }
     return NULL;
@@ -92,9 +146,13 @@ static void check_threads(void)
     for (i = 0; i < THREADS; i++) {
         put_largest(&callers[i].file, 1000 * (i + 1));
         for (event = 0; event < PLACES; event++)
-            callers[i].numbers[event] = baseline_of(&callers[i].file, event, callers[i].due[event]);
+            callers[i].due[event] = given_at(&callers[i].file, event);
+        callers[i].length = list(&callers[i].file, callers[i].listing);
+        CHECK(callers[i].length > 0);
     }
-    CHECK(memcmp(callers[0].due[63], callers[1].due[63], HP_MOST_BYTES) != 0);
+    CHECK(memcmp(callers[0].due[63].out, callers[1].due[63].out, HP_MOST_BYTES) != 0);
+    CHECK(callers[0].due[63].told[HP_ADJUSTMENT] != callers[1].due[63].told[HP_ADJUSTMENT]);
+    CHECK(memcmp(callers[0].listing, callers[1].listing, HP_MOST_LISTING) != 0);
     for (i = 0; i < THREADS; i++)
         CHECK(pthread_create(&threads[i], NULL, call_often, &callers[i]) == 0);
     for (i = 0; i < THREADS; i++)
@@ -103,14 +161,7 @@ static void check_threads(void)
 
 int main(void)
 {
-    size_t deepest = 0;
-    put_largest(&file, 1000);
-    for (place = 0; place < PLACES; place++) {
-        size_t deep = depth();
-        deepest = deep > deepest ? deep : deepest;
-    }
-    printf("stack: %zu bytes\n", deepest);
-    CHECK(deepest > 0 && deepest <= HP_STACK);
+    check_stack();
     check_threads();
     return checked("around");
 }

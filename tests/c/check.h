@@ -20,12 +20,13 @@ static inline int checked(const char *name)
     return failures != 0;
 }
 
-enum { PAGE = 4096, ROOM = 16 * PAGE, UNTOUCHED = 0xA5 };
+enum { PAGE = 4096, UNTOUCHED = 0xA5 };
 
 /* `length` bytes between two pages that nobody may touch, against the one after or the one before; what is left between them is filled, and
  * looked at afterwards. */
 struct lent {
-    uint8_t *room; /* ROOM bytes */
+    uint8_t *room;
+    size_t size; /* of the room: whole pages, and at least one more than is lent */
     uint8_t *bytes;
     size_t length;
 };
@@ -33,13 +34,15 @@ struct lent {
 static inline struct lent lend(size_t length, int at_end)
 {
     struct lent lent;
-    uint8_t *all = mmap(NULL, ROOM + 2 * PAGE, PROT_NONE, MAP_PRIVATE | MAP_ANONYMOUS, -1, 0);
-    if (all == MAP_FAILED || length > ROOM || mprotect(all + PAGE, ROOM, PROT_READ | PROT_WRITE) != 0)
+    size_t size = (length / PAGE + 2) * PAGE;
+    uint8_t *all = mmap(NULL, size + 2 * PAGE, PROT_NONE, MAP_PRIVATE | MAP_ANONYMOUS, -1, 0);
+    if (all == MAP_FAILED || mprotect(all + PAGE, size, PROT_READ | PROT_WRITE) != 0)
         abort();
     lent.room = all + PAGE;
-    lent.bytes = lent.room + (at_end ? ROOM - length : 0);
+    lent.size = size;
+    lent.bytes = lent.room + (at_end ? size - length : 0);
     lent.length = length;
-    memset(lent.room, UNTOUCHED, ROOM);
+    memset(lent.room, UNTOUCHED, size);
     return lent;
 }
 
@@ -47,7 +50,7 @@ static inline struct lent lend(size_t length, int at_end)
 static inline int kept(const struct lent *lent, size_t written)
 {
     size_t i;
-    for (i = 0; i < ROOM; i++) {
+    for (i = 0; i < lent->size; i++) {
         const uint8_t *byte = lent->room + i;
         if (*byte != UNTOUCHED && (byte < lent->bytes || byte >= lent->bytes + written))
             return 0;
@@ -61,14 +64,14 @@ static inline struct lent lend_copy(const void *bytes, size_t length, int at_end
     struct lent lent = lend(length, at_end);
     if (length > 0)
         memcpy(lent.bytes, bytes, length);
-    if (mprotect(lent.room, ROOM, PROT_READ) != 0)
+    if (mprotect(lent.room, lent.size, PROT_READ) != 0)
         abort();
     return lent;
 }
 
 static inline void give_back(const struct lent *lent)
 {
-    munmap(lent->room - PAGE, ROOM + 2 * PAGE);
+    munmap(lent->room - PAGE, lent->size + 2 * PAGE);
 }
 
 #endif

@@ -1,98 +1,115 @@
-/* The entries over a record file: the worked case, each refusal, and every buffer between guards. */
+/* The entries over a record file: the worked case, each refusal, the listing, and every buffer between guards. */
+#include <dirent.h>
+#include <inttypes.h>
+
 #include "check.h"
 #include "honeyplank.h"
 #include "record.h"
+#include "told.h"
 
 static struct record_file file;
 static int at_end; /* whether buffers end at their guard page, or start at it */
 
-static int all_zero(const int64_t *told, int from)
+/* hp_baseline with so many bytes gives this number and, answered, these numerators; hp_told tells the result by every name. */
+static void expect(int line, size_t place, size_t room, uint32_t number, struct result result)
 {
-    for (; from < HP_TOLD_LENGTH; from++)
-        if (told[from] != 0)
-            return 0;
-    return 1;
-}
-
-/* Calls both baseline entries with so many bytes; checks the number and what it carries, and that only `written` bytes change. */
-static void expect(int line, size_t place, size_t room, uint32_t number, size_t written, int64_t first, int64_t second)
-{
-    struct lent in = lend_copy(file.bytes, file.length, at_end), out = lend(room, at_end), again = lend(room, at_end);
-    struct lent told = lend(HP_TOLD_LENGTH * sizeof(int64_t), at_end);
-    int64_t *numbers = (int64_t *)(void *)told.bytes;
+    struct lent in = lend_copy(file.bytes, file.length, at_end), out = lend(room, at_end);
+    size_t quarters = number == HP_ANSWERED ? result.quarters : 0, i;
     int before = failures;
     CHECK(hp_baseline(in.bytes, in.length, place, out.bytes, room) == number);
-    CHECK(hp_baseline_told(in.bytes, in.length, place, again.bytes, room, numbers, HP_TOLD_LENGTH) == number);
-    CHECK(kept(&out, written));
-    CHECK(kept(&again, written));
-    CHECK(memcmp(out.bytes, again.bytes, room) == 0);
-    CHECK(kept(&told, told.length));
-    if (number != HP_ANSWERED) {
-        CHECK(numbers[HP_TOLD_CARRIED] == first && numbers[HP_TOLD_CARRIED + 1] == second);
-        CHECK(all_zero(numbers, 2));
-    }
+    CHECK(kept(&out, 4 * quarters));
+    for (i = 0; i < quarters; i++)
+        CHECK(word_at(out.bytes + 4 * i) == result.numerators[i]);
+    for (i = 0; i < NAMES; i++)
+        CHECK(tells(&result.told, name_at((int)i), hp_told(in.bytes, in.length, place, name_at((int)i))));
     if (failures != before)
         printf("  in the call of line %d\n", line);
     give_back(&in);
     give_back(&out);
-    give_back(&again);
-    give_back(&told);
 }
 
-#define REFUSED(place, room, number, first, second) expect(__LINE__, place, room, number, 0, first, second)
-#define ANSWERED(place, room, written) expect(__LINE__, place, room, HP_ANSWERED, written, 0, 0)
+#define REFUSED(place, room, number, first, second) expect(__LINE__, place, room, number, refused(number, first, second))
+#define ANSWERED(place, room, result) expect(__LINE__, place, room, HP_ANSWERED, result)
+#define NO_ROOM(place, room, result) expect(__LINE__, place, room, HP_NO_ROOM, result)
 
-/* What hp_file and hp_event give, in buffers of every length about their own. */
-static void expect_shape(uint32_t number, const uint32_t *shape)
+static void expect_file(int line, struct told due)
 {
-    size_t length;
-    for (length = 0; length <= HP_SHAPE_LENGTH + 2; length++) {
-        struct lent in = lend_copy(file.bytes, file.length, at_end), out = lend(4 * length, at_end);
-        size_t written = number == HP_ANSWERED && length >= HP_SHAPE_LENGTH ? 4 * HP_SHAPE_LENGTH : 0;
-        CHECK(hp_file(in.bytes, in.length, (uint32_t *)(void *)out.bytes, length) == number);
-        CHECK(kept(&out, written) && memcmp(out.bytes, shape, written) == 0);
-        give_back(&in);
-        give_back(&out);
-    }
+    struct lent in = lend_copy(file.bytes, file.length, at_end);
+    int before = failures, i;
+    for (i = 0; i < NAMES; i++)
+        CHECK(tells(&due, name_at(i), hp_file(in.bytes, in.length, name_at(i))));
+    if (failures != before)
+        printf("  of the file of line %d\n", line);
+    give_back(&in);
 }
 
-static void expect_event(size_t place, uint32_t number, const uint32_t *event)
+static void expect_event(int line, size_t place, struct told due)
 {
-    size_t length;
-    for (length = 0; length <= HP_EVENT_LENGTH + 2; length++) {
-        struct lent in = lend_copy(file.bytes, file.length, at_end), out = lend(4 * length, at_end);
-        size_t written = number == HP_ANSWERED && length >= HP_EVENT_LENGTH ? 4 * HP_EVENT_LENGTH : 0;
-        CHECK(hp_event(in.bytes, in.length, place, (uint32_t *)(void *)out.bytes, length) == number);
-        CHECK(kept(&out, written) && memcmp(out.bytes, event, written) == 0);
-        give_back(&in);
-        give_back(&out);
-    }
+    struct lent in = lend_copy(file.bytes, file.length, at_end);
+    int before = failures, i;
+    for (i = 0; i < NAMES; i++)
+        CHECK(tells(&due, name_at(i), hp_event(in.bytes, in.length, place, name_at(i))));
+    if (failures != before)
+        printf("  of the event of line %d\n", line);
+    give_back(&in);
+}
+
+#define FILE_HOLDS(p, portfolio, first, days, events) expect_file(__LINE__, held(p, portfolio, first, days, events))
+#define EVENT_IS(place, d, s, e, n) expect_event(__LINE__, place, event_of(d, s, e, n))
+#define FILE_REFUSED(offset) expect_file(__LINE__, told_refusal(HP_BAD_FILE, offset, NONE))
+#define EVENT_REFUSED(place, number, first) expect_event(__LINE__, place, told_refusal(number, first, NONE))
+
+static struct told held(int64_t p, int64_t portfolio, int64_t first, int64_t days, int64_t events)
+{
+    struct told told = told_refusal(HP_ANSWERED, NONE, NONE);
+    told.numbers[HP_FILE_PARTICIPATION] = p;
+    told.numbers[HP_FILE_PORTFOLIO] = portfolio;
+    told.numbers[HP_FILE_FIRST] = first;
+    told.numbers[HP_FILE_DAYS] = days;
+    told.numbers[HP_FILE_EVENTS] = events;
+    return told;
+}
+
+static struct told event_of(int64_t d, int64_t s, int64_t e, int64_t n)
+{
+    struct told told = told_refusal(HP_ANSWERED, NONE, NONE);
+    told.numbers[HP_EVENT_DAY] = d;
+    told.numbers[HP_EVENT_START] = s;
+    told.numbers[HP_EVENT_END] = e;
+    told.numbers[HP_EVENT_NOTICE] = n;
+    return told;
 }
 
 static void worked_case(void)
 {
-    static const uint32_t shape[] = {6900, 77, 6951, 22, 2}, first[] = {6972, 152, 156, 148}, second[] = {6966, 152, 156, 148};
-    static const uint32_t numerators[] = {30348, 30264, 30264, 30264};
-    static const int64_t tells[] = {2, 6951, 6965, 0, 0, 0, 21, 24, 264};
     uint8_t out[HP_MOST_BYTES];
-    int64_t told[HP_TOLD_LENGTH];
-    int i;
     put_worked(&file);
-    expect_shape(HP_ANSWERED, shape);
-    expect_event(0, HP_ANSWERED, first);
-    expect_event(1, HP_ANSWERED, second);
-    expect_event(2, HP_NO_EVENT, first);
-    expect_event(SIZE_MAX, HP_NO_EVENT, first);
-    CHECK(hp_baseline_told(file.bytes, file.length, 0, out, sizeof out, told, HP_TOLD_LENGTH) == HP_ANSWERED);
-    for (i = 0; i < 4; i++)
-        CHECK(word_at(out + 4 * i) == numerators[i]);
-    CHECK(memcmp(told, tells, sizeof told) == 0);
-    ANSWERED(0, 16, 16);
-    ANSWERED(0, 17, 16);
-    ANSWERED(0, HP_MOST_BYTES, 16);
-    REFUSED(1, 16, HP_MARGIN_TOO_SHORT, 42, 0);
+    FILE_HOLDS(6900, 77, 6951, 22, 2);
+    EVENT_IS(0, 6972, 152, 156, 148);
+    EVENT_IS(1, 6966, 152, 156, 148);
+    EVENT_REFUSED(2, HP_NO_EVENT, NONE);
+    EVENT_REFUSED(SIZE_MAX, HP_NO_EVENT, NONE);
+    ANSWERED(0, 16, worked_answer());
+    ANSWERED(0, 17, worked_answer());
+    ANSWERED(0, HP_MOST_BYTES, worked_answer());
+    REFUSED(1, 16, HP_MARGIN_TOO_SHORT, 42, NONE);
     memmove(file.bytes + 1, file.bytes, file.length); /* a file at an odd address */
     CHECK(hp_baseline(file.bytes + 1, file.length, 0, out, 16) == HP_ANSWERED && word_at(out) == 30348);
+    CHECK(hp_told(file.bytes + 1, file.length, 0, HP_ADJUSTMENT) == 264);
+}
+
+/* Numbers at their ends, as they stand in a file. */
+static void highest_numbers(void)
+{
+    put_head(&file, 65535, UINT32_MAX);
+    put_day(&file, 65535, 255, HP_MISSING);
+    put_event(&file, 65535, 255, 255, 255);
+    FILE_HOLDS(65535, 4294967295, 65535, 1, 1);
+    EVENT_IS(0, 65535, 255, 255, 255);
+    put_head(&file, 0, 0);
+    put_event(&file, 0, 0, 0, 0);
+    FILE_HOLDS(0, 0, 0, 0, 1);
+    EVENT_IS(0, 0, 0, 0, 0);
 }
 
 /* 1 to 3: the table. */
@@ -100,35 +117,42 @@ static void refused_tables(void)
 {
     put_head(&file, 6900, 77);
     put_event(&file, 6972, 152, 156, 148);
-    REFUSED(0, 16, HP_BAD_TABLE, 0, 0);
-    REFUSED(0, 0, HP_BAD_TABLE, 0, 0);
+    FILE_HOLDS(6900, 77, 0, 0, 1);
+    REFUSED(0, 16, HP_BAD_TABLE, NONE, NONE);
+    REFUSED(0, 0, HP_BAD_TABLE, NONE, NONE);
     put_head(&file, 36524, 77);
     put_day(&file, 36524, 0, 1);
     put_day(&file, 36525, 0, 1);
     put_event(&file, 36524, 152, 156, 148);
-    REFUSED(0, 16, HP_BAD_TABLE, 0, 0);
+    REFUSED(0, 16, HP_BAD_TABLE, NONE, NONE);
 
     put_worked(&file);
     file.bytes[8 + 14 * DAY_BYTES + 4] = 4;
     file.bytes[8 + 15 * DAY_BYTES + 4] = 255;
-    REFUSED(0, 16, HP_BAD_MARK, 14, 0);
-    REFUSED(1, 0, HP_BAD_MARK, 14, 0);
+    REFUSED(0, 16, HP_BAD_MARK, 14, NONE);
+    REFUSED(1, 0, HP_BAD_MARK, 14, NONE);
+    put_worked(&file);
+    file.bytes[8 + 4] = 128;
+    REFUSED(0, 16, HP_BAD_MARK, 0, NONE);
 
     put_worked(&file);
     set_reading(&file, 99, HP_HIGHEST + 1);
     set_reading(&file, 100, HP_MISSING - 1);
-    REFUSED(0, 16, HP_BAD_READING, 99, 0);
+    REFUSED(0, 16, HP_BAD_READING, 99, NONE);
     set_reading(&file, 99, HP_HIGHEST);
-    REFUSED(0, 16, HP_BAD_READING, 100, 0);
+    REFUSED(0, 16, HP_BAD_READING, 100, NONE);
     set_reading(&file, 100, HP_MISSING);
-    ANSWERED(0, 16, 16);
+    ANSWERED(0, 16, worked_answer());
     set_reading(&file, 22 * QUARTERS - 1, HP_MISSING - 1);
-    REFUSED(0, 16, HP_BAD_READING, 22 * QUARTERS - 1, 0);
+    REFUSED(0, 16, HP_BAD_READING, 22 * QUARTERS - 1, NONE);
 }
 
 /* 4 to 7: the request and the room. */
 static void refused_requests(void)
 {
+    static const uint32_t days[] = {6951, 6965};
+    struct result whole_day = answered(days, 2, 21, -6000, 96, 24000);
+    whole_day.numerators[56] = 24084;
     put_head(&file, 6900, 77);
     put_worked_days(&file);
     put_event(&file, 6972, 95, 156, 90);
@@ -138,37 +162,39 @@ static void refused_requests(void)
     put_event(&file, 6950, 152, 156, 148);
     put_event(&file, 6973, 152, 156, 148);
     put_event(&file, 6972, 96, 192, 96);
-    REFUSED(0, 0, HP_BAD_REQUEST, 0, 0);
-    REFUSED(1, 16, HP_BAD_REQUEST, 0, 0);
-    REFUSED(2, HP_MOST_BYTES, HP_BAD_REQUEST, 0, 0);
-    REFUSED(3, 16, HP_BAD_REQUEST, 0, 0);
-    REFUSED(4, 16, HP_NOT_HELD, 0, 0);
-    REFUSED(5, 0, HP_NOT_HELD, 0, 0);
-    REFUSED(6, 383, HP_NO_ROOM, 0, 0);
-    ANSWERED(6, 384, 384);
-    ANSWERED(6, 385, 384);
+    REFUSED(0, 0, HP_BAD_REQUEST, NONE, NONE);
+    REFUSED(1, 16, HP_BAD_REQUEST, NONE, NONE);
+    REFUSED(2, HP_MOST_BYTES, HP_BAD_REQUEST, NONE, NONE);
+    REFUSED(3, 16, HP_BAD_REQUEST, NONE, NONE);
+    REFUSED(4, 16, HP_NOT_HELD, NONE, NONE);
+    REFUSED(5, 0, HP_NOT_HELD, NONE, NONE);
+    NO_ROOM(6, 383, whole_day);
+    ANSWERED(6, 384, whole_day);
+    ANSWERED(6, 385, whole_day);
 
     put_worked(&file);
     file.bytes[2] = file.bytes[3] = 0xFF;
-    REFUSED(0, 16, HP_BAD_REQUEST, 0, 0);
+    REFUSED(0, 16, HP_BAD_REQUEST, NONE, NONE);
     file.bytes[2] = 6973 & 0xFF;
     file.bytes[3] = 6973 >> 8;
-    REFUSED(0, 16, HP_NOT_YET_PARTICIPATING, 0, 0);
-    REFUSED(0, 0, HP_NOT_YET_PARTICIPATING, 0, 0);
+    REFUSED(0, 16, HP_NOT_YET_PARTICIPATING, NONE, NONE);
+    REFUSED(0, 0, HP_NOT_YET_PARTICIPATING, NONE, NONE);
 
     put_worked(&file);
-    REFUSED(0, 0, HP_NO_ROOM, 0, 0);
-    REFUSED(0, 15, HP_NO_ROOM, 0, 0);
-    ANSWERED(0, 16, 16);
-    REFUSED(1, 15, HP_NO_ROOM, 0, 0);
+    NO_ROOM(0, 0, worked_answer());
+    NO_ROOM(0, 15, worked_answer());
+    ANSWERED(0, 16, worked_answer());
+    NO_ROOM(1, 15, refused(HP_MARGIN_TOO_SHORT, 42, NONE));
 }
 
 /* 8 to 10: the choice and the adjustment window. */
 static void refused_choices(void)
 {
+    static const uint32_t with_spare[] = {6965, 6958}, days[] = {6951, 6965};
+    struct result later_window = answered(days, 2, 21, -6000, 4, 24000);
     uint32_t i;
     put_worked(&file);
-    REFUSED(1, 16, HP_MARGIN_TOO_SHORT, 42, 0);
+    REFUSED(1, 16, HP_MARGIN_TOO_SHORT, 42, NONE);
     file.bytes[2] = 6972 & 0xFF;
     file.bytes[3] = 6972 >> 8;
     REFUSED(0, 16, HP_TOO_FEW, 0, 0);
@@ -177,41 +203,44 @@ static void refused_choices(void)
     file.bytes[8 + 7 * DAY_BYTES + 4] = HP_MARK_OUTAGE;
     put_event(&file, 6972, 152, 156, 148);
     REFUSED(0, 16, HP_TOO_FEW, 1, 14);
+    NO_ROOM(0, 15, refused(HP_TOO_FEW, 1, 14));
     file.bytes[8 + 7 * DAY_BYTES + 4] = HP_MARK_EVENT;
-    ANSWERED(0, 16, 16);
+    ANSWERED(0, 16, answered(with_spare, 2, 14, 2664, 4, 30264));
     put_worked(&file);
     for (i = 20 * QUARTERS; i < 21 * QUARTERS + 56; i++)
         set_reading(&file, i, HP_MISSING);
-    REFUSED(0, 16, HP_NO_ADJUSTMENT_WINDOW, 21, 0);
+    REFUSED(0, 16, HP_NO_ADJUSTMENT_WINDOW, 21, NONE);
     for (i = 21 * QUARTERS + 44; i < 21 * QUARTERS + 56; i++)
         set_reading(&file, i, 1000);
-    ANSWERED(0, 16, 16);
+    later_window.numerators[0] = 24084;
+    ANSWERED(0, 16, later_window);
 }
 
 /* 11 and 12: the file. */
 static void refused_files(void)
 {
-    static const uint32_t none[HP_SHAPE_LENGTH];
     uint8_t whole[2048];
     size_t length, size, record = 0;
     put_worked(&file);
-    REFUSED(2, 16, HP_NO_EVENT, 0, 0);
-    REFUSED(SIZE_MAX, 0, HP_NO_EVENT, 0, 0);
+    REFUSED(2, 16, HP_NO_EVENT, NONE, NONE);
+    REFUSED(SIZE_MAX, 0, HP_NO_EVENT, NONE, NONE);
     file.length--;
-    REFUSED(0, 16, HP_BAD_FILE, 8596, 0);
-    REFUSED(9, 16, HP_BAD_FILE, 8596, 0);
-    expect_shape(HP_BAD_FILE, none);
-    expect_event(0, HP_BAD_FILE, none);
+    REFUSED(0, 16, HP_BAD_FILE, 8596, NONE);
+    REFUSED(9, 16, HP_BAD_FILE, 8596, NONE);
+    FILE_REFUSED(8596);
+    EVENT_REFUSED(0, HP_BAD_FILE, 8596);
     file.length = 0;
-    REFUSED(0, 16, HP_BAD_FILE, 0, 0);
-    expect_shape(HP_BAD_FILE, none);
+    REFUSED(0, 16, HP_BAD_FILE, 0, NONE);
+    FILE_REFUSED(0);
+    EVENT_REFUSED(SIZE_MAX, HP_BAD_FILE, 0);
     put_head(&file, 0, 0);
     for (length = 0; length < 65; length++)
         put_event(&file, 0, 96, 97, 0);
-    REFUSED(0, 4, HP_BAD_FILE, 8 + 64 * EVENT_BYTES, 0);
+    REFUSED(0, 4, HP_BAD_FILE, 8 + 64 * EVENT_BYTES, NONE);
     file.length -= EVENT_BYTES;
-    REFUSED(63, 4, HP_BAD_TABLE, 0, 0);
-    REFUSED(64, 4, HP_NO_EVENT, 0, 0);
+    FILE_HOLDS(0, 0, 0, 0, 64);
+    REFUSED(63, 4, HP_BAD_TABLE, NONE, NONE);
+    REFUSED(64, 4, HP_NO_EVENT, NONE, NONE);
 
     put_head(&file, 6900, 77); /* cut at every length */
     put_day(&file, 6951, 0, 7);
@@ -223,10 +252,15 @@ static void refused_files(void)
         record = length < 8 ? 0 : length < 398 ? 8 : length < 788 ? 398 : 788;
         memcpy(file.bytes, whole, length);
         file.length = length;
-        if (length == 8 || length == 398 || length == 788)
-            REFUSED(0, 16, HP_NO_EVENT, 0, 0);
-        else
-            REFUSED(0, 16, HP_BAD_FILE, (int64_t)record, 0);
+        if (length == 8 || length == 398 || length == 788) {
+            REFUSED(0, 16, HP_NO_EVENT, NONE, NONE);
+            EVENT_REFUSED(0, HP_NO_EVENT, NONE);
+            FILE_HOLDS(6900, 77, length == 8 ? 0 : 6951, (int64_t)length / DAY_BYTES, 0);
+        } else {
+            REFUSED(0, 16, HP_BAD_FILE, (int64_t)record, NONE);
+            EVENT_REFUSED(0, HP_BAD_FILE, (int64_t)record);
+            FILE_REFUSED((int64_t)record);
+        }
     }
 }
 
@@ -235,7 +269,8 @@ static void expect_altered(size_t offset, uint8_t byte, int64_t record)
 {
     uint8_t was = file.bytes[offset];
     file.bytes[offset] = byte;
-    REFUSED(0, 16, HP_BAD_FILE, record, 0);
+    REFUSED(0, 16, HP_BAD_FILE, record, NONE);
+    FILE_REFUSED(record);
     file.bytes[offset] = was;
 }
 
@@ -252,56 +287,200 @@ static void altered_files(void)
     expect_altered(8 + 22 * DAY_BYTES, 'D', 8 + 22 * DAY_BYTES);
     expect_altered(8 + 22 * DAY_BYTES + 7, 1, 8 + 22 * DAY_BYTES);
     expect_altered(file.length - 1, 1, 8 + 22 * DAY_BYTES + EVENT_BYTES);
-    ANSWERED(0, 16, 16);
+    ANSWERED(0, 16, worked_answer());
 }
 
 /* The most days: 128 are taken, 129 are not. */
 static void most_days(void)
 {
+    static const uint32_t days[] = {9004, 9001, 9000, 8999, 8998}; /* 26, 23, 22, 21 and 20 August 2024 */
     uint32_t day;
     put_head(&file, 0, 0);
     for (day = 0; day < 128; day++)
         put_day(&file, 8879 + day, 0, 1000);
     put_event(&file, 9006, 152, 156, 148);
-    ANSWERED(0, 16, 16);
+    FILE_HOLDS(0, 0, 8879, 128, 1);
+    ANSWERED(0, 16, answered(days, 5, 16, 0, 4, 60000));
     put_head(&file, 0, 0);
     for (day = 0; day < 129; day++)
         put_day(&file, 8879 + day, 0, 1000);
-    REFUSED(0, 16, HP_BAD_FILE, 8 + 128 * DAY_BYTES, 0);
+    REFUSED(0, 16, HP_BAD_FILE, 8 + 128 * DAY_BYTES, NONE);
 }
 
-/* Every pointer NULL with a length of 0, and what is told with too little room. */
+/* A text, as long as any listing can be. */
+struct text {
+    char bytes[HP_MOST_LISTING + 1];
+    size_t length;
+};
+
+/* hp_listing gives this text: with just its room, with more and with room for any, the rest kept; with a byte less it writes nothing. */
+static void expect_listing(int line, const char *text, size_t length)
+{
+    size_t rooms[] = {0, length - 1, length, length + 1, HP_MOST_LISTING - 1, HP_MOST_LISTING, HP_MOST_LISTING + 1}, i;
+    struct lent in = lend_copy(file.bytes, file.length, at_end);
+    int before = failures;
+    CHECK(length <= HP_MOST_LISTING);
+    for (i = 0; i < sizeof rooms / sizeof rooms[0]; i++) {
+        struct lent out = lend(rooms[i], at_end);
+        size_t written = rooms[i] < length ? 0 : length;
+        CHECK(hp_listing(in.bytes, in.length, out.bytes, rooms[i]) == (written ? (int64_t)length : -HP_NO_ROOM));
+        CHECK(kept(&out, written) && memcmp(out.bytes, text, written) == 0);
+        give_back(&out);
+    }
+    if (failures != before)
+        printf("  in the listing of line %d, %zu bytes\n", line, length);
+    give_back(&in);
+}
+
+#define PRINT(...) (text->length += (size_t)snprintf(text->bytes + text->length, sizeof text->bytes - text->length, __VA_ARGS__))
+#define OF_FILE(name) hp_file(file.bytes, file.length, name)
+#define OF_EVENT(name) hp_event(file.bytes, file.length, place, name)
+#define OF_RESULT(name) hp_told(file.bytes, file.length, place, name)
+
+/* What is told by names that follow one another, each after a space. */
+static void print_told(struct text *text, size_t place, uint32_t from, uint32_t to)
+{
+    uint32_t name;
+    for (name = from; name <= to; name++)
+        if (OF_RESULT(name) != HP_NOTHING)
+            PRINT(" %" PRId64, OF_RESULT(name));
+}
+
+static void print_event(struct text *text, size_t place)
+{
+    uint8_t out[HP_MOST_BYTES];
+    int64_t s = OF_EVENT(HP_EVENT_START), e = OF_EVENT(HP_EVENT_END), over = OF_RESULT(HP_DENOMINATOR), t;
+    uint32_t number = hp_baseline(file.bytes, file.length, place, out, sizeof out);
+    PRINT("%" PRId64 " %" PRId64 " %" PRId64, OF_EVENT(HP_EVENT_DAY), s, e);
+    if (number != HP_ANSWERED) {
+        PRINT(" refused %" PRIu32, number);
+        print_told(text, place, HP_CARRIED, HP_CARRIED_SECOND);
+        PRINT("\n");
+        return;
+    }
+    PRINT(" days");
+    print_told(text, place, HP_COUNT, HP_DAY_5);
+    PRINT(" reach %" PRId64 " over %" PRId64 " adj %" PRId64 "\n", OF_RESULT(HP_REACH), over, OF_RESULT(HP_ADJUSTMENT));
+    for (t = s; t < e; t++) {
+        int64_t numerator = word_at(out + 4 * (t - s));
+        PRINT("%" PRId64 " %" PRId64 " %" PRId64 "\n", t, numerator, (2 * numerator + over) / (2 * over));
+    }
+}
+
+/* The listing as the other entries tell it. */
+static void print_file(struct text *text)
+{
+    size_t place;
+    text->length = 0;
+    if (OF_FILE(HP_RESULT) != HP_ANSWERED) {
+        PRINT("file refused %" PRId64 "\n", OF_FILE(HP_CARRIED));
+        return;
+    }
+    PRINT("portfolio %" PRId64 " from %" PRId64, OF_FILE(HP_FILE_PORTFOLIO), OF_FILE(HP_FILE_PARTICIPATION));
+    PRINT(" held %" PRId64 " %" PRId64 "\n", OF_FILE(HP_FILE_FIRST), OF_FILE(HP_FILE_DAYS));
+    for (place = 0; (int64_t)place < OF_FILE(HP_FILE_EVENTS); place++)
+        print_event(text, place);
+}
+
+static void expect_listing_by_entries(int line)
+{
+    static struct text text;
+    print_file(&text);
+    expect_listing(line, text.bytes, text.length);
+}
+
+/* Reads a sample: its bytes into `to`, and how many there are. */
+static size_t read_sample(const char *name, const char *ending, void *to, size_t most)
+{
+    char path[512];
+    FILE *from;
+    size_t length;
+    snprintf(path, sizeof path, "samples/%s%s", name, ending);
+    from = fopen(path, "rb");
+    if (from == NULL)
+        return 0;
+    length = fread(to, 1, most, from);
+    fclose(from);
+    return length;
+}
+
+/* Every sample's listing. */
+static void sample_listings(void)
+{
+    static struct text text;
+    struct dirent *entry;
+    DIR *folder = opendir("samples");
+    int samples = 0;
+    while (folder != NULL && (entry = readdir(folder)) != NULL) {
+        char *ending = strrchr(entry->d_name, '.');
+        if (ending == NULL || strcmp(ending, ".rec") != 0)
+            continue;
+        *ending = '\0';
+        file.length = read_sample(entry->d_name, ".rec", file.bytes, sizeof file.bytes);
+        text.length = read_sample(entry->d_name, ".listing", text.bytes, sizeof text.bytes);
+        CHECK(file.length > 0 && text.length > 0);
+        expect_listing(__LINE__, text.bytes, text.length);
+        expect_listing_by_entries(__LINE__);
+        samples++;
+    }
+    CHECK(samples >= 8);
+    if (folder != NULL)
+        closedir(folder);
+}
+
+#define LISTED(text) expect_listing(__LINE__, text, strlen(text))
+
+static void listings(void)
+{
+    uint32_t i;
+    file.length = 0;
+    LISTED("file refused 0\n");
+    put_head(&file, 65535, UINT32_MAX);
+    LISTED("portfolio 4294967295 from 65535 held 0 0\n");
+    put_event(&file, 65535, 255, 255, 255);
+    LISTED("portfolio 4294967295 from 65535 held 0 0\n65535 255 255 refused 1\n");
+    put_worked(&file);
+    LISTED("portfolio 77 from 6900 held 6951 22\n6972 152 156 days 2 6951 6965 reach 21 over 24 adj 264\n152 30348 1265\n153 30264 1261\n"
+           "154 30264 1261\n155 30264 1261\n6966 152 156 refused 8 42\n");
+    file.length--;
+    LISTED("file refused 8596\n");
+
+    put_head(&file, 0, UINT32_MAX); /* the longest: every event over a whole weekday, of the largest numbers */
+    for (i = 0; i < 128; i++)
+        put_day(&file, 36397 + i, 0, HP_HIGHEST - 1);
+    for (i = 0; i < 64; i++)
+        put_event(&file, 36523, 96, 192, 96);
+    expect_listing_by_entries(__LINE__);
+    put_event(&file, 36523, 96, 192, 96);
+    LISTED("file refused 50440\n");
+}
+
+/* Every pointer NULL with a length of 0. */
 static void nothing_lent(void)
 {
-    struct lent told = lend((HP_TOLD_LENGTH - 1) * sizeof(int64_t), at_end), out = lend(16, at_end);
-    int64_t *numbers = (int64_t *)(void *)told.bytes;
     CHECK(hp_baseline(NULL, 0, 0, NULL, 0) == HP_BAD_FILE);
-    CHECK(hp_baseline_told(NULL, 0, 0, NULL, 0, NULL, 0) == HP_BAD_FILE);
-    CHECK(hp_file(NULL, 0, NULL, 0) == HP_BAD_FILE);
-    CHECK(hp_event(NULL, 0, 0, NULL, 0) == HP_BAD_FILE);
+    CHECK(hp_told(NULL, 0, 0, HP_RESULT) == HP_BAD_FILE && hp_told(NULL, 0, 0, HP_CARRIED) == 0);
+    CHECK(hp_file(NULL, 0, HP_RESULT) == HP_BAD_FILE && hp_file(NULL, 0, HP_CARRIED) == 0);
+    CHECK(hp_event(NULL, 0, 0, HP_RESULT) == HP_BAD_FILE && hp_event(NULL, 0, 0, HP_CARRIED) == 0);
+    CHECK(hp_listing(NULL, 0, NULL, 0) == -HP_NO_ROOM);
     put_worked(&file);
     CHECK(hp_baseline(file.bytes, file.length, 0, NULL, 0) == HP_NO_ROOM);
-    CHECK(hp_baseline_told(file.bytes, file.length, 0, NULL, 0, NULL, 0) == HP_NO_ROOM);
-    CHECK(hp_file(file.bytes, file.length, NULL, 0) == HP_ANSWERED);
-    CHECK(hp_event(file.bytes, file.length, 0, NULL, 0) == HP_ANSWERED);
-    CHECK(hp_baseline_told(file.bytes, file.length, 0, out.bytes, 16, numbers, HP_TOLD_LENGTH - 1) == HP_ANSWERED);
-    CHECK(kept(&told, 0) && kept(&out, 16) && word_at(out.bytes) == 30348);
-    CHECK(hp_baseline_told(file.bytes, file.length, 1, out.bytes, 16, numbers, HP_TOLD_LENGTH - 1) == HP_MARGIN_TOO_SHORT);
-    CHECK(kept(&told, 0));
-    give_back(&told);
-    give_back(&out);
+    CHECK(hp_listing(file.bytes, file.length, NULL, 0) == -HP_NO_ROOM);
 }
 
 int main(void)
 {
     for (at_end = 0; at_end < 2; at_end++) {
         worked_case();
+        highest_numbers();
         refused_tables();
         refused_requests();
         refused_choices();
         refused_files();
         altered_files();
         most_days();
+        listings();
+        sample_listings();
         nothing_lent();
     }
     return checked("files");

@@ -1,4 +1,4 @@
-/* A shared library's archive, loaded while the program runs: dlopen, and a call through the address found. */
+/* A shared library's archive, loaded while the program runs: dlopen, every entry's address, and calls through two of them. */
 #include <dlfcn.h>
 
 #include "check.h"
@@ -7,16 +7,24 @@
 
 int main(int argc, char **argv)
 {
+    static const char *const entries[] = {"hp_baseline", "hp_told", "hp_baseline_table", "hp_told_table", "hp_day_part", "hp_file", "hp_event",
+                                          "hp_listing"};
     static struct record_file file;
     uint32_t (*baseline)(const uint8_t *, size_t, size_t, uint8_t *, size_t);
+    int64_t (*told)(const uint8_t *, size_t, size_t, uint32_t);
     uint8_t out[HP_MOST_BYTES];
+    size_t i;
     void *library = argc == 2 ? dlopen(argv[1], RTLD_NOW) : NULL;
     if (library == NULL) {
         fprintf(stderr, "usage: plugin LIBRARY\n");
         return 2;
     }
+    for (i = 0; i < sizeof entries / sizeof entries[0]; i++)
+        CHECK(dlsym(library, entries[i]) != NULL);
     *(void **)&baseline = dlsym(library, "hp_baseline");
+    *(void **)&told = dlsym(library, "hp_told");
     put_worked(&file);
     CHECK(baseline != NULL && baseline(file.bytes, file.length, 0, out, sizeof out) == HP_ANSWERED && word_at(out) == 30348);
+    CHECK(told != NULL && told(file.bytes, file.length, 0, HP_ADJUSTMENT) == 264);
     return checked("plugin");
 }

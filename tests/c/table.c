@@ -1,6 +1,7 @@
-/* The entry over a table in memory: the worked case, refusals 1 to 10, and every buffer between guards. */
+/* The entries over a table in memory: the worked case, refusals 1 to 10, the part of a day, and every buffer between guards. */
 #include "check.h"
 #include "honeyplank.h"
+#include "told.h"
 
 enum { QUARTERS = 96, MOST = 129 };
 
@@ -36,82 +37,126 @@ static void worked(void)
     p = 6900, d = 6972, s = 152, e = 156, n = 148;
 }
 
-static void expect(int line, size_t room, uint32_t number, const uint32_t *numerators, size_t written, const int64_t *tells)
+/* hp_baseline_table with so much room gives this number and, answered, these numerators; hp_told_table tells the result by every name. */
+static void expect(int line, size_t room, uint32_t number, struct result result)
 {
     struct lent m = lend_copy(marks, days, at_end), r = lend_copy(readings, 4 * count, at_end), out = lend(4 * room, at_end);
-    struct lent told = lend(HP_TOLD_LENGTH * sizeof(int64_t), at_end);
-    int before = failures;
-    CHECK(hp_baseline_table(first, m.bytes, days, (const uint32_t *)(const void *)r.bytes, count, p, d, s, e, n,
-                            (uint32_t *)(void *)out.bytes, room, (int64_t *)(void *)told.bytes, HP_TOLD_LENGTH) == number);
-    CHECK(kept(&out, 4 * written) && memcmp(out.bytes, numerators, 4 * written) == 0);
-    CHECK(kept(&told, told.length) && memcmp(told.bytes, tells, told.length) == 0);
+    const uint32_t *lent = (const uint32_t *)(const void *)r.bytes;
+    size_t written = number == HP_ANSWERED ? 4 * result.quarters : 0;
+    int before = failures, i;
+    CHECK(hp_baseline_table(first, m.bytes, days, lent, count, p, d, s, e, n, (uint32_t *)(void *)out.bytes, room) == number);
+    CHECK(kept(&out, written) && memcmp(out.bytes, result.numerators, written) == 0);
+    for (i = 0; i < NAMES; i++)
+        CHECK(tells(&result.told, name_at(i), hp_told_table(first, m.bytes, days, lent, count, p, d, s, e, n, name_at(i))));
     if (failures != before)
         printf("  in the call of line %d\n", line);
     give_back(&m);
     give_back(&r);
     give_back(&out);
-    give_back(&told);
 }
 
-static const uint32_t numerators[] = {30348, 30264, 30264, 30264};
-
-static void refused(int line, size_t room, uint32_t number, int64_t one, int64_t two)
-{
-    int64_t tells[HP_TOLD_LENGTH] = {0};
-    tells[HP_TOLD_CARRIED] = one;
-    tells[HP_TOLD_CARRIED + 1] = two;
-    expect(line, room, number, numerators, 0, tells);
-}
-
-#define REFUSED(room, number, one, two) refused(__LINE__, room, number, one, two)
+#define REFUSED(room, number, one, two) expect(__LINE__, room, number, refused(number, one, two))
+#define ANSWERED(room, result) expect(__LINE__, room, HP_ANSWERED, result)
+#define NO_ROOM(room, result) expect(__LINE__, room, HP_NO_ROOM, result)
 
 static void answers(void)
 {
-    static const int64_t tells[] = {2, 6951, 6965, 0, 0, 0, 21, 24, 264};
-    worked();
-    expect(__LINE__, 4, HP_ANSWERED, numerators, 4, tells);
-    expect(__LINE__, 5, HP_ANSWERED, numerators, 4, tells);
-    expect(__LINE__, 96, HP_ANSWERED, numerators, 4, tells);
+    static const uint32_t saturdays[] = {6951, 6965}, spare[] = {6965, 6958}, weekdays[] = {6960, 6969, 6968, 6967, 6964};
+    struct result whole_day = answered(saturdays, 2, 21, -6000, 96, 24000), floored = answered(saturdays, 2, 21, -30000, 4, 0);
+    whole_day.numerators[56] = 24084;
+    floored.numerators[0] = 84;
+    worked(), ANSWERED(4, worked_answer()), ANSWERED(5, worked_answer()), ANSWERED(96, worked_answer());
+    worked(), s = 96, e = 192, n = 96, ANSWERED(96, whole_day), NO_ROOM(95, whole_day);
+    worked(), p = 6958, marks[7] = HP_MARK_EVENT, ANSWERED(4, answered(spare, 2, 14, 2664, 4, 30264));
+    worked(), d = 6971, fill_day(6960, 1012), ANSWERED(4, answered(weekdays, 5, 15, -144, 4, 60000)); /* Friday 1 February 2019 */
+    worked(), fill_day(6972, 0), ANSWERED(4, floored);
 }
 
 static void refusals(void)
 {
     int i;
-    worked(), days = 0, count = 0, REFUSED(4, HP_BAD_TABLE, 0, 0);
-    worked(), days = 129, count = 129 * QUARTERS, REFUSED(4, HP_BAD_TABLE, 0, 0);
-    worked(), count--, REFUSED(4, HP_BAD_TABLE, 0, 0);
-    worked(), count++, REFUSED(4, HP_BAD_TABLE, 0, 0);
-    worked(), first = 36504, REFUSED(4, HP_BAD_TABLE, 0, 0);
-    worked(), first = UINT32_MAX, REFUSED(0, HP_BAD_TABLE, 0, 0);
-    worked(), marks[21] = 4, REFUSED(4, HP_BAD_MARK, 21, 0);
-    worked(), readings[2111] = HP_HIGHEST + 1, REFUSED(4, HP_BAD_READING, 2111, 0);
-    worked(), p = 36525, REFUSED(4, HP_BAD_REQUEST, 0, 0);
-    worked(), s = 192, e = 193, REFUSED(4, HP_BAD_REQUEST, 0, 0);
-    worked(), e = UINT32_MAX, REFUSED(4, HP_BAD_REQUEST, 0, 0);
-    worked(), n = 153, REFUSED(4, HP_BAD_REQUEST, 0, 0);
-    worked(), d = 6973, REFUSED(4, HP_NOT_HELD, 0, 0);
-    worked(), d = UINT32_MAX, REFUSED(4, HP_NOT_HELD, 0, 0);
-    worked(), p = 6973, REFUSED(4, HP_NOT_YET_PARTICIPATING, 0, 0);
-    worked(), REFUSED(3, HP_NO_ROOM, 0, 0);
-    worked(), REFUSED(0, HP_NO_ROOM, 0, 0);
-    worked(), d = 6966, REFUSED(4, HP_MARGIN_TOO_SHORT, 42, 0);
+    worked(), days = 0, count = 0, REFUSED(4, HP_BAD_TABLE, NONE, NONE);
+    worked(), days = 129, count = 129 * QUARTERS, REFUSED(4, HP_BAD_TABLE, NONE, NONE);
+    worked(), count--, REFUSED(4, HP_BAD_TABLE, NONE, NONE);
+    worked(), count++, REFUSED(4, HP_BAD_TABLE, NONE, NONE);
+    worked(), first = 36504, REFUSED(4, HP_BAD_TABLE, NONE, NONE);
+    worked(), first = UINT32_MAX, REFUSED(0, HP_BAD_TABLE, NONE, NONE);
+    worked(), marks[21] = 4, REFUSED(4, HP_BAD_MARK, 21, NONE);
+    worked(), readings[2111] = HP_HIGHEST + 1, REFUSED(4, HP_BAD_READING, 2111, NONE);
+    worked(), p = 36525, REFUSED(4, HP_BAD_REQUEST, NONE, NONE);
+    worked(), s = 192, e = 193, REFUSED(4, HP_BAD_REQUEST, NONE, NONE);
+    worked(), e = UINT32_MAX, REFUSED(4, HP_BAD_REQUEST, NONE, NONE);
+    worked(), n = 153, REFUSED(4, HP_BAD_REQUEST, NONE, NONE);
+    worked(), d = 6973, REFUSED(4, HP_NOT_HELD, NONE, NONE);
+    worked(), d = UINT32_MAX, REFUSED(4, HP_NOT_HELD, NONE, NONE);
+    worked(), p = 6973, REFUSED(4, HP_NOT_YET_PARTICIPATING, NONE, NONE);
+    worked(), NO_ROOM(3, worked_answer()), NO_ROOM(0, worked_answer());
+    worked(), d = 6966, REFUSED(4, HP_MARGIN_TOO_SHORT, 42, NONE), NO_ROOM(3, refused(HP_MARGIN_TOO_SHORT, 42, NONE));
     worked(), p = 6972, REFUSED(4, HP_TOO_FEW, 0, 0);
     worked(), p = 6958, marks[7] = HP_MARK_OUTAGE, REFUSED(4, HP_TOO_FEW, 1, 14);
     worked();
     for (i = 20 * QUARTERS; i < 22 * QUARTERS; i++)
         readings[i] = HP_MISSING;
-    REFUSED(4, HP_NO_ADJUSTMENT_WINDOW, 21, 0);
+    REFUSED(4, HP_NO_ADJUSTMENT_WINDOW, 21, NONE);
+}
+
+/* hp_day_part of every day about the table, and of days far off: `held` says whether any is held. */
+static void expect_parts(int line, int held)
+{
+    static const uint32_t far[] = {0, 1, 36524, 36525, 65536 + 6951, 2147483648u, UINT32_MAX - 1, UINT32_MAX};
+    struct lent m = lend_copy(marks, days, at_end), r = lend_copy(readings, 4 * count, at_end);
+    const uint32_t *lent = (const uint32_t *)(const void *)r.bytes;
+    int before = failures;
+    uint32_t i;
+    for (i = 0; i < MOST + 10; i++) {
+        uint32_t day = first - 5 + i;
+        int64_t due = held && i >= 5 && i - 5 < days ? (int64_t)(QUARTERS * (i - 5)) : HP_NOTHING;
+        CHECK(hp_day_part(first, m.bytes, days, lent, count, day) == due);
+    }
+    for (i = 0; i < sizeof far / sizeof far[0]; i++)
+        CHECK(far[i] - first < days || hp_day_part(first, m.bytes, days, lent, count, far[i]) == HP_NOTHING);
+    if (failures != before)
+        printf("  in the parts of line %d\n", line);
+    give_back(&m);
+    give_back(&r);
+}
+
+#define PARTS_HELD() expect_parts(__LINE__, 1)
+#define NO_PARTS() expect_parts(__LINE__, 0)
+
+static void day_parts(void)
+{
+    uint32_t day;
+    worked(), PARTS_HELD();
+    for (day = 6951; day <= 6972; day++) { /* what stands there is that day's reading */
+        const uint32_t *part = readings + hp_day_part(first, marks, days, readings, count, day);
+        CHECK(part[0] == (day == 6951 ? 1300 : day == 6958 ? 1100 : day == 6965 ? 1200 : day == 6972 ? 1261 : 1000));
+        CHECK(part[56] == (day == 6951 ? 1307 : part[0]) && part[95] == part[0]);
+    }
+    worked(), marks[3] = 255, readings[5] = HP_MISSING - 1, PARTS_HELD(); /* refusals 2 and 3 leave the parts as they are */
+    worked(), days = 1, count = QUARTERS, PARTS_HELD();
+    worked(), days = 128, count = 128 * QUARTERS, PARTS_HELD();
+    worked(), first = 0, PARTS_HELD();
+    worked(), first = 36503, PARTS_HELD();
+    worked(), first = 36504, NO_PARTS();
+    worked(), first = UINT32_MAX, NO_PARTS();
+    worked(), days = 0, count = 0, NO_PARTS();
+    worked(), days = 129, count = 129 * QUARTERS, NO_PARTS();
+    worked(), count--, NO_PARTS();
+    worked(), count++, NO_PARTS();
+    worked(), count = 0, NO_PARTS();
 }
 
 static void nothing_lent(void)
 {
     uint32_t out[4] = {0};
-    CHECK(hp_baseline_table(0, NULL, 0, NULL, 0, 0, 0, 0, 0, 0, NULL, 0, NULL, 0) == HP_BAD_TABLE);
     worked();
-    CHECK(hp_baseline_table(first, marks, days, NULL, 0, p, d, s, e, n, out, 4, NULL, 0) == HP_BAD_TABLE);
-    CHECK(hp_baseline_table(first, marks, days, readings, count, p, d, s, e, n, NULL, 0, NULL, 0) == HP_NO_ROOM);
-    CHECK(hp_baseline_table(first, marks, days, readings, count, p, d, s, e, n, out, 4, NULL, 0) == HP_ANSWERED);
-    CHECK(memcmp(out, numerators, sizeof out) == 0);
+    CHECK(hp_baseline_table(0, NULL, 0, NULL, 0, 0, 0, 0, 0, 0, NULL, 0) == HP_BAD_TABLE);
+    CHECK(hp_told_table(0, NULL, 0, NULL, 0, 0, 0, 0, 0, 0, HP_RESULT) == HP_BAD_TABLE);
+    CHECK(hp_day_part(0, NULL, 0, NULL, 0, 0) == HP_NOTHING);
+    CHECK(hp_baseline_table(first, marks, days, NULL, 0, p, d, s, e, n, out, 4) == HP_BAD_TABLE);
+    CHECK(hp_baseline_table(first, NULL, 0, readings, count, p, d, s, e, n, out, 4) == HP_BAD_TABLE);
+    CHECK(hp_baseline_table(first, marks, days, readings, count, p, d, s, e, n, NULL, 0) == HP_NO_ROOM);
 }
 
 int main(void)
@@ -119,6 +164,7 @@ int main(void)
     for (at_end = 0; at_end < 2; at_end++) {
         answers();
         refusals();
+        day_parts();
         nothing_lent();
     }
     return checked("table");

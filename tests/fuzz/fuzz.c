@@ -1,11 +1,12 @@
 /* libFuzzer's harness: the proved entries over a record file beside the plain C ones (tests/reference/c), which are instrumented. An input is one
  * byte for the event's place, one for the room of the output, and the file. */
+#define _POSIX_C_SOURCE 200809L
 #include <stdio.h>
 #include <stdlib.h>
 #include <string.h>
 
-#include "file.h"
 #include "honeyplank.h"
+#include "listing.h"
 
 int LLVMFuzzerTestOneInput(const uint8_t *data, size_t size);
 size_t LLVMFuzzerMutate(uint8_t *data, size_t size, size_t most);
@@ -39,61 +40,114 @@ static size_t room_of(uint8_t byte, uint32_t length)
     return byte == 0 ? need : byte == 1 ? need - (need > 0) : 4 * (size_t)byte - 5;
 }
 
-static void same_file(const uint8_t *file, size_t length, const struct plain_file *shape, uint32_t refused)
+/* NAMES: one more than there are. TURNS: an input asks for every fourth name, because each costs a whole call. */
+enum { NAMES = HP_EVENT_NOTICE + 2, TURNS = 4 };
+
+/* The numbers that are due by name: of a refusal, which the others add to. */
+static void tell_refusal(int64_t told[NAMES], uint32_t number, const uint64_t *carried, uint32_t carries)
 {
-    uint32_t words[HP_SHAPE_LENGTH + 1], due[HP_SHAPE_LENGTH + 1];
-    memset(words, UNTOUCHED, sizeof words);
-    memset(due, UNTOUCHED, sizeof due);
-    if (!refused)
-        memcpy(due, shape, 4 * HP_SHAPE_LENGTH); /* the five in the same order */
-    SAME(hp_file(file, length, words, HP_SHAPE_LENGTH + 1) == refused);
-    SAME(memcmp(words, due, sizeof due) == 0);
+    uint32_t i;
+    for (i = 0; i < NAMES; i++)
+        told[i] = HP_NOTHING;
+    told[HP_RESULT] = number;
+    for (i = 0; i < carries; i++)
+        told[HP_CARRIED + i] = (int64_t)carried[i];
 }
 
-static void same_event(const uint8_t *file, size_t length, size_t place, uint32_t number, const struct plain_event *event)
+static void same_file(const uint8_t *file, size_t length, uint32_t turn, const struct plain_file *shape, uint32_t refused, uint64_t offset)
 {
-    uint32_t words[HP_EVENT_LENGTH + 1], due[HP_EVENT_LENGTH + 1];
-    memset(words, UNTOUCHED, sizeof words);
-    memset(due, UNTOUCHED, sizeof due);
-    if (number == HP_ANSWERED)
-        memcpy(due, event, 4 * HP_EVENT_LENGTH);
-    SAME(hp_event(file, length, place, words, HP_EVENT_LENGTH + 1) == number);
-    SAME(memcmp(words, due, sizeof due) == 0);
-}
-
-static void tell(int64_t *told, uint32_t number, const struct plain_answer *answer)
-{
-    int i;
-    memset(told, 0, HP_TOLD_LENGTH * sizeof *told);
-    if (number != HP_ANSWERED) {
-        told[HP_TOLD_CARRIED] = (int64_t)answer->carried[0];
-        told[HP_TOLD_CARRIED + 1] = (int64_t)answer->carried[1];
-        return;
+    int64_t told[NAMES];
+    uint32_t name;
+    tell_refusal(told, refused, &offset, refused ? 1 : 0);
+    if (!refused) {
+        told[HP_FILE_PARTICIPATION] = shape->p;
+        told[HP_FILE_PORTFOLIO] = shape->portfolio;
+        told[HP_FILE_FIRST] = shape->first;
+        told[HP_FILE_DAYS] = shape->days;
+        told[HP_FILE_EVENTS] = shape->events;
     }
-    told[HP_TOLD_COUNT] = answer->count;
-    for (i = 0; i < 5; i++)
-        told[HP_TOLD_DAYS + i] = answer->days[i];
-    told[HP_TOLD_REACH] = answer->reach;
-    told[HP_TOLD_DENOMINATOR] = answer->denominator;
-    told[HP_TOLD_ADJUSTMENT] = answer->adjustment;
+    for (name = turn; name < NAMES; name += TURNS)
+        SAME(hp_file(file, length, name) == told[name]);
+}
+
+static void same_event(const uint8_t *file, size_t length, size_t place, uint32_t turn, uint32_t number, uint64_t offset,
+                       const struct plain_event *event)
+{
+    int64_t told[NAMES];
+    uint32_t name;
+    tell_refusal(told, number, &offset, number == HP_BAD_FILE ? 1 : 0);
+    if (number == HP_ANSWERED) {
+        told[HP_EVENT_DAY] = event->d;
+        told[HP_EVENT_START] = event->s;
+        told[HP_EVENT_END] = event->e;
+        told[HP_EVENT_NOTICE] = event->n;
+    }
+    for (name = turn; name < NAMES; name += TURNS)
+        SAME(hp_event(file, length, place, name) == told[name]);
+}
+
+static void tell(int64_t told[NAMES], uint32_t number, const struct plain_answer *answer)
+{
+    uint32_t i;
+    tell_refusal(told, number, answer->carried, answer->carries);
+    if (number != HP_ANSWERED)
+        return;
+    told[HP_COUNT] = answer->count;
+    for (i = 0; i < answer->count; i++)
+        told[HP_DAY_1 + i] = answer->days[i];
+    told[HP_REACH] = answer->reach;
+    told[HP_DENOMINATOR] = answer->denominator;
+    told[HP_ADJUSTMENT] = answer->adjustment;
+}
+
+static void same_told(const uint8_t *file, size_t length, size_t place, uint32_t turn)
+{
+    uint8_t out[HP_MOST_BYTES];
+    int64_t told[NAMES];
+    struct plain_answer answer;
+    uint32_t name;
+    tell(told, plain_host(file, length, place, out, sizeof out, &answer), &answer);
+    for (name = turn; name < NAMES; name += TURNS)
+        SAME(hp_told(file, length, place, name) == told[name]);
 }
 
 static void same_baseline(const uint8_t *file, size_t length, size_t place, size_t room)
 {
-    uint8_t due[MOST_ROOM], out[MOST_ROOM], again[MOST_ROOM];
-    int64_t due_told[HP_TOLD_LENGTH], told[HP_TOLD_LENGTH];
+    uint8_t due[MOST_ROOM], out[MOST_ROOM];
     struct plain_answer answer;
     uint32_t number;
     memset(due, UNTOUCHED, sizeof due);
     memset(out, UNTOUCHED, sizeof out);
-    memset(again, UNTOUCHED, sizeof again);
     number = plain_host(file, length, place, due, room, &answer);
-    tell(due_told, number, &answer);
-    SAME(hp_baseline_told(file, length, place, out, room, told, HP_TOLD_LENGTH) == number);
-    SAME(memcmp(told, due_told, sizeof told) == 0);
+    SAME(hp_baseline(file, length, place, out, room) == number);
     SAME(memcmp(out, due, sizeof out) == 0);
-    SAME(hp_baseline(file, length, place, again, room) == number);
-    SAME(memcmp(again, due, sizeof again) == 0);
+}
+
+/* With the room of the listing, a byte less or a byte more; by `turn`, seldom with room for any. */
+static void same_listing(const uint8_t *file, size_t length, uint8_t turn)
+{
+    char *due = NULL;
+    size_t size = 0, room;
+    FILE *to = open_memstream(&due, &size);
+    uint8_t *out;
+    if (to == NULL)
+        return;
+    plain_list(to, file, length);
+    fclose(to);
+    room = turn % 32 == 7 ? HP_MOST_LISTING : size + turn % 3 - 1;
+    out = malloc(room);
+    if (out != NULL) {
+        memset(out, UNTOUCHED, room);
+        SAME(hp_listing(file, length, out, room) == (room < size ? -HP_NO_ROOM : (int64_t)size));
+        if (room >= size) {
+            SAME(memcmp(out, due, size) == 0);
+            memset(out, UNTOUCHED, size);
+        }
+        while (room-- > 0)
+            SAME(out[room] == UNTOUCHED);
+    }
+    free(out);
+    free(due);
 }
 
 int LLVMFuzzerTestOneInput(const uint8_t *data, size_t size)
@@ -101,7 +155,7 @@ int LLVMFuzzerTestOneInput(const uint8_t *data, size_t size)
     struct plain_file shape;
     struct plain_event event = {0, 0, 0, 0};
     size_t offset, place, length;
-    uint32_t refused, number;
+    uint32_t refused, number, turn;
     uint8_t *file;
     if (size < 2)
         return 0;
@@ -115,9 +169,12 @@ int LLVMFuzzerTestOneInput(const uint8_t *data, size_t size)
     number = refused ? refused : place >= shape.events ? HP_NO_EVENT : HP_ANSWERED;
     if (number == HP_ANSWERED)
         event = plain_event_at(file, &shape, (uint32_t)place);
-    same_file(file, length, &shape, refused);
-    same_event(file, length, place, number, &event);
+    turn = (uint32_t)(data[1] + length) % TURNS;
+    same_file(file, length, turn, &shape, refused, offset);
+    same_event(file, length, place, turn, number, offset, &event);
+    same_told(file, length, place, turn);
     same_baseline(file, length, place, room_of(data[1], event.e > event.s ? event.e - event.s : 0));
+    same_listing(file, length, data[1]);
     free(file);
     return 0;
 }

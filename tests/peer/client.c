@@ -93,69 +93,105 @@ static int hand_over(void)
     return moved == 1;
 }
 
-/* Hands the call over with these buffers, and gives their content back; what stands around them is filled before and looked at after. */
-static uint32_t carry(struct peer_call *c, void *out, size_t out_size, int64_t *told, size_t told_len)
+/* Hands the call over with this output, and gives its content back; what stands around it is filled before and looked at after. */
+static int64_t carry(struct peer_call *c, void *out, size_t out_size)
 {
-    memset(c->before_out, UNTOUCHED, PEER_GUARD);
-    memset(c->out, UNTOUCHED, PEER_OUT);
-    memset(c->before_told, UNTOUCHED, PEER_GUARD);
-    memset(c->told, UNTOUCHED, sizeof c->told);
-    memset(c->after_told, UNTOUCHED, PEER_GUARD);
     copy(c->out, out, out_size, PEER_OUT);
-    copy(c->told, told, 8 * told_len, sizeof c->told);
-    c->told_len = told_len;
+    memset(c->before_out, UNTOUCHED, PEER_GUARD);
+    memset(c->out + out_size, UNTOUCHED, PEER_GUARD);
     if (!hand_over())
         fail("it ended");
-    if (!untouched(c->before_out, c->out) || !untouched(c->out + out_size, (uint8_t *)c->told) ||
-        !untouched((uint8_t *)c->told + 8 * told_len, c->after_told + PEER_GUARD))
+    if (!untouched(c->before_out, c->before_out + PEER_GUARD) || !untouched(c->out + out_size, c->out + out_size + PEER_GUARD))
         fail("something was written outside of what was lent");
     copy(out, c->out, out_size, PEER_OUT);
-    copy(told, c->told, 8 * told_len, sizeof c->told);
-    return c->number;
+    return c->given;
 }
 
-static struct peer_call *begin_file(uint32_t entry, const uint8_t *file, size_t file_len, size_t place, size_t out_len)
+static struct peer_call *begin_file(uint32_t entry, const uint8_t *file, size_t file_len, size_t place)
 {
     struct peer_call *c = begin(entry);
     copy(c->file, file, file_len, PEER_IN);
     c->file_len = file_len;
     c->place = place;
-    c->out_len = out_len;
+    c->out_len = 0;
     return c;
 }
 
-uint32_t hp_baseline(const uint8_t *file, size_t file_len, size_t place, uint8_t *out, size_t out_len)
+static struct peer_call *begin_table(uint32_t entry, uint32_t first, const uint8_t *marks, size_t marks_len, const uint32_t *readings,
+                                     size_t readings_len)
 {
-    return carry(begin_file(PEER_BASELINE, file, file_len, place, out_len), out, out_len, NULL, 0);
-}
-
-uint32_t hp_baseline_told(const uint8_t *file, size_t file_len, size_t place, uint8_t *out, size_t out_len, int64_t *told, size_t told_len)
-{
-    return carry(begin_file(PEER_BASELINE_TOLD, file, file_len, place, out_len), out, out_len, told, told_len);
-}
-
-uint32_t hp_file(const uint8_t *file, size_t file_len, uint32_t *shape, size_t shape_len)
-{
-    return carry(begin_file(PEER_FILE, file, file_len, 0, shape_len), shape, 4 * shape_len, NULL, 0);
-}
-
-uint32_t hp_event(const uint8_t *file, size_t file_len, size_t place, uint32_t *event, size_t event_len)
-{
-    return carry(begin_file(PEER_EVENT, file, file_len, place, event_len), event, 4 * event_len, NULL, 0);
-}
-
-uint32_t hp_baseline_table(uint32_t first, const uint8_t *marks, size_t marks_len, const uint32_t *readings, size_t readings_len,
-                           uint32_t participation, uint32_t event, uint32_t s, uint32_t e, uint32_t n, uint32_t *out, size_t out_len,
-                           int64_t *told, size_t told_len)
-{
-    struct peer_call *c = begin_file(PEER_TABLE, marks, marks_len, 0, out_len);
+    struct peer_call *c = begin_file(entry, marks, marks_len, 0);
     copy(c->readings, readings, 4 * readings_len, PEER_IN);
     c->readings_len = readings_len;
     c->first = first;
+    return c;
+}
+
+static void ask(struct peer_call *c, uint32_t participation, uint32_t event, uint32_t s, uint32_t e, uint32_t n)
+{
     c->participation = participation;
     c->event = event;
     c->s = s;
     c->e = e;
     c->n = n;
-    return carry(c, out, 4 * out_len, told, told_len);
+}
+
+uint32_t hp_baseline(const uint8_t *file, size_t file_len, size_t place, uint8_t *out, size_t out_len)
+{
+    struct peer_call *c = begin_file(PEER_BASELINE, file, file_len, place);
+    c->out_len = out_len;
+    return (uint32_t)carry(c, out, out_len);
+}
+
+int64_t hp_told(const uint8_t *file, size_t file_len, size_t place, uint32_t name)
+{
+    struct peer_call *c = begin_file(PEER_TOLD, file, file_len, place);
+    c->name = name;
+    return carry(c, NULL, 0);
+}
+
+uint32_t hp_baseline_table(uint32_t first, const uint8_t *marks, size_t marks_len, const uint32_t *readings, size_t readings_len,
+                           uint32_t participation, uint32_t event, uint32_t s, uint32_t e, uint32_t n, uint32_t *out, size_t out_len)
+{
+    struct peer_call *c = begin_table(PEER_BASELINE_TABLE, first, marks, marks_len, readings, readings_len);
+    ask(c, participation, event, s, e, n);
+    c->out_len = out_len;
+    return (uint32_t)carry(c, out, 4 * out_len);
+}
+
+int64_t hp_told_table(uint32_t first, const uint8_t *marks, size_t marks_len, const uint32_t *readings, size_t readings_len,
+                      uint32_t participation, uint32_t event, uint32_t s, uint32_t e, uint32_t n, uint32_t name)
+{
+    struct peer_call *c = begin_table(PEER_TOLD_TABLE, first, marks, marks_len, readings, readings_len);
+    ask(c, participation, event, s, e, n);
+    c->name = name;
+    return carry(c, NULL, 0);
+}
+
+int64_t hp_day_part(uint32_t first, const uint8_t *marks, size_t marks_len, const uint32_t *readings, size_t readings_len, uint32_t day)
+{
+    struct peer_call *c = begin_table(PEER_DAY_PART, first, marks, marks_len, readings, readings_len);
+    c->event = day;
+    return carry(c, NULL, 0);
+}
+
+int64_t hp_file(const uint8_t *file, size_t file_len, uint32_t name)
+{
+    struct peer_call *c = begin_file(PEER_FILE, file, file_len, 0);
+    c->name = name;
+    return carry(c, NULL, 0);
+}
+
+int64_t hp_event(const uint8_t *file, size_t file_len, size_t place, uint32_t name)
+{
+    struct peer_call *c = begin_file(PEER_EVENT, file, file_len, place);
+    c->name = name;
+    return carry(c, NULL, 0);
+}
+
+int64_t hp_listing(const uint8_t *file, size_t file_len, uint8_t *out, size_t out_len)
+{
+    struct peer_call *c = begin_file(PEER_LISTING, file, file_len, 0);
+    c->out_len = out_len;
+    return carry(c, out, out_len);
 }

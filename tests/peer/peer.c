@@ -5,22 +5,28 @@
 #include "honeyplank.h"
 #include "peer.h"
 
-static uint32_t carry_out(struct peer_call *c)
+static int64_t carry_out(struct peer_call *c)
 {
-    uint32_t *words = (uint32_t *)(void *)c->out;
-    switch (c->entry) {
+    switch ((enum peer_entry)c->entry) {
     case PEER_BASELINE:
         return hp_baseline(c->file, c->file_len, c->place, c->out, c->out_len);
-    case PEER_BASELINE_TOLD:
-        return hp_baseline_told(c->file, c->file_len, c->place, c->out, c->out_len, c->told, c->told_len);
-    case PEER_FILE:
-        return hp_file(c->file, c->file_len, words, c->out_len);
-    case PEER_EVENT:
-        return hp_event(c->file, c->file_len, c->place, words, c->out_len);
-    default:
+    case PEER_TOLD:
+        return hp_told(c->file, c->file_len, c->place, c->name);
+    case PEER_BASELINE_TABLE:
         return hp_baseline_table(c->first, c->file, c->file_len, c->readings, c->readings_len, c->participation, c->event, c->s, c->e, c->n,
-                                 words, c->out_len, c->told, c->told_len);
+                                 (uint32_t *)(void *)c->out, c->out_len);
+    case PEER_TOLD_TABLE:
+        return hp_told_table(c->first, c->file, c->file_len, c->readings, c->readings_len, c->participation, c->event, c->s, c->e, c->n, c->name);
+    case PEER_DAY_PART:
+        return hp_day_part(c->first, c->file, c->file_len, c->readings, c->readings_len, c->event);
+    case PEER_FILE:
+        return hp_file(c->file, c->file_len, c->name);
+    case PEER_EVENT:
+        return hp_event(c->file, c->file_len, c->place, c->name);
+    case PEER_LISTING:
+        return hp_listing(c->file, c->file_len, c->out, c->out_len);
     }
+    return 0;
 }
 
 int main(void)
@@ -30,7 +36,7 @@ int main(void)
     if (call == MAP_FAILED)
         return 1;
     while (read(STDIN_FILENO, &byte, 1) == 1) {
-        call->number = carry_out(call);
+        call->given = carry_out(call);
         if (write(STDOUT_FILENO, &byte, 1) != 1)
             return 1;
     }

@@ -5,20 +5,18 @@
 
 #include <stdint.h>
 
-enum { PEER_IN = 1 << 18, PEER_OUT = 1 << 13, PEER_TOLD = 64, PEER_GUARD = 64, PEER_MEMORY_FD = 3 };
-enum peer_entry { PEER_BASELINE, PEER_BASELINE_TOLD, PEER_FILE, PEER_EVENT, PEER_TABLE };
+enum { PEER_IN = 1 << 18, PEER_OUT = 1 << 18, PEER_GUARD = 4096, PEER_MEMORY_FD = 3 };
+enum peer_entry { PEER_BASELINE, PEER_TOLD, PEER_BASELINE_TABLE, PEER_TOLD_TABLE, PEER_DAY_PART, PEER_FILE, PEER_EVENT, PEER_LISTING };
 
 struct peer_call {
-    uint32_t entry, number;
+    uint32_t entry, name;
     uint32_t first, participation, event, s, e, n;
-    uint64_t file_len, place, out_len, told_len, readings_len;
+    uint64_t file_len, place, out_len, readings_len;
+    int64_t given;         /* what the entry gives back */
     uint8_t file[PEER_IN]; /* or the marks */
     uint32_t readings[PEER_IN / 4];
     uint8_t before_out[PEER_GUARD];
-    uint8_t out[PEER_OUT]; /* or the shape, or the event */
-    uint8_t before_told[PEER_GUARD];
-    int64_t told[PEER_TOLD];
-    uint8_t after_told[PEER_GUARD];
+    uint8_t out[PEER_OUT + PEER_GUARD];
 };
 
 #endif

@@ -1,150 +1,97 @@
 //! The proved entries over a record file, beside the reference.
 
-use crate::{PlainAnswer, TOLD, UNTOUCHED};
+use crate::told::{some_names, Told};
+use crate::{begins, same, PlainAnswer, QUARTERS};
 use reference::calendar::{group_of, Group};
 use reference::record::{read, Contents};
-use reference::{verdict, Answer, Refusal};
+use reference::{listing, verdict, Answer, Refusal};
 
 extern "C" {
     fn hp_baseline(file: *const u8, file_len: usize, place: usize, out: *mut u8, out_len: usize) -> u32;
-    fn hp_baseline_told(
-        file: *const u8,
-        file_len: usize,
-        place: usize,
-        out: *mut u8,
-        out_len: usize,
-        told: *mut i64,
-        told_len: usize,
-    ) -> u32;
-    fn hp_file(file: *const u8, file_len: usize, shape: *mut u32, shape_len: usize) -> u32;
-    fn hp_event(file: *const u8, file_len: usize, place: usize, event: *mut u32, event_len: usize) -> u32;
+    fn hp_told(file: *const u8, file_len: usize, place: usize, name: u32) -> i64;
+    fn hp_file(file: *const u8, file_len: usize, name: u32) -> i64;
+    fn hp_event(file: *const u8, file_len: usize, place: usize, name: u32) -> i64;
+    fn hp_listing(file: *const u8, file_len: usize, out: *mut u8, out_len: usize) -> i64;
     fn plain_host(file: *const u8, length: usize, place: usize, out: *mut u8, room: usize, answer: *mut PlainAnswer) -> u32;
 }
 
 /// A byte that an output holds before a call.
-const FILL: u8 = 0xA5;
+pub const FILL: u8 = 0xA5;
+
+/// No listing is longer.
+pub const MOST_LISTING: usize = 213_194;
 
 /// 0 or the refusal number, and the output after the call.
-fn baseline(file: &[u8], place: usize, room: usize) -> (u32, Vec<u8>) {
+pub fn proved(file: &[u8], place: usize, room: usize) -> (u32, Vec<u8>) {
     let mut out = vec![FILL; room];
     // SAFETY: every pointer is lent with its own length, and no two overlap.
     let number = unsafe { hp_baseline(file.as_ptr(), file.len(), place, out.as_mut_ptr(), room) };
     (number, out)
 }
 
-/// The same, and what is told, in a buffer of one number more.
-fn baseline_told(file: &[u8], place: usize, room: usize) -> (u32, Vec<u8>, Vec<i64>) {
-    let mut out = vec![FILL; room];
-    let mut told = vec![i64::MIN; TOLD + 1];
+/// What is told of the result by a name.
+pub fn proved_told(file: &[u8], place: usize, name: u32) -> i64 {
     // SAFETY: as above.
-    let number = unsafe {
-        hp_baseline_told(file.as_ptr(), file.len(), place, out.as_mut_ptr(), room, told.as_mut_ptr(), told.len())
-    };
-    (number, out, told)
+    unsafe { hp_told(file.as_ptr(), file.len(), place, name) }
 }
 
-/// The plain C version's, in the form of `baseline_told`.
-fn plain_told(file: &[u8], place: usize, room: usize) -> (u32, Vec<u8>, Vec<i64>) {
+/// What is told of the file.
+pub fn proved_file(file: &[u8], name: u32) -> i64 {
+    // SAFETY: as above.
+    unsafe { hp_file(file.as_ptr(), file.len(), name) }
+}
+
+/// What is told of the event at a place.
+pub fn proved_event(file: &[u8], place: usize, name: u32) -> i64 {
+    // SAFETY: as above.
+    unsafe { hp_event(file.as_ptr(), file.len(), place, name) }
+}
+
+/// The length of the listing or -7, and the output after the call.
+pub fn proved_listing(file: &[u8], room: usize) -> (i64, Vec<u8>) {
+    let mut out = vec![FILL; room];
+    // SAFETY: as above.
+    let length = unsafe { hp_listing(file.as_ptr(), file.len(), out.as_mut_ptr(), room) };
+    (length, out)
+}
+
+/// The plain C version: its number and output, and what it tells.
+fn plain(file: &[u8], place: usize, room: usize) -> ((u32, Vec<u8>), Told) {
     let mut out = vec![FILL; room];
     let mut answer = PlainAnswer::default();
     // SAFETY: as above.
     let number = unsafe { plain_host(file.as_ptr(), file.len(), place, out.as_mut_ptr(), room, &mut answer) };
-    let mut told = vec![0; TOLD];
-    if number == 0 {
-        told[0] = i64::from(answer.count);
-        told[1..6].copy_from_slice(&answer.days.map(i64::from));
-        told[6..].copy_from_slice(&[i64::from(answer.reach), i64::from(answer.denominator), answer.adjustment]);
-    } else {
-        told[..2].copy_from_slice(&answer.carried.map(|carried| carried as i64));
-    }
-    told.push(i64::MIN);
-    (number, out, told)
+    ((number, out), Told::of_plain(number, &answer))
 }
 
-/// 0 or 11, and a buffer of so many words after the call.
-fn shape(file: &[u8], room: usize) -> (u32, Vec<u32>) {
-    let mut out = vec![UNTOUCHED; room];
-    // SAFETY: as above.
-    let number = unsafe { hp_file(file.as_ptr(), file.len(), out.as_mut_ptr(), room) };
-    (number, out)
-}
-
-/// 0, 11 or 12, and a buffer of so many words after the call.
-fn event(file: &[u8], place: usize, room: usize) -> (u32, Vec<u32>) {
-    let mut out = vec![UNTOUCHED; room];
-    // SAFETY: as above.
-    let number = unsafe { hp_event(file.as_ptr(), file.len(), place, out.as_mut_ptr(), room) };
-    (number, out)
-}
-
-/// A buffer of so many words that begins with these, where all of them fit.
-fn begins(words: &[u32], room: usize) -> Vec<u32> {
-    let mut out = vec![UNTOUCHED; room];
-    if words.len() <= room {
-        out[..words.len()].copy_from_slice(words);
-    }
-    out
-}
-
-fn expected_shape(read: &Result<Contents, Refusal>, room: usize) -> (u32, Vec<u32>) {
-    match read {
-        Ok(c) => {
-            let (days, events) = (c.table.marks.len() as u32, c.events.len() as u32);
-            (0, begins(&[c.p, c.portfolio, c.table.first, days, events], room))
-        }
-        Err(refusal) => (refusal.number(), begins(&[], room)),
-    }
-}
-
-fn expected_event(read: &Result<Contents, Refusal>, place: usize, room: usize) -> (u32, Vec<u32>) {
-    match read.as_ref().map(|c| c.events.get(place)) {
-        Ok(Some(r)) => (0, begins(&[r.d, r.s, r.e, r.n], room)),
-        Ok(None) => (Refusal::NoEvent.number(), begins(&[], room)),
-        Err(refusal) => (refusal.number(), begins(&[], room)),
-    }
+/// The numerators, four bytes each, the low byte first.
+pub fn bytes_of(numerators: &[u32]) -> Vec<u8> {
+    numerators.iter().flat_map(|numerator| numerator.to_le_bytes()).collect()
 }
 
 /// Refusal 11, then 12, then the call's own.
-fn expected_answer(read: &Result<Contents, Refusal>, place: usize, room: usize) -> Result<Answer, Refusal> {
+fn expected_result(read: &Result<Contents, Refusal>, place: usize, room: usize) -> Result<Answer, Refusal> {
     let contents = read.as_ref().map_err(|&refusal| refusal)?;
     let request = contents.events.get(place).ok_or(Refusal::NoEvent)?;
     verdict(contents.table.view(), request, room / 4)
 }
 
-/// The number, the output and what is told, for an expected answer.
-fn expected_told(answer: &Result<Answer, Refusal>, room: usize) -> (u32, Vec<u8>, Vec<i64>) {
-    let mut out = vec![FILL; room];
-    let mut told = vec![0; TOLD];
-    told.push(i64::MIN);
-    match answer {
-        Ok(answer) => {
-            let numerators: Vec<u8> = answer.numerators.iter().flat_map(|n| n.to_le_bytes()).collect();
-            out[..numerators.len()].copy_from_slice(&numerators);
-            told[0] = answer.days.len() as i64;
-            for (cell, &day) in told[1..6].iter_mut().zip(&answer.days) {
-                *cell = i64::from(day);
-            }
-            told[6] = i64::from(answer.reach);
-            told[7] = i64::from(answer.denominator);
-            told[8] = answer.adjustment;
-            (0, out, told)
-        }
-        Err(refusal) => {
-            for (cell, &carried) in told.iter_mut().zip(&refusal.carries()) {
-                *cell = carried as i64;
-            }
-            (refusal.number(), out, told)
-        }
+/// The number and the output that a result calls for.
+fn expected_output(result: &Result<Answer, Refusal>, room: usize) -> (u32, Vec<u8>) {
+    match result {
+        Ok(answer) => (0, begins(&bytes_of(&answer.numerators), FILL, room)),
+        Err(refusal) => (refusal.number(), begins(&[], FILL, room)),
     }
 }
 
-/// How often each outcome was met: answers by group of the event day, and refusals by number.
+/// How often each outcome was met: answers by group of the event day, refusals by number, and listings.
 #[derive(Default, Debug, Clone)]
 pub struct Met {
     pub weekdays: u64,
     pub saturdays: u64,
     pub holidays: u64,
     pub refused: [u64; 13],
+    pub listed: u64,
 }
 
 impl Met {
@@ -195,28 +142,38 @@ fn room(read: &Result<Contents, Refusal>, place: usize, seed: u64) -> usize {
     }
 }
 
-/// Compares every entry over a file with the reference; the seed only picks places and rooms.
+/// Compares every entry over a file with the reference; the seed only picks places, rooms and names.
 pub fn compare(file: &[u8], seed: u64, met: &mut Met) -> Result<(), String> {
     let read = read(file);
     let events = read.as_ref().map_or(0, |contents| contents.events.len());
-    let words = 4 + (seed % 3) as usize;
-    same("hp_file", &shape(file, words), &expected_shape(&read, words))?;
+    Told::of_file(&read).check("hp_file", &some_names(seed), |name| proved_file(file, name))?;
     for (turn, place) in places(events, seed).into_iter().enumerate() {
-        let room = room(&read, place, seed + 5 * turn as u64);
-        let answer = expected_answer(&read, place, room);
-        let told = expected_told(&answer, room);
+        let seed = seed + 5 * turn as u64;
+        let room = room(&read, place, seed);
+        let result = expected_result(&read, place, room);
         let at = |entry: &str| format!("{entry} at place {place} with {room} bytes");
-        same(&at("hp_baseline_told"), &baseline_told(file, place, room), &told)?;
-        if (seed + turn as u64) % 2 == 0 {
-            same(&at("hp_baseline"), &baseline(file, place, room), &(told.0, told.1))?;
-        }
-        if (seed + turn as u64) % 4 == 0 {
-            let words = 3 + (seed / 4 % 3) as usize;
-            same(&at("hp_event"), &event(file, place, words), &expected_event(&read, place, words))?;
-        }
-        met.count(&read, place, &answer);
+        same(&at("hp_baseline"), &proved(file, place, room), &expected_output(&result, room))?;
+        met.count(&read, place, &result);
+        let told = match result {
+            Err(Refusal::Room) => Told::of(&expected_result(&read, place, 4 * QUARTERS)),
+            _ => Told::of(&result),
+        };
+        told.check(&at("hp_told"), &some_names(seed / 2), |name| proved_told(file, place, name))?;
+        Told::of_event(&read, place).check(&at("hp_event"), &some_names(seed / 3), |name| proved_event(file, place, name))?;
+    }
+    if seed % 15 == 0 {
+        compare_listing(file, &listing(file), seed / 15)?;
+        met.listed += 1;
     }
     Ok(())
+}
+
+/// Compares the listing, with just its room, a byte less, more, or room for any.
+pub fn compare_listing(file: &[u8], text: &[u8], turn: u64) -> Result<(), String> {
+    let need = text.len();
+    let room = [need, need - 1, need, need + 1, need + 4000, MOST_LISTING, 0][(turn % 7) as usize];
+    let length = if room < need { -7 } else { need as i64 };
+    same(&format!("hp_listing with {room} bytes"), &proved_listing(file, room), &(length, begins(text, FILL, room)))
 }
 
 /// Compares the plain C version with the reference in the same way.
@@ -225,15 +182,9 @@ pub fn compare_plain(file: &[u8], seed: u64) -> Result<(), String> {
     let events = read.as_ref().map_or(0, |contents| contents.events.len());
     for place in places(events, seed) {
         let room = room(&read, place, seed);
-        let told = expected_told(&expected_answer(&read, place, room), room);
-        same(&format!("plain_host at place {place}"), &plain_told(file, place, room), &told)?;
+        let result = expected_result(&read, place, room);
+        let expected = (expected_output(&result, room), Told::of(&result));
+        same(&format!("plain_host at place {place}"), &plain(file, place, room), &expected)?;
     }
     Ok(())
-}
-
-fn same<T: PartialEq + std::fmt::Debug>(what: &str, found: &T, expected: &T) -> Result<(), String> {
-    if found == expected {
-        return Ok(());
-    }
-    Err(format!("{what}: expected {expected:?}, found {found:?}"))
 }

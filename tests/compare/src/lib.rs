@@ -1,15 +1,18 @@
-//! The proved call, through the archive's C entries, and the plain C version, beside the reference.
+//! The proved calls, through the archive's C entries, and the plain C version, beside the reference.
 
 pub mod files;
+pub mod program;
 pub mod shrink;
+pub mod told;
 
-use reference::{Answer, Request, Table};
+use reference::{verdict, Answer, Refusal, Request, Table};
+use told::{some_names, Told, NOTHING};
 
 /// What an output holds before a call.
 pub const UNTOUCHED: u32 = 0xA5A5_A5A5;
 
-/// How many numbers are told of a result.
-pub const TOLD: usize = 9;
+/// The quarters of a day: an output of so many has room for any event.
+pub const QUARTERS: usize = 96;
 
 /// What the plain C version tells of a result.
 #[repr(C)]
@@ -24,9 +27,9 @@ pub struct PlainAnswer {
     pub carries: u32,
 }
 
-/// Declares C functions over a table and a request that end in the parameters given.
+/// Declares C functions over a table that end in the parameters given.
 macro_rules! over_a_table {
-    ($($name:ident($($last:ident: $kind:ty),*);)*) => {
+    ($($name:ident($($last:ident: $kind:ty),*) -> $given:ty;)*) => {
         extern "C" {
             $(fn $name(
                 first: u32,
@@ -34,107 +37,111 @@ macro_rules! over_a_table {
                 days: usize,
                 readings: *const u32,
                 count: usize,
-                p: u32,
-                d: u32,
-                s: u32,
-                e: u32,
-                n: u32,
-                out: *mut u32,
-                room: usize,
                 $($last: $kind),*
-            ) -> u32;)*
+            ) -> $given;)*
         }
     };
 }
 
 over_a_table! {
-    hp_baseline_table(told: *mut i64, told_room: usize);
-    plain_baseline(answer: *mut PlainAnswer);
+    hp_baseline_table(p: u32, d: u32, s: u32, e: u32, n: u32, out: *mut u32, room: usize) -> u32;
+    hp_told_table(p: u32, d: u32, s: u32, e: u32, n: u32, name: u32) -> i64;
+    hp_day_part(day: u32) -> i64;
+    plain_baseline(p: u32, d: u32, s: u32, e: u32, n: u32, out: *mut u32, room: usize, answer: *mut PlainAnswer) -> u32;
 }
 
-/// Calls such a function with a table, a request and an output, each pointer with its own length.
+/// Calls such a function with a table, each pointer with its own length, and with the rest.
 macro_rules! call {
-    ($name:ident, $table:expr, $request:expr, $out:expr, $($last:expr),*) => {{
-        let (table, request, out) = ($table, $request, $out);
+    ($name:ident, $table:expr, $($last:expr),*) => {{
+        let table = $table;
         // SAFETY: every pointer is lent with its own length, and no two overlap.
         unsafe {
-            $name(
-                table.first,
-                table.marks.as_ptr(),
-                table.marks.len(),
-                table.readings.as_ptr(),
-                table.readings.len(),
-                request.p,
-                request.d,
-                request.s,
-                request.e,
-                request.n,
-                out.as_mut_ptr(),
-                out.len(),
-                $($last),*
-            )
+            $name(table.first, table.marks.as_ptr(), table.marks.len(), table.readings.as_ptr(), table.readings.len(), $($last),*)
         }
     }};
 }
 
-/// 0 or the refusal number; `out` and `told` as the contract says.
-pub fn proved(table: &Table, request: &Request, out: &mut [u32], told: &mut [i64]) -> u32 {
-    call!(hp_baseline_table, table, request, out, told.as_mut_ptr(), told.len())
-}
-
-/// The plain C version.
-pub fn plain(table: &Table, request: &Request, out: &mut [u32], answer: &mut PlainAnswer) -> u32 {
-    call!(plain_baseline, table, request, out, answer)
-}
-
-/// An answer, or a refusal's number and what it carries.
-pub type Outcome = Result<Answer, (u32, Vec<u64>)>;
-
-/// The reference's outcome of a call.
-pub fn expected(table: &Table, request: &Request, room: usize) -> Outcome {
-    reference::verdict(table.view(), request, room).map_err(|r| (r.number(), r.carries()))
-}
-
-/// The proved outcome of a call, or what is wrong with what it left in its buffers. `carried` is how many numbers the refusal has to carry.
-pub fn found(table: &Table, request: &Request, room: usize, carried: usize) -> Result<Outcome, String> {
+/// 0 or the refusal number, and an output of so many words after the call.
+pub fn proved(table: &Table, request: &Request, room: usize) -> (u32, Vec<u32>) {
+    let Request { p, d, s, e, n } = *request;
     let mut out = vec![UNTOUCHED; room];
-    let mut told = vec![i64::MIN; TOLD + 1];
-    let number = proved(table, request, &mut out, &mut told);
-    if told[TOLD] != i64::MIN {
-        return Err("more than nine numbers told".into());
-    }
-    let written = if number == 0 { (request.e - request.s) as usize } else { 0 };
-    if out[written..].iter().any(|&word| word != UNTOUCHED) {
-        return Err("the rest of the output is not kept".into());
-    }
-    if number != 0 {
-        if told[carried..TOLD].iter().any(|&t| t != 0) {
-            return Err(format!("told more than is carried: {told:?}"));
-        }
-        return Ok(Err((number, told[..carried].iter().map(|&t| t as u64).collect())));
-    }
-    let count = told[0] as usize;
-    if told[1 + count..6].iter().any(|&t| t != 0) {
-        return Err(format!("days past the chosen: {told:?}"));
-    }
-    Ok(Ok(Answer {
-        days: told[1..1 + count].iter().map(|&t| t as u32).collect(),
-        reach: told[6] as u32,
-        denominator: told[7] as u32,
-        adjustment: told[8],
-        numerators: out[..written].to_vec(),
-    }))
+    let number = call!(hp_baseline_table, table, p, d, s, e, n, out.as_mut_ptr(), room);
+    (number, out)
 }
 
-/// Compares one generated call; gives its number, 0 for an answer.
+/// What is told of the result by a name.
+pub fn proved_told(table: &Table, request: &Request, name: u32) -> i64 {
+    let Request { p, d, s, e, n } = *request;
+    call!(hp_told_table, table, p, d, s, e, n, name)
+}
+
+/// The place of a day's first reading, or nothing.
+pub fn proved_part(table: &Table, day: u32) -> i64 {
+    call!(hp_day_part, table, day)
+}
+
+/// The plain C version: its number and output, and what it tells.
+pub fn plain(table: &Table, request: &Request, room: usize) -> ((u32, Vec<u32>), Told) {
+    let Request { p, d, s, e, n } = *request;
+    let mut out = vec![UNTOUCHED; room];
+    let mut answer = PlainAnswer::default();
+    let number = call!(plain_baseline, table, p, d, s, e, n, out.as_mut_ptr(), room, &mut answer);
+    ((number, out), Told::of_plain(number, &answer))
+}
+
+/// A buffer of so many values that begins with these, where all of them fit, and is filled with another.
+pub fn begins<T: Copy>(values: &[T], fill: T, room: usize) -> Vec<T> {
+    let mut buffer = vec![fill; room];
+    if values.len() <= room {
+        buffer[..values.len()].copy_from_slice(values);
+    }
+    buffer
+}
+
+/// The number and the output that a result calls for.
+pub fn expected_output(result: &Result<Answer, Refusal>, room: usize) -> (u32, Vec<u32>) {
+    match result {
+        Ok(answer) => (0, begins(&answer.numerators, UNTOUCHED, room)),
+        Err(refusal) => (refusal.number(), begins(&[], UNTOUCHED, room)),
+    }
+}
+
+/// The days whose part is asked for: about the table's ends, the event's and one by the seed.
+fn some_days(table: &Table, request: &Request, seed: u64) -> [u32; 4] {
+    let end = table.first.wrapping_add(table.marks.len() as u32);
+    let within = seed % (table.marks.len() as u64 + 2);
+    [request.d, table.first.wrapping_add(within as u32).wrapping_sub(1), end.wrapping_sub(1), end]
+}
+
+fn expected_part(table: &Table, day: u32) -> i64 {
+    reference::day_part(table.view(), day).map_or(NOTHING, |part| part.start as i64)
+}
+
+/// Compares one generated call, what is told of it and the part of a day; gives its number, 0 for an answer.
 pub fn compare(seed: u64) -> Result<u32, String> {
     let (table, request, room) = reference::gen_call(seed);
-    let expected = expected(&table, &request, room);
-    let carried = expected.as_ref().err().map_or(0, |(_, carries)| carries.len());
-    let found = found(&table, &request, room, carried).map_err(|e| format!("seed {seed}: {request:?}: {e}"))?;
-    if found == expected {
-        Ok(expected.map_or_else(|(number, _)| number, |_| 0))
-    } else {
-        Err(format!("seed {seed}: {request:?}: expected {expected:?}, found {found:?}"))
+    compare_call(&table, &request, room, seed).map_err(|difference| format!("seed {seed}: {request:?}: {difference}"))
+}
+
+fn compare_call(table: &Table, request: &Request, room: usize, seed: u64) -> Result<u32, String> {
+    let mut result = verdict(table.view(), request, room);
+    let (number, output) = expected_output(&result, room);
+    same("hp_baseline_table", &proved(table, request, room), &(number, output))?;
+    if result == Err(Refusal::Room) {
+        result = verdict(table.view(), request, QUARTERS);
     }
+    Told::of(&result).check("hp_told_table", &some_names(seed), |name| proved_told(table, request, name))?;
+    if seed % 16 == 0 {
+        for day in some_days(table, request, seed / 16) {
+            same(&format!("hp_day_part of {day}"), &proved_part(table, day), &expected_part(table, day))?;
+        }
+    }
+    Ok(number)
+}
+
+pub(crate) fn same<T: PartialEq + std::fmt::Debug>(what: &str, found: &T, expected: &T) -> Result<(), String> {
+    if found == expected {
+        return Ok(());
+    }
+    Err(format!("{what}: expected {expected:?}, found {found:?}"))
 }

@@ -1,7 +1,8 @@
 //! The proved call and the reference agree: every number, and every word of the output.
 
-use compare::{compare, expected, plain, proved, PlainAnswer, TOLD, UNTOUCHED};
-use reference::{gen_call, Answer, Request, Table};
+use compare::told::{some_names, Told, NAMES};
+use compare::{compare, expected_output, plain};
+use reference::{gen_call, verdict};
 
 /// As many calls as are compared at each run; `cargo run --release --bin search` goes on.
 const CALLS: u64 = 300_000;
@@ -19,13 +20,14 @@ fn generated_calls_agree() {
     assert!(outcomes.iter().all(|&n| n > 1000), "each outcome occurs: {outcomes:?}");
 }
 
+/// Each name, and one that there is not, is asked for at thousands of calls.
 #[test]
-fn too_little_room_to_tell_changes_nothing() {
-    let table = Table { first: 0, marks: vec![], readings: vec![] };
-    let request = Request { p: 0, d: 0, s: 96, e: 97, n: 0 };
-    let mut told = [7i64; TOLD - 1];
-    assert_eq!(proved(&table, &request, &mut [], &mut told), 1);
-    assert_eq!(told, [7i64; TOLD - 1]);
+fn every_name_is_asked() {
+    let mut asked = [0u64; NAMES + 1];
+    for name in (0..CALLS).flat_map(some_names).filter(|&name| name as usize <= NAMES) {
+        asked[name as usize] += 1;
+    }
+    assert!(asked.iter().all(|&n| n > 10_000), "{asked:?}");
 }
 
 /// The measure for speed works out the same.
@@ -33,23 +35,8 @@ fn too_little_room_to_tell_changes_nothing() {
 fn plain_c_agrees() {
     for seed in 0..CALLS / 3 {
         let (table, request, room) = gen_call(seed);
-        let expected = expected(&table, &request, room);
-        let mut out = vec![UNTOUCHED; room];
-        let mut answer = PlainAnswer::default();
-        let number = plain(&table, &request, &mut out, &mut answer);
-        let found = if number == 0 {
-            Ok(Answer {
-                days: answer.days[..answer.count as usize].to_vec(),
-                reach: answer.reach,
-                denominator: answer.denominator,
-                adjustment: answer.adjustment,
-                numerators: out[..(request.e - request.s) as usize].to_vec(),
-            })
-        } else {
-            Err((number, answer.carried[..answer.carries as usize].to_vec()))
-        };
-        assert_eq!(found, expected, "seed {seed}: {request:?}");
-        let written = expected.map_or(0, |a| a.numerators.len());
-        assert!(out[written..].iter().all(|&word| word == UNTOUCHED), "seed {seed}: the rest is kept");
+        let result = verdict(table.view(), &request, room);
+        let expected = (expected_output(&result, room), Told::of(&result));
+        assert_eq!(plain(&table, &request, room), expected, "seed {seed}: {request:?}");
     }
 }

@@ -1,10 +1,11 @@
 //! The listing program prints what the reference lists: generated files, a small stack, slow pipes, and more input than any file has.
 
+use compare::program::{prints, program, root, run};
 use compare::shrink::keep;
+use reference::generate::records::event_record;
 use reference::{gen_file, gen_small_file, listing};
 use std::fs::File;
 use std::io::Write;
-use std::path::PathBuf;
 use std::process::{Command, Output, Stdio};
 use std::thread::{scope, sleep};
 use std::time::Duration;
@@ -14,28 +15,9 @@ const LARGE: u64 = 4;
 /// How many run at a time.
 const LANES: u64 = 2;
 
-fn root(path: &str) -> PathBuf {
-    PathBuf::from(concat!(env!("CARGO_MANIFEST_DIR"), "/../..")).join(path)
-}
-
-fn program() -> Command {
-    let mut command = Command::new(root("tests/x86"));
-    command.arg("run").arg(root("build/bin/honeyplank-list"));
-    command
-}
-
-/// What the program says of a file on its standard input.
-fn run(command: &mut Command, file: &[u8]) -> Output {
-    let path = std::env::temp_dir().join(format!("listing-{}-{:?}", std::process::id(), std::thread::current().id()));
-    std::fs::write(&path, file).unwrap();
-    let output = command.stdin(File::open(&path).unwrap()).output().unwrap();
-    std::fs::remove_file(&path).unwrap();
-    output
-}
-
 /// It prints the listing and says nothing else.
 fn agrees(output: &Output, file: &[u8]) -> bool {
-    output.status.success() && output.stderr.is_empty() && output.stdout == listing(file)
+    prints(output, &listing(file))
 }
 
 fn check(name: &str, file: &[u8]) {
@@ -67,13 +49,17 @@ fn generated_files_are_listed() {
     assert!(lines > 10_000);
 }
 
-/// A file of 128 days and 64 events: 50,440 bytes.
+/// A file of 128 days and 64 events, 50,440 bytes, with 96 lines for each event: every one is over the whole of the last day.
 fn largest() -> Vec<u8> {
     const DAYS: usize = 8 + 128 * 390;
-    let held = |file: &Vec<u8>| file.len() > DAYS && !listing(file).starts_with(b"file");
-    let file = (0..).map(gen_file).find(held).unwrap();
-    let largest = [&file[..DAYS], &file[DAYS..DAYS + 8].repeat(64)].concat();
-    assert!(held(&largest) && largest.len() == 50_440);
+    let whole_days = |file: Vec<u8>| {
+        let last = file.get(DAYS - 388..DAYS - 386)?;
+        let event = event_record(u16::from_le_bytes([last[0], last[1]]), 96, 192, 96);
+        Some([&file[..DAYS], &event.repeat(64)].concat())
+    };
+    let lines = |file: &Vec<u8>| listing(file).iter().filter(|&&byte| byte == b'\n').count();
+    let largest = (0..).map(gen_file).filter_map(whole_days).find(|file| lines(file) == 1 + 64 * 97).unwrap();
+    assert_eq!(largest.len(), 50_440);
     largest
 }
 
@@ -82,8 +68,8 @@ fn a_small_stack_is_enough() {
     let file = largest();
     let mut command = Command::new("bash");
     let (runner, list) = (root("tests/x86"), root("build/bin/honeyplank-list"));
-    command.args(["-c", "ulimit -s 256 && exec \"$0\" run \"$1\""]).arg(runner).arg(list);
-    command.env("QEMU_STACK_SIZE", "262144");
+    command.args(["-c", "ulimit -s 1024 && exec \"$0\" run \"$1\""]).arg(runner).arg(list);
+    command.env("QEMU_STACK_SIZE", "1048576");
     let output = run(&mut command, &file);
     assert!(agrees(&output, &file), "{output:?}");
 }

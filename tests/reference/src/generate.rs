@@ -3,6 +3,7 @@
 
 mod calls;
 mod files;
+pub mod records;
 mod source;
 
 pub use calls::gen_call;

@@ -2,7 +2,7 @@
 
 mod common;
 
-use common::{day, flat, request, set_day, set_mark, set_reading};
+use common::{august, day, flat, request, set_day, set_mark, set_reading, TABLE_5};
 use reference::baseline::{adjustment_window, baseline_numerator, chosen_sum};
 use reference::calendar::{dates, day_number, easter, group_of, holidays, Date, Group, LAST_DAY};
 use reference::choice::{choose, reach, window};
@@ -98,17 +98,6 @@ fn groups_of_days() {
     assert_eq!(group_of(LAST_DAY + 1), None);
 }
 
-fn august(first: u32) -> Table {
-    let mut table = flat(first, AUGUST_28, 1000);
-    for date in [7, 23] {
-        let marked = day(2024, 8, date);
-        if marked >= first {
-            set_mark(&mut table, marked, 1);
-        }
-    }
-    table
-}
-
 #[test]
 fn window_of_28_august() {
     let table = august(day(2024, 7, 1));
@@ -141,20 +130,7 @@ fn window_of_saturday_2_february() {
     assert_eq!(window(table.view(), &request), expected);
 }
 
-/// 003, Table 5 in kW, on the ten days of 28 August's window.
-const TABLE_5: [[u32; 4]; 10] = [
-    [6300, 7700, 6200, 7300],
-    [6200, 7300, 7500, 6100],
-    [7800, 7100, 6000, 4500],
-    [4900, 6900, 6600, 5800],
-    [4900, 6700, 5000, 7000],
-    [5800, 7800, 5000, 4200],
-    [5300, 7300, 6600, 4500],
-    [5000, 4400, 6300, 6700],
-    [6500, 4100, 4300, 5300],
-    [4300, 6500, 5900, 4800],
-];
-
+/// 003, Table 5, on the ten days of 28 August's window.
 fn table_5() -> (Table, Vec<u32>) {
     let mut table = august(day(2024, 7, 1));
     let request = request(8700, AUGUST_28, 152, 156, 148);

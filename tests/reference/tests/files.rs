@@ -2,57 +2,17 @@
 
 mod common;
 
-use common::{flat, set_day, set_mark, set_reading};
+use common::{flat, set_day, set_mark, set_reading, worked_file, worked_table, WORKED};
+use reference::generate::records::{
+    day_record as dy, day_records, event_record as ev, head_record as pf,
+};
 use reference::listing::rounded;
 use reference::record::read;
 use reference::table::MISSING;
 use reference::{gen_cuts, host, listing, Refusal, Table};
 
-const WORKED: &str = "\
-portfolio 77 from 6900 held 6951 22
-6972 152 156 days 2 6951 6965 reach 21 over 24 adj 264
-152 30348 1265
-153 30264 1261
-154 30264 1261
-155 30264 1261
-6966 152 156 refused 8 42
-";
-
-fn pf(p: u16, portfolio: u32) -> Vec<u8> {
-    [&b"PF"[..], &p.to_le_bytes(), &portfolio.to_le_bytes()].concat()
-}
-
-fn dy(day: u16, mark: u8, readings: &[u32]) -> Vec<u8> {
-    let mut record = [&b"DY"[..], &day.to_le_bytes(), &[mark, 0]].concat();
-    record.extend(readings.iter().flat_map(|reading| reading.to_le_bytes()));
-    record
-}
-
-fn ev(d: u16, s: u8, e: u8, n: u8) -> Vec<u8> {
-    [&b"EV"[..], &d.to_le_bytes(), &[s, e, n, 0]].concat()
-}
-
 fn days(table: &Table) -> Vec<u8> {
-    let parts = table.readings.chunks(96).zip(&table.marks);
-    (table.first as u16..)
-        .zip(parts)
-        .flat_map(|(day, (readings, &mark))| dy(day, mark, readings))
-        .collect()
-}
-
-fn worked_table() -> Table {
-    let mut table = flat(6951, 6972, 1000);
-    set_day(&mut table, 6951, 1300);
-    set_reading(&mut table, 6951, 56, 1307);
-    set_day(&mut table, 6958, 1100);
-    set_day(&mut table, 6965, 1200);
-    set_day(&mut table, 6972, 1261);
-    table
-}
-
-fn worked_file() -> Vec<u8> {
-    let events = [ev(6972, 152, 156, 148), ev(6966, 152, 156, 148)];
-    [pf(6900, 77), days(&worked_table()), events.concat()].concat()
+    day_records(table).concat()
 }
 
 fn listed(file: &[u8]) -> String {

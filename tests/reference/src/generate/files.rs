@@ -1,12 +1,10 @@
 //! Generated record files, valid, at their edges, cut and damaged.
 
 use super::calls::{small, well_shaped, Draft};
+use super::records::{day_record, day_records, event_record, head_record, Record};
 use super::source::Source;
 use crate::calendar::LAST_DAY;
-use crate::table::{Request, HIGHEST, MISSING, QUARTERS};
-
-/// One record: its bytes, mark included.
-type Record = Vec<u8>;
+use crate::table::{Request, HIGHEST, MISSING};
 
 /// The file of a seed.
 pub fn gen_file(seed: u64) -> Vec<u8> {
@@ -84,28 +82,6 @@ impl Draw {
     }
 }
 
-fn head_record(p: u16, portfolio: u32) -> Record {
-    let mut record = b"PF".to_vec();
-    record.extend(p.to_le_bytes());
-    record.extend(portfolio.to_le_bytes());
-    record
-}
-
-fn day_record(day: u16, mark: u8, readings: &[u32]) -> Record {
-    let mut record = b"DY".to_vec();
-    record.extend(day.to_le_bytes());
-    record.extend([mark, 0]);
-    record.extend(readings.iter().flat_map(|reading| reading.to_le_bytes()));
-    record
-}
-
-fn event_record(d: u16, s: u8, e: u8, n: u8) -> Record {
-    let mut record = b"EV".to_vec();
-    record.extend(d.to_le_bytes());
-    record.extend([s, e, n, 0]);
-    record
-}
-
 fn set_day(record: &mut Record, day: u16) {
     record[2..4].copy_from_slice(&day.to_le_bytes());
 }
@@ -116,20 +92,9 @@ fn draft_file(source: &mut Source, draft: Draft) -> Draw {
     let portfolio = source.pick(&[0, 77, u32::MAX, portfolio]);
     Draw {
         head: head_record(draft.request.p as u16, portfolio),
-        days: draft_days(&draft),
+        days: day_records(&draft.table),
         events: draft_events(source, &draft),
     }
-}
-
-fn draft_days(draft: &Draft) -> Vec<Record> {
-    let days = draft
-        .table
-        .readings
-        .chunks(QUARTERS)
-        .zip(&draft.table.marks);
-    days.zip(draft.table.first..)
-        .map(|((readings, &mark), day)| day_record(day as u16, mark, readings))
-        .collect()
 }
 
 fn draft_events(source: &mut Source, draft: &Draft) -> Vec<Record> {

@@ -1,0 +1,93 @@
+/* What an entry that is asked by a name has to tell, name by name, and what a baseline has to be. */
+#ifndef TOLD_H
+#define TOLD_H
+
+#include "check.h"
+#include "honeyplank.h"
+
+enum { LAST_NAME = HP_EVENT_NOTICE };
+
+#define NONE HP_NOTHING
+
+struct told {
+    int64_t numbers[LAST_NAME + 1];
+};
+
+/* A baseline's result, with room for any event. */
+struct result {
+    struct told told;
+    size_t quarters; /* how many numerators there are: none where it is refused */
+    uint32_t numerators[96];
+};
+
+static inline struct told told_nothing(void)
+{
+    struct told told;
+    int name;
+    for (name = 0; name <= LAST_NAME; name++)
+        told.numbers[name] = HP_NOTHING;
+    return told;
+}
+
+static inline struct told told_refusal(uint32_t number, int64_t first, int64_t second)
+{
+    struct told told = told_nothing();
+    told.numbers[HP_RESULT] = number;
+    told.numbers[HP_CARRIED] = first;
+    told.numbers[HP_CARRIED_SECOND] = second;
+    return told;
+}
+
+static inline struct result refused(uint32_t number, int64_t first, int64_t second)
+{
+    struct result result = {0};
+    result.told = told_refusal(number, first, second);
+    return result;
+}
+
+/* Answered with these days, and the same numerator at every quarter. */
+static inline struct result answered(const uint32_t *days, uint32_t count, int64_t reach, int64_t adjustment, size_t quarters, uint32_t numerator)
+{
+    struct result result = {0};
+    size_t i;
+    result.told = told_refusal(HP_ANSWERED, NONE, NONE);
+    result.told.numbers[HP_COUNT] = count;
+    for (i = 0; i < count; i++)
+        result.told.numbers[HP_DAY_1 + i] = days[i];
+    result.told.numbers[HP_REACH] = reach;
+    result.told.numbers[HP_DENOMINATOR] = 12 * count;
+    result.told.numbers[HP_ADJUSTMENT] = adjustment;
+    result.quarters = quarters;
+    for (i = 0; i < quarters; i++)
+        result.numerators[i] = numerator;
+    return result;
+}
+
+/* The answer of document 01's worked case: the Saturdays 6951 and 6965, and 7 kW more at the first quarter. */
+static inline struct result worked_answer(void)
+{
+    static const uint32_t days[] = {6951, 6965};
+    struct result result = answered(days, 2, 21, 264, 4, 30264);
+    result.numerators[0] = 30348;
+    return result;
+}
+
+/* The names that are asked for: 0 to 40, and some that a narrower number would take for one of them. */
+enum { NAMES = 46 };
+
+static inline uint32_t name_at(int i)
+{
+    static const uint32_t far[] = {256, 65536, 65539, 2147483648u, UINT32_MAX};
+    return i <= 40 ? (uint32_t)i : far[i - 41];
+}
+
+/* Whether `found` is what is told by this name; says so where it is not. */
+static inline int tells(const struct told *told, uint32_t name, int64_t found)
+{
+    int64_t due = name <= LAST_NAME ? told->numbers[name] : HP_NOTHING;
+    if (found != due)
+        printf("name %u: %lld is due, %lld is told\n", name, (long long)due, (long long)found);
+    return found == due;
+}
+
+#endif
