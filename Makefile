@@ -36,20 +36,24 @@ demo: $(program) ## build what is needed and list samples/worked.rec
 	@tests/x86 run $(program) < samples/worked.rec
 
 check: ## prove every crate that changed, and run the programs
-	$(call need,rt)rt check
+	$(call need,rt)
+	rt check
 
 test: ## the gate: everything from nothing; the last line is 'N passed, 0 failed'
-	@$(call need,rt gcc cargo python3)tests/gate
+	$(call need,rt gcc cargo python3)
+	@tests/gate
 
 part: ## prove some crates and what they are built on, and try their must-fail edits (CRATES='method vectors')
-	$(call need,rt)rt must-fail $(CRATES)
+	$(call need,rt)
+	rt must-fail $(CRATES)
 
 examples: $(library) ## build the example programs, under build/examples/
 	@mkdir -p build/examples
 	tests/x86 cc -std=c99 -O2 -Wall -Wextra -Wpedantic -Ibuild/include examples/event_kw.c -Lbuild/lib -lhoneyplank -o build/examples/event_kw
 
 samples: ## make the sample files again from their texts
-	$(call need,python3)samples/make
+	$(call need,python3)
+	samples/make
 
 install: all ## install under PREFIX (/usr/local), below DESTDIR if given
 	install -d $(DESTDIR)$(PREFIX)/lib/pkgconfig $(DESTDIR)$(PREFIX)/include $(DESTDIR)$(PREFIX)/bin
@@ -59,22 +63,27 @@ install: all ## install under PREFIX (/usr/local), below DESTDIR if given
 	install -m 755 $(program) $(DESTDIR)$(PREFIX)/bin/
 
 bench: all ## the entries' and the program's speed against plain C, in one run
-	$(call need,gcc)tests/bench/run
+	$(call need,gcc)
+	tests/bench/run
 
 fuzz: all ## fuzz the file entries against plain C for FUZZ_SECONDS (600)
 	tests/fuzz/run $(FUZZ_SECONDS)
 
 search: $(library) ## compare a million more generated calls with the reference (FIRST=seed to start elsewhere)
-	$(call need,gcc cargo)cd tests/compare && cargo run --release --offline --quiet --bin search -- $(FIRST)
+	$(call need,gcc cargo)
+	cd tests/compare && cargo run --release --offline --quiet --bin search -- $(FIRST)
 
 fmt: ## lay out every source and proof file
-	$(call need,rt)rt fmt
+	$(call need,rt)
+	rt fmt
 
 changed: ## change each answer in the table of checks by one, and see that each change is refused (minutes)
-	$(call need,rt python3)tests/changed
+	$(call need,rt python3)
+	tests/changed
 
 fresh: ## demo and the gate without its proofs on a plain Debian, made for it (minutes; needs root and the network)
-	$(call need,rt)tests/fresh
+	$(call need,rt)
+	tests/fresh
 
 clean: ## remove what was built
 	rm -rf target build
