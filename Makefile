@@ -4,7 +4,7 @@ SHELL := bash
 .DEFAULT_GOAL := all
 .DELETE_ON_ERROR:
 .NOTPARALLEL:
-.PHONY: all help demo check test part examples samples install bench fuzz search fmt changed clean
+.PHONY: all help demo check test part examples samples install bench fuzz search fmt changed fresh clean
 
 PREFIX ?= /usr/local
 FUZZ_SECONDS ?= 600
@@ -15,8 +15,15 @@ version := $(shell sed -n 's/^\#define HP_VERSION "\(.*\)"/\1/p' include/honeypl
 library := build/lib/libhoneyplank.a build/include/honeyplank.h build/lib/pkgconfig/honeyplank.pc
 program := build/bin/honeyplank-list
 
+# $(call need,COMMAND..): stops where one of them is missing, and says what to get
+rt_is := the Rattle toolchain: put the folder of its command rt on PATH
+gcc_is := Debian's packages gcc and libc6-dev
+cargo_is := Rust 1.78 or newer: Debian's package cargo (on bookworm cargo-web), or rustup
+python3_is := Debian's package python3
+need = $(foreach c,$(1),$(if $(shell command -v $(c)),,$(error There is no $(c) here. Get $($(c)_is))))
+
 # $(call prove,RT'S WORDS): runs rt, with a line for each crate; where it fails, its last lines
-prove = @mkdir -p build && rt $(1) 2>&1 | tee build/rt.log | \
+prove = $(call need,rt)@mkdir -p build && rt $(1) 2>&1 | tee build/rt.log | \
 	sed -u -n -e '/unchanged/d' -e 's/^rt: \([a-z_]* proved.*\)/\1/p' -e 's/^rt: .*lib\([a-z]*\)\.a has .*/\1 proved/p' || { tail -n 40 build/rt.log; exit 1; }
 
 all: $(library) $(program) ## prove and build the archive, its header, a pkg-config file and the program, under build/
@@ -29,12 +36,15 @@ demo: $(program) ## build what is needed and list samples/worked.rec
 	@tests/x86 run $(program) < samples/worked.rec
 
 check: ## prove every crate that changed, and run the programs
+	$(call need,rt)
 	rt check
 
 test: ## the gate: everything from nothing; the last line is 'N passed, 0 failed'
+	$(call need,rt gcc cargo python3)
 	@tests/gate
 
 part: ## prove some crates and what they are built on, and try their must-fail edits (CRATES='method vectors')
+	$(call need,rt)
 	rt must-fail $(CRATES)
 
 examples: $(library) ## build the example programs, under build/examples/
@@ -42,6 +52,7 @@ examples: $(library) ## build the example programs, under build/examples/
 	tests/x86 cc -std=c99 -O2 -Wall -Wextra -Wpedantic -Ibuild/include examples/event_kw.c -Lbuild/lib -lhoneyplank -o build/examples/event_kw
 
 samples: ## make the sample files again from their texts
+	$(call need,python3)
 	samples/make
 
 install: all ## install under PREFIX (/usr/local), below DESTDIR if given
@@ -52,19 +63,27 @@ install: all ## install under PREFIX (/usr/local), below DESTDIR if given
 	install -m 755 $(program) $(DESTDIR)$(PREFIX)/bin/
 
 bench: all ## the entries' and the program's speed against plain C, in one run
+	$(call need,gcc)
 	tests/bench/run
 
 fuzz: all ## fuzz the file entries against plain C for FUZZ_SECONDS (600)
 	tests/fuzz/run $(FUZZ_SECONDS)
 
 search: $(library) ## compare a million more generated calls with the reference (FIRST=seed to start elsewhere)
+	$(call need,gcc cargo)
 	cd tests/compare && cargo run --release --offline --quiet --bin search -- $(FIRST)
 
 fmt: ## lay out every source and proof file
+	$(call need,rt)
 	rt fmt
 
 changed: ## change each answer in the table of checks by one, and see that each change is refused (minutes)
+	$(call need,rt python3)
 	tests/changed
+
+fresh: ## demo and the gate without its proofs on a plain Debian, made for it (minutes; needs root and the network)
+	$(call need,rt)
+	tests/fresh
 
 clean: ## remove what was built
 	rm -rf target build
