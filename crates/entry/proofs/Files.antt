@@ -1,11 +1,11 @@
 -- One law for each way out of the entry.
-use Prim.Native.Nat.{ℕ, _+_, _*_, _/_, _≤_}
-use mathlib.Core.Path.{_≡_}
+use Prim.Native.Nat.{ℕ, _*_, _/_, _≤_}
+use mathlib.Core.Path.{_≡_, sym}
 use mathlib.Core.Bool.{false}
 use mathlib.Core.List.{List}
 use native.Mathlib.Omega.{arith}
-use borrow.Author.Tests.{le-leb}
-use lib.ListN.{length, take}
+use lib.ListN.{take}
+use Rattle.lists.proofs.Bools.{clash}
 use Rattle.calendar.specs.Holidays.{group}
 use Rattle.method.specs.declared.Request.{Request}
 use Rattle.method.specs.declared.Refusal.the-variants.{BadFile, NoEvent}
@@ -19,7 +19,7 @@ use Rattle.record.specs.Reader.{readFile, tableIn, tableWithin, eventAtPlace}
 use Rattle.record.proofs.Files.{shape-fits}
 use Rattle.record.proofs.Lengths.{table-within}
 use Rattle.loading.specs.Loading.{fitsWithin}
-use Rattle.loading.proofs.Loading.{fits-is}
+use Rattle.loading.proofs.Loading.{fits-own}
 use Rattle.loading.proofs.Buffers.{WithinBuffers}
 use Rattle.entry.specs.Entry.{fileReply, LaidDown, Fits}
 
@@ -50,17 +50,8 @@ module _ {file : List ℕ} {shape : Shape} (q : LaidDown file shape) where
   fits-any = fits-in 128 (shape-fits file shape (q .accepted) .days)
 
 pub never-full : {file : List ℕ} {shape : Shape} {marks readings : ℕ} → Fits file shape marks readings → {X : Type 0} → false ≡ fitsWithin shape file marks readings → X
-never-full {file} {shape} {marks} {readings} q {X} e =
-    let long : 8 + 390 * shape .days ≤ length file = omega (arith, shape-fits file shape (q .laid-down .accepted) .whole) in
-    let x =
-    rw (
-      fits-is,
-      le-leb (8 + 390 * shape .days) (length file) long,
-      le-leb (shape .days) marks (q .marks-room),
-      le-leb (96 * shape .days) readings (q .readings-room),
-    ) at e in
-    let no : _≡_ {A = ℕ} 0 1 = cc in
-    absurd (omega arith)
+never-full {file} {marks = marks} {readings = readings} q e =
+    absurd (clash (fits-own file (q .laid-down .accepted) marks readings (q .marks-room) (q .readings-room)) (sym e))
 
 pub its-table : {file : List ℕ} {shape : Shape} {marks readings : List ℕ} → LaidDown file shape → WithinBuffers shape file marks readings
     → tableOf (shape .first) (take (shape .days) marks) (take (96 * shape .days) readings) ≡ tableIn file
