@@ -17,7 +17,7 @@ use Rattle.method.specs.Method.{dated, chosen}
 use Rattle.method.specs.HighXofY.{highXofY, higher, N}
 use Rattle.method.proofs.Sort.{length-sorted}
 use Rattle.places.proofs.Places.{length-places}
-use Rattle.demands.specs.Calls.{Call, overTable, ofFile, extract, request, width, room}
+use Rattle.demands.specs.Calls.{Call, overTable, ofFile, extract, request, perQuarter, room}
 use Rattle.demands.specs.Rows.{windowOf, chosenOf, NOf, numeratorsOf, fileRows, tableRows, requestRows, dayRows, rows, applies}
 
 none-after : (xs ys : List (Bool × Refusal)) → any applies (xs ++ ys) ≡ false → any applies ys ≡ false
@@ -37,7 +37,7 @@ window-least t r e = ltb-false (length (windowOf t r)) (NOf r) (second-row _ _ _
 window-enough : (c : Call) (size : ℕ) → any applies (rows c size) ≡ false → NOf (request c) ≤ length (windowOf (extract c) (request c))
 unfolding rows
 window-enough c size e =
-    window-least t r (none-after (requestRows t r (width c) size) (dayRows t r) (none-after (tableRows t) _ (none-after (fileRows c) _ e)))
+    window-least t r (none-after (requestRows t r (perQuarter c) size) (dayRows t r) (none-after (tableRows t) _ (none-after (fileRows c) _ e)))
   where
     t : Table
     t = extract c
@@ -65,6 +65,6 @@ over-60-or-24 Saturday = refl
 over-60-or-24 HolidayGroup = refl
 
 -- room for the quarters as numerators is room for them as they stand
-pub quarters-fit : (c : Call) (out : List ℕ) → request c .e - request c .s ≤ room c out → width c * (request c .e - request c .s) ≤ length out
+pub quarters-fit : (c : Call) (out : List ℕ) → request c .e - request c .s ≤ room c out → perQuarter c * (request c .e - request c .s) ≤ length out
 quarters-fit (overTable t r) out e = omega arith
 quarters-fit (ofFile file place) out e = omega arith

@@ -22,7 +22,7 @@ use Rattle.answer.specs.declared.Answer.{Answer}
 use Rattle.answer.specs.Answer.{answerOf}
 use Rattle.bytewise.specs.Bytewise.{bytesWritten}
 use Rattle.bytewise.proofs.Laws.{below-four}
-use Rattle.demands.specs.Calls.{Call, overTable, ofFile, extract, request, width, stand, room, Gets, Gives, result, reported}
+use Rattle.demands.specs.Calls.{Call, overTable, ofFile, extract, request, perQuarter, stand, room, Gets, Gives, result, reported}
 use Rattle.demands.specs.Rows.{fileRows, tableRows, requestRows, dayRows, rows, answerOver}
 use Rattle.demands.proofs.Rows.{verdict-rows, file-rows}
 
@@ -121,11 +121,11 @@ gets-kept (overTable t r) a out after w g = g .output
 gets-kept (ofFile file place) a out after w g = g .output
 
 pub gets-output : (c : Call) (a : Answer) (out after : List ℕ) (n : Numbers) → Gets c (answered n) a out after
-    → after ≡ stand c (n .numerators) ++ drop (width c * length (n .numerators)) out
+    → after ≡ stand c (n .numerators) ++ drop (perQuarter c * length (n .numerators)) out
 unfolding written bytesWritten
 gets-output (overTable t r) a out after n g = rw one-mul (g .output)
 gets-output (ofFile file place) a out after n g = g .output
 
-pub stand-length : (c : Call) (ns : List ℕ) → length (stand c ns) ≡ width c * length ns
+pub stand-length : (c : Call) (ns : List ℕ) → length (stand c ns) ≡ perQuarter c * length ns
 stand-length (overTable t r) ns = sym (one-mul (length ns))
 stand-length (ofFile file place) ns = reading-length ns

@@ -32,9 +32,9 @@ request (overTable t r) = r
 request (ofFile file place) = requestAt file place
 
 -- how many places of the output a numerator takes, how numerators stand there, and for how many there is room
-abbrev pub width : Call → ℕ
-width (overTable t r) = 1
-width (ofFile file place) = 4
+abbrev pub perQuarter : Call → ℕ
+perQuarter (overTable t r) = 1
+perQuarter (ofFile file place) = 4
 
 abbrev pub stand : Call → List ℕ → List ℕ
 stand (overTable t r) numerators = numerators

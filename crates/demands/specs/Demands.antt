@@ -21,7 +21,7 @@ use Rattle.method.specs.Demands.{LongerFormed, heldBefore, cutTo, Undecided, Pa
 use Rattle.choose.specs.Choice.{inFive}
 use Rattle.answer.specs.declared.Given.the-variants.{Answered, Refused}
 use Rattle.answer.specs.declared.Answer.{Answer}
-use Rattle.demands.specs.Calls.{Call, extract, request, width, stand, room, Gets, Gives, result, reported}
+use Rattle.demands.specs.Calls.{Call, extract, request, perQuarter, stand, room, Gets, Gives, result, reported}
 use Rattle.demands.specs.Rows.{tableRows, rows, applies, FirstIn, answerOver, numeratorsOf, chosenOf, reachOf, AOf, BOf, NOf}
 
 -- a number is one of these
@@ -30,7 +30,7 @@ OneOf n list = member n list ≡ true
 
 -- the places of the output that the event's quarters take
 abbrev pub quarters : Call → ℕ
-quarters c = width c * (request c .e - request c .s)
+quarters c = perQuarter c * (request c .e - request c .s)
 
 -- the result is an answer, "too few days" or "no adjustment window"
 abbrev pub Settled : Answer → Type 0

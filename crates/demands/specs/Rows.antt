@@ -18,7 +18,7 @@ use Rattle.method.specs.Adjustment.{ruler, adjustmentEnd, places, S, A, B, adju
 use Rattle.method.specs.HighXofY.{highXofY, Y, N}
 use Rattle.method.specs.Verdict.{Answer}
 use Rattle.record.specs.Reader.{isPF, goodEnd, eventsIn}
-use Rattle.demands.specs.Calls.{Call, overTable, ofFile, extract, request, width}
+use Rattle.demands.specs.Calls.{Call, overTable, ofFile, extract, request, perQuarter}
 
 -- the methodology of an extract and a request: window, chosen days and reach; the ruler, where the adjustment window ends, A and B
 module _ (t : Table) (r : Request) where
@@ -117,7 +117,7 @@ dayRows t r =
 -- 11, 12, 1 to 10
 unfoldable pub rows : Call → ℕ → List (Bool × Refusal)
 rows c size =
-    fileRows c ++ (tableRows (extract c) ++ (requestRows (extract c) (request c) (width c) size ++ dayRows (extract c) (request c)))
+    fileRows c ++ (tableRows (extract c) ++ (requestRows (extract c) (request c) (perQuarter c) size ++ dayRows (extract c) (request c)))
 
 -- the test of a row
 abbrev pub applies : Bool × Refusal → Bool
