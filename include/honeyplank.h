@@ -10,14 +10,20 @@
  *    larger buffer.
  *
  * What a caller may count on:
- *  - A refusal changes no buffer; an answer writes only the quarters of the event. (hp_listing, which works out no baseline of its own, writes
- *    only the text, and nothing where it does not fit.)
+ *  - A refusal changes no buffer; an answer writes only the quarters of the event: every entry that gives a baseline is lent `out` alone. (A
+ *    listing is no baseline but a text: hp_listing writes only that, and nothing where it does not fit.)
  *  - No state, no heap, no files, no locks: any threads may call at once. It always returns.
  *  - HP_STACK bytes of stack are enough for any entry but hp_listing, for which HP_STACK_LISTING are.
  *
  * Days are numbers: 0 is 1 January 2000, 36524 is 31 December 2099. A dispatch day has 96 quarters; quarter 0 begins at 01:00 Eastern
  * European Time. Places s, e and n stand on a ruler of two days: 0 to 95 is the day before the event, 96 to 191 the event day. The event
- * covers s up to but not e, and notice came at the start of quarter n.
+ * covers s up to but not e, and notice came at the start of quarter n. P is the first day of participation, D the event day, F the first day
+ * held. The reach is how many days before the event were needed.
+ *
+ * A record file holds these records in this order and nothing else; numbers have the low byte first:
+ *   one PF       8 bytes: the letters PF, P (2 bytes), the portfolio's number (4)
+ *   up to 128 DY 390 bytes each, consecutive days: the letters DY, the day (2), its mark (1), a zero byte, 96 readings (4 each)
+ *   up to 64 EV  8 bytes each: the letters EV, D (2), s, e, n (1 each), a zero byte
  *
  * The archive is for x86-64 Linux:   cc event.c $(pkg-config --cflags --libs honeyplank)
  */
@@ -32,8 +38,8 @@
 #define HP_VERSION_PATCH 0
 #define HP_VERSION "0.2.0"
 
-/* Stack, in bytes, that is enough for any entry but hp_listing. The entries over a file hold its marks and readings there (up to 49,280
- * bytes). hp_listing, where it is lent less than HP_MOST_LISTING bytes, first writes the whole text there. */
+/* Stack, in bytes, that is enough for any entry but hp_listing: the entries over a file hold its marks and readings there (up to 49,280
+ * bytes). hp_listing, whatever out_len is, has room there for any listing too. */
 #define HP_STACK 65536
 #define HP_STACK_LISTING 327680
 
@@ -93,6 +99,9 @@
 
 /* No listing has more bytes: so many of `out` are enough for any. */
 #define HP_MOST_LISTING 213194
+
+/* No record file has more bytes. One byte more is enough to read of any input: a longer one is refused all the same. */
+#define HP_MOST_FILE 50440
 
 #ifdef __cplusplus
 extern "C" {

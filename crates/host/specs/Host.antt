@@ -1,18 +1,16 @@
 -- What the C entries that are lent an output give back, and leave in it.
 use Prim.Native.Nat.{ℕ}
 use mathlib.Core.Path.{_≡_}
-use mathlib.Core.Bool.{cond}
 use mathlib.Core.List.{List}
 use lib.ListN.{length}
 use lib.IntN.{ℤ}
-use lib.Dec.{leb}
 use Rattle.filling.specs.Told.{toldFirst}
 use Rattle.method.specs.declared.Request.{Request}
 use Rattle.method.specs.Verdict.{Reply, written}
 use Rattle.answer.specs.Answer.{answerOf}
 use Rattle.bytewise.specs.Bytewise.{bytesWritten}
 use Rattle.lines.specs.Listing.{listing}
-use Rattle.listing.specs.declared.Listed.the-variants.{Length, NoRoom}
+use Rattle.listing.specs.Lists.{listedIn}
 use Rattle.telling.specs.Telling.{numberOf}
 use Rattle.showing.specs.Showing.{listedTold}
 
@@ -31,5 +29,5 @@ pub record TableCall (reply : Reply) (r : ℕ) (out out′ : List ℕ) : Type 0 
 
 -- the listing of a file: it stands first in the output where it fits, and the rest is kept; where it does not fit nothing changes
 pub record ListingCall (file : List ℕ) (r : ℤ) (out out′ : List ℕ) : Type 0 where
-  pub result : r ≡ listedTold (cond (leb (length (listing file)) (length out)) (Length (length (listing file))) NoRoom)
+  pub result : r ≡ listedTold (listedIn file (length out))
   pub output : out′ ≡ toldFirst (listing file) out

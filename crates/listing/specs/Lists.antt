@@ -16,7 +16,11 @@ use Rattle.listing.specs.declared.Listed.the-variants.{Length, NoRoom}
 abbrev pub mostListing : ℕ
 mostListing = openingRoom + 64 * linesRoom
 
+-- of a buffer of so many bytes: the listing's length where it fits
+abbrev pub listedIn : List ℕ → ℕ → Listed
+listedIn file size = cond (leb (length (listing file)) size) (Length (length (listing file))) NoRoom
+
 -- the listing stands first in the buffer where it fits, and the rest is kept; where it does not fit nothing changes
 pub record Lists (file out : List ℕ) (r : Listed) (out′ : List ℕ) : Type 0 where
-  pub result : r ≡ cond (leb (length (listing file)) (length out)) (Length (length (listing file))) NoRoom
+  pub result : r ≡ listedIn file (length out)
   pub output : out′ ≡ toldFirst (listing file) out
