@@ -87,8 +87,6 @@ static void worked_case(void)
     FILE_HOLDS(6900, 77, 6951, 22, 2);
     EVENT_IS(0, 6972, 152, 156, 148);
     EVENT_IS(1, 6966, 152, 156, 148);
-    EVENT_REFUSED(2, HP_NO_EVENT, NONE);
-    EVENT_REFUSED(SIZE_MAX, HP_NO_EVENT, NONE);
     ANSWERED(0, 16, worked_answer());
     ANSWERED(0, 17, worked_answer());
     ANSWERED(0, HP_MOST_BYTES, worked_answer());
@@ -96,6 +94,19 @@ static void worked_case(void)
     memmove(file.bytes + 1, file.bytes, file.length); /* a file at an odd address */
     CHECK(hp_baseline(file.bytes + 1, file.length, 0, out, 16) == HP_ANSWERED && word_at(out) == 30348);
     CHECK(hp_told(file.bytes + 1, file.length, 0, HP_ADJUSTMENT) == 264);
+}
+
+/* Places where the worked file has no event; the last two are 0 and 1 to a narrower number. */
+static void far_places(void)
+{
+    static const size_t far[] = {2, SIZE_MAX, (size_t)1 << 32, ((size_t)1 << 32) + 1};
+    size_t i;
+    put_worked(&file);
+    for (i = 0; i < sizeof far / sizeof far[0]; i++) {
+        REFUSED(far[i], 16, HP_NO_EVENT, NONE, NONE);
+        REFUSED(far[i], 0, HP_NO_EVENT, NONE, NONE);
+        EVENT_REFUSED(far[i], HP_NO_EVENT, NONE);
+    }
 }
 
 /* Numbers at their ends, as they stand in a file. */
@@ -219,11 +230,8 @@ static void refused_choices(void)
 /* 11 and 12: the file. */
 static void refused_files(void)
 {
-    uint8_t whole[2048];
-    size_t length, size, record = 0;
+    int i;
     put_worked(&file);
-    REFUSED(2, 16, HP_NO_EVENT, NONE, NONE);
-    REFUSED(SIZE_MAX, 0, HP_NO_EVENT, NONE, NONE);
     file.length--;
     REFUSED(0, 16, HP_BAD_FILE, 8596, NONE);
     REFUSED(9, 16, HP_BAD_FILE, 8596, NONE);
@@ -234,15 +242,21 @@ static void refused_files(void)
     FILE_REFUSED(0);
     EVENT_REFUSED(SIZE_MAX, HP_BAD_FILE, 0);
     put_head(&file, 0, 0);
-    for (length = 0; length < 65; length++)
+    for (i = 0; i < 65; i++)
         put_event(&file, 0, 96, 97, 0);
     REFUSED(0, 4, HP_BAD_FILE, 8 + 64 * EVENT_BYTES, NONE);
     file.length -= EVENT_BYTES;
     FILE_HOLDS(0, 0, 0, 0, 64);
     REFUSED(63, 4, HP_BAD_TABLE, NONE, NONE);
     REFUSED(64, 4, HP_NO_EVENT, NONE, NONE);
+}
 
-    put_head(&file, 6900, 77); /* cut at every length */
+/* A file cut at every length. */
+static void cut_files(void)
+{
+    uint8_t whole[2048];
+    size_t length, size, record = 0;
+    put_head(&file, 6900, 77);
     put_day(&file, 6951, 0, 7);
     put_day(&file, 6952, 0, 7);
     put_event(&file, 6952, 152, 156, 148);
@@ -307,9 +321,9 @@ static void most_days(void)
     REFUSED(0, 16, HP_BAD_FILE, 8 + 128 * DAY_BYTES, NONE);
 }
 
-/* A text, as long as any listing can be. */
+/* A text, with room for more than any listing. */
 struct text {
-    char bytes[HP_MOST_LISTING + 1];
+    char bytes[1 << 18];
     size_t length;
 };
 
@@ -432,7 +446,6 @@ static void sample_listings(void)
 
 static void listings(void)
 {
-    uint32_t i;
     file.length = 0;
     LISTED("file refused 0\n");
     put_head(&file, 65535, UINT32_MAX);
@@ -444,12 +457,45 @@ static void listings(void)
            "154 30264 1261\n155 30264 1261\n6966 152 156 refused 8 42\n");
     file.length--;
     LISTED("file refused 8596\n");
+}
 
-    put_head(&file, 0, UINT32_MAX); /* the longest: every event over a whole weekday, of the largest numbers */
-    for (i = 0; i < 128; i++)
-        put_day(&file, 36397 + i, 0, HP_HIGHEST - 1);
+/* The largest file, with the longest listing that we could make (HP_MOST_LISTING is what is proved of any): 64 events over the whole of Wednesday
+ * 30 December 2099. The adjustment window, the last twelve quarters of the day before, is at the highest; on every other day those quarters are 0
+ * and all others at the highest. So the adjustment is the highest, and so are the numerators but those of the twelve, whose mean is never above
+ * 600,000,000. */
+static void put_longest(void)
+{
+    uint32_t day, i;
+    put_head(&file, 36396, UINT32_MAX);
+    for (day = 36396; day <= 36523; day++)
+        put_day(&file, day, 0, HP_HIGHEST);
+    for (i = 0; i < 128 * QUARTERS; i++)
+        if (i % QUARTERS >= 84 && i / QUARTERS != 126)
+            set_reading(&file, i, 0);
     for (i = 0; i < 64; i++)
         put_event(&file, 36523, 96, 192, 96);
+}
+
+static void print_longest(struct text *text)
+{
+    int event, t;
+    text->length = 0;
+    PRINT("portfolio 4294967295 from 36396 held 36396 128\n");
+    for (event = 0; event < 64; event++) {
+        PRINT("36523 96 192 days 5 36521 36517 36516 36515 36514 reach 16 over 60 adj 600000000\n");
+        for (t = 96; t < 192; t++)
+            PRINT("%d %s\n", t, t < 180 ? "1200000000 20000000" : "600000000 10000000");
+    }
+}
+
+static void longest_listing(void)
+{
+    static struct text text;
+    put_longest();
+    print_longest(&text);
+    CHECK(file.length == HP_MOST_FILE && text.length == 151663);
+    CHECK(strcmp(text.bytes + text.length - 23, "191 600000000 10000000\n") == 0);
+    expect_listing(__LINE__, text.bytes, text.length);
     expect_listing_by_entries(__LINE__);
     put_event(&file, 36523, 96, 192, 96);
     LISTED("file refused 50440\n");
@@ -472,14 +518,17 @@ int main(void)
 {
     for (at_end = 0; at_end < 2; at_end++) {
         worked_case();
+        far_places();
         highest_numbers();
         refused_tables();
         refused_requests();
         refused_choices();
         refused_files();
+        cut_files();
         altered_files();
         most_days();
         listings();
+        longest_listing();
         sample_listings();
         nothing_lent();
     }

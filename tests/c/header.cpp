@@ -1,26 +1,68 @@
-// The header from C++: every constant is one, no two names are the same number, and the entries link.
+// The header from C++: every constant is this number, every entry has this type, and the entries link.
+#include <string_view>
+#include <type_traits>
+
 #include "honeyplank.h"
 
-static_assert(HP_NOTHING == INT64_MIN, "");
-static_assert(HP_MOST_BYTES == 4 * 96, "");
-static_assert(HP_STACK < HP_STACK_LISTING && HP_MOST_LISTING < HP_STACK_LISTING, "");
+// Every constant, in the header's order. The names' numbers are those of tests/compare/src/told.rs too.
+static_assert(HP_VERSION_MAJOR == 0 && HP_VERSION_MINOR == 2 && HP_VERSION_PATCH == 0 && std::string_view(HP_VERSION) == "0.2.0");
+static_assert(HP_STACK == 65536);
+static_assert(HP_STACK_LISTING == 327680);
+static_assert(HP_ANSWERED == 0);
+static_assert(HP_BAD_FILE == 11);
+static_assert(HP_NO_EVENT == 12);
+static_assert(HP_BAD_TABLE == 1);
+static_assert(HP_BAD_MARK == 2);
+static_assert(HP_BAD_READING == 3);
+static_assert(HP_BAD_REQUEST == 4);
+static_assert(HP_NOT_HELD == 5);
+static_assert(HP_NOT_YET_PARTICIPATING == 6);
+static_assert(HP_NO_ROOM == 7);
+static_assert(HP_MARGIN_TOO_SHORT == 8);
+static_assert(HP_TOO_FEW == 9);
+static_assert(HP_NO_ADJUSTMENT_WINDOW == 10);
+static_assert(HP_HIGHEST == 10000000);
+static_assert(HP_MISSING == 0xFFFFFFFF);
+static_assert(HP_MARK_EVENT == 1);
+static_assert(HP_MARK_OUTAGE == 2);
+static_assert(HP_NOTHING == -0x7FFFFFFFFFFFFFFF - 1);
+static_assert(HP_RESULT == 0);
+static_assert(HP_CARRIED == 1);
+static_assert(HP_CARRIED_SECOND == 2);
+static_assert(HP_COUNT == 3);
+static_assert(HP_DAY_1 == 4);
+static_assert(HP_DAY_2 == 5);
+static_assert(HP_DAY_3 == 6);
+static_assert(HP_DAY_4 == 7);
+static_assert(HP_DAY_5 == 8);
+static_assert(HP_REACH == 9);
+static_assert(HP_DENOMINATOR == 10);
+static_assert(HP_ADJUSTMENT == 11);
+static_assert(HP_FILE_PARTICIPATION == 12);
+static_assert(HP_FILE_PORTFOLIO == 13);
+static_assert(HP_FILE_FIRST == 14);
+static_assert(HP_FILE_DAYS == 15);
+static_assert(HP_FILE_EVENTS == 16);
+static_assert(HP_EVENT_DAY == 17);
+static_assert(HP_EVENT_START == 18);
+static_assert(HP_EVENT_END == 19);
+static_assert(HP_EVENT_NOTICE == 20);
+static_assert(HP_MOST_BYTES == 384);
+static_assert(HP_MOST_LISTING == 213194);
+static_assert(HP_MOST_FILE == 50440);
 
-// Does not compile where two names are the same number.
-static constexpr bool is_name(uint32_t name)
-{
-    switch (name) {
-    case HP_RESULT: case HP_CARRIED: case HP_CARRIED_SECOND:
-    case HP_COUNT: case HP_DAY_1: case HP_DAY_2: case HP_DAY_3: case HP_DAY_4: case HP_DAY_5:
-    case HP_REACH: case HP_DENOMINATOR: case HP_ADJUSTMENT:
-    case HP_FILE_PARTICIPATION: case HP_FILE_PORTFOLIO: case HP_FILE_FIRST: case HP_FILE_DAYS: case HP_FILE_EVENTS:
-    case HP_EVENT_DAY: case HP_EVENT_START: case HP_EVENT_END: case HP_EVENT_NOTICE:
-        return true;
-    default:
-        return false;
-    }
-}
-
-static_assert(is_name(HP_RESULT) && is_name(HP_EVENT_NOTICE) && !is_name(HP_EVENT_NOTICE + 1), "");
+// Every entry, in the header's order; with a narrower place or length a call from C would compile all the same.
+#define HAS_TYPE(entry, ...) static_assert(std::is_same<decltype(&entry), __VA_ARGS__>::value)
+HAS_TYPE(hp_baseline, uint32_t (*)(const uint8_t *, size_t, size_t, uint8_t *, size_t));
+HAS_TYPE(hp_told, int64_t (*)(const uint8_t *, size_t, size_t, uint32_t));
+HAS_TYPE(hp_baseline_table, uint32_t (*)(uint32_t, const uint8_t *, size_t, const uint32_t *, size_t, uint32_t, uint32_t, uint32_t, uint32_t,
+                                         uint32_t, uint32_t *, size_t));
+HAS_TYPE(hp_told_table, int64_t (*)(uint32_t, const uint8_t *, size_t, const uint32_t *, size_t, uint32_t, uint32_t, uint32_t, uint32_t, uint32_t,
+                                    uint32_t));
+HAS_TYPE(hp_day_part, int64_t (*)(uint32_t, const uint8_t *, size_t, const uint32_t *, size_t, uint32_t));
+HAS_TYPE(hp_file, int64_t (*)(const uint8_t *, size_t, uint32_t));
+HAS_TYPE(hp_event, int64_t (*)(const uint8_t *, size_t, size_t, uint32_t));
+HAS_TYPE(hp_listing, int64_t (*)(const uint8_t *, size_t, uint8_t *, size_t));
 
 int main()
 {

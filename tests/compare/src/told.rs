@@ -10,7 +10,7 @@ pub const NOTHING: i64 = i64::MIN;
 /// How many names there are, from 0 on.
 pub const NAMES: usize = 21;
 
-/// The first names of each kind; those of a kind follow one another.
+/// The first names of each kind; those of a kind follow one another. tests/c/header.cpp holds the header to the same numbers.
 const RESULT: usize = 0;
 const CARRIED: usize = 1;
 const COUNT: usize = 3;
