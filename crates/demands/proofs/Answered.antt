@@ -32,8 +32,7 @@ window-least t r e = ltb-false (length (windowOf t r)) (NOf r) (second-row _ _ _
 
 window-enough : (c : Call) (size : ℕ) → any applies (rows c size) ≡ false → NOf (request c) ≤ length (windowOf (extract c) (request c))
 unfolding rows
-window-enough c size e =
-    window-least (extract c) (request c) (none-after (earlier c size) (dayRows (extract c) (request c)) e)
+window-enough c size e = window-least (extract c) (request c) (none-after (earlier c size) (dayRows (extract c) (request c)) e)
 
 -- and N days are chosen
 count-chosen : (t : Table) (r : Request) → NOf r ≤ length (windowOf t r) → length (dated (chosenOf t r)) ≡ NOf r

@@ -115,16 +115,16 @@ module _ (t : Table) (r : Request) where
 
   any-room : (n : ℕ) → (numberIn (verdict group t r n) ≡ 7 → ⊥) → verdict group t r n ≡ firstOf (tableRefusals t) (firstOf asked last)
   unfolding verdict methodology requestRefusals asked last firstOf
-  any-room n other =
+  any-room n differs =
       same-after (tableRefusals t) (methodology group t r n) (firstOf asked last)
-      (same-after asked (cond (ltb n (r .e - r .s)) (refused NoRoom) last) last (but-seven (ltb n (r .e - r .s)) last)) other
+      (same-after asked (cond (ltb n (r .e - r .s)) (refused NoRoom) last) last (but-seven (ltb n (r .e - r .s)) last)) differs
 
   not-seven : numberIn (verdict group t r 96) ≡ 7 → ⊥
   not-seven e = room-enough r group t (seven (verdict group t r 96) e)
 
   -- and so with room for a day's quarters
-  pub room-for-any : (n : ℕ) → (numberIn (verdict group t r n) ≡ 7 → ⊥) → verdict group t r n ≡ verdict group t r 96
-  room-for-any n other = any-room n other ∙ sym (any-room 96 not-seven)
+  room-for-any : (n : ℕ) → (numberIn (verdict group t r n) ≡ 7 → ⊥) → verdict group t r n ≡ verdict group t r 96
+  room-for-any n differs = any-room n differs ∙ sym (any-room 96 not-seven)
 
 -- the reply of a call with room for any event
 module _ (c : Call) where
@@ -133,10 +133,10 @@ module _ (c : Call) where
 
   same-reply : (out : List ℕ) → (numberIn (replyOf c out) ≡ 7 → ⊥) → replyOf c out ≡ roomy
   unfolding roomy
-  same-reply out other =
+  same-reply out differs =
       over-extract c out ∙
       same-after (fileRows c) (verdict group (extract c) (request c) (room c out)) (verdict group (extract c) (request c) 96)
-      (room-for-any (extract c) (request c) (room c out)) (rw (over-extract c out) at other)
+      (room-for-any (extract c) (request c) (room c out)) (rw (over-extract c out) at differs)
 
   never : numberIn roomy ≡ 7 → ⊥
   unfolding roomy
@@ -147,9 +147,9 @@ module _ (c : Call) where
   tells : (name : ℕ) {told : ℤ} → told ≡ toldBy (answerOf roomy) name → Tells c name told
   tells name e =
       record {
-        same = λ a out after d other.
+        same = λ a out after d differs.
             let is = gets-answer c a out after (replyOf c out) (d .first .one) in
-            e ∙ ap (λ (x : Answer). toldBy x name) (sym (is ∙ ap answerOf (same-reply out (λ k. other (ap result is ∙ result-is (replyOf c out) ∙ k)))));
+            e ∙ ap (λ (x : Answer). toldBy x name) (sym (is ∙ ap answerOf (same-reply out (λ k. differs (ap result is ∙ result-is (replyOf c out) ∙ k)))));
         never-seven = λ z k. never (told-number roomy (sym (rw z at e) ∙ k));
       }
 

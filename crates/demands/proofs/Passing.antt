@@ -1,4 +1,4 @@
--- What is known of a call by the number of its result, which rows did not apply; and by those, what its extract and its request are.
+-- Which rows did not apply, by the number of a call's result; and what its extract and its request are where they did not.
 use Prim.Native.Nat.{ℕ}
 use mathlib.Core.Path.{_≡_, refl, _∙_}
 use mathlib.Core.Bool.{Bool, true, false, not, _||_}

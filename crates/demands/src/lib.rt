@@ -1,4 +1,5 @@
-// The three demands of the order as contracts of the calls themselves: each function does nothing but call one, and nobody needs to call these.
+// The three demands of the order as contracts: for each call that works out a baseline, a function that does nothing but call it. They stand here to
+// be read and proved; a caller needs none of them.
 ghost use Rattle.table.specs.Lent.{tableOf};
 ghost use Rattle.host.specs.Host.{requestOf};
 ghost use Rattle.demands.specs.Calls.{overTable, ofFile};
@@ -27,7 +28,7 @@ pub fn of_file(file: &[u8], place: usize, out: &mut [u8]) -> Answer
     entry::file_baseline(file, place, out)
 }
 
-// The entry for C over a table in memory.
+// That request, from C.
 pub fn entry_over_table(
     first: u32,
     marks: &[u8],
@@ -44,14 +45,14 @@ pub fn entry_over_table(
     host::hp_baseline_table(first, marks, readings, participation, event, s, e, n, out)
 }
 
-// The entry for C over a record file.
+// That event, from C.
 pub fn entry_of_file(file: &[u8], place: usize, out: &mut [u8]) -> u32
     ensures { λ r. ⌜ EntryDemands (ofFile (now (file .entry)) place) r (now (out .entry)) (now (out .exit)) ⌝ }
 {
     host::hp_baseline(file, place, out)
 }
 
-// What C is told by name over a table in memory.
+// What C is told of that request, by name.
 pub fn told_over_table(
     first: u32,
     marks: &[u8],
@@ -68,7 +69,7 @@ pub fn told_over_table(
     host::hp_told_table(first, marks, readings, participation, event, s, e, n, name)
 }
 
-// What C is told by name of a record file.
+// What C is told of that event, by name.
 pub fn told_of_file(file: &[u8], place: usize, name: u32) -> i64
     ensures { λ r. ⌜ Tells (ofFile (now (file .entry)) place) name r ⌝ }
 {
