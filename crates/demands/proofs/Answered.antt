@@ -1,8 +1,8 @@
 -- What an answer says of the rows, of the chosen days and of the numerators.
-use Prim.Native.Nat.{ℕ, _+_, _-_, _*_, _≤_}
+use Prim.Native.Nat.{ℕ, _-_, _*_, _≤_}
 use mathlib.Core.Path.{_≡_, refl}
 use mathlib.Core.Bool.{Bool, true, false, _||_}
-use mathlib.Core.List.{List, [], _∷_, _++_}
+use mathlib.Core.List.{List, [], _∷_}
 use native.Mathlib.Omega.{arith}
 use lib.ListN.{length, length-map, length-take}
 use borrow.Author.Tests.{ltb-false, le-ltb}
@@ -18,12 +18,8 @@ use Rattle.method.specs.HighXofY.{highXofY, higher, N}
 use Rattle.method.proofs.Sort.{length-sorted}
 use Rattle.places.proofs.Places.{length-places}
 use Rattle.demands.specs.Calls.{Call, overTable, ofFile, extract, request, perQuarter, room}
-use Rattle.demands.specs.Rows.{windowOf, chosenOf, NOf, numeratorsOf, fileRows, tableRows, requestRows, dayRows, rows, applies}
-
-none-after : (xs ys : List (Bool × Refusal)) → any applies (xs ++ ys) ≡ false → any applies ys ≡ false
-unfolding any
-none-after [] ys e = e
-none-after (x ∷ xs) ys e = none-after xs ys (or-none-right (x .0) (any applies (xs ++ ys)) e)
+use Rattle.demands.specs.Rows.{windowOf, chosenOf, NOf, numeratorsOf, dayRows, earlier, rows, applies}
+use Rattle.demands.proofs.Passing.{none-after}
 
 second-row : (p q : Bool × Refusal) (rest : List (Bool × Refusal)) → any applies (p ∷ q ∷ rest) ≡ false → q .0 ≡ false
 unfolding any
@@ -36,14 +32,7 @@ window-least t r e = ltb-false (length (windowOf t r)) (NOf r) (second-row _ _ _
 
 window-enough : (c : Call) (size : ℕ) → any applies (rows c size) ≡ false → NOf (request c) ≤ length (windowOf (extract c) (request c))
 unfolding rows
-window-enough c size e =
-    window-least t r (none-after (requestRows t r (perQuarter c) size) (dayRows t r) (none-after (tableRows t) _ (none-after (fileRows c) _ e)))
-  where
-    t : Table
-    t = extract c
-
-    r : Request
-    r = request c
+window-enough c size e = window-least (extract c) (request c) (none-after (earlier c size) (dayRows (extract c) (request c)) e)
 
 -- and N days are chosen
 count-chosen : (t : Table) (r : Request) → NOf r ≤ length (windowOf t r) → length (dated (chosenOf t r)) ≡ NOf r

@@ -1,5 +1,5 @@
 -- The demands, proved for every call.
-use Prim.Native.Nat.{ℕ, _-_, _≤_, _<_}
+use Prim.Native.Nat.{ℕ, _≤_, _<_}
 use mathlib.Core.Path.{_≡_, refl, sym, ap, _∙_}
 use mathlib.Core.Logic.{⊎-elim}
 use mathlib.Core.Bool.{true, false, not}
@@ -27,14 +27,14 @@ use Rattle.answer.specs.declared.Answer.{Answer}
 use Rattle.answer.specs.Answer.{answerOf}
 use Rattle.baseline.proofs.Laws.{one-outcome, never-above}
 use Rattle.baseline.proofs.Answered.{sound}
-use Rattle.demands.specs.Calls.{Call, extract, request, stand, room, Gets, Gives, result, reported}
-use Rattle.demands.specs.Rows.{rows, applies, answerOver, numeratorsOf}
-use Rattle.demands.specs.Demands.{quarters, Demand1, Demand2, Settled, Demand3, NoPart, AllCalls}
+use Rattle.demands.specs.Calls.{Call, extract, request, stand, room, Gets, result, reported}
+use Rattle.demands.specs.Rows.{earlier, rows, applies, answerOver, numeratorsOf}
+use Rattle.demands.specs.Demands.{quarters, Demand1, Demand2, Settled, Demand3, NoPart, Demands}
 use Rattle.demands.proofs.Rows.{table-rows}
 use Rattle.demands.proofs.First.{first-in, first-of, none-first}
-use Rattle.demands.proofs.Results.{replyOf, gets-same, gives-gets, gets-answer, is-refused, is-answered, given-refused, given-answered}
+use Rattle.demands.proofs.Results.{replyOf, gets-same, Gives, gives-gets, gets-answer, is-refused, is-answered, given-refused, given-answered}
 use Rattle.demands.proofs.Results.{numberIn, result-is, reported-is, settled-is, margin-is, gets-kept, gets-output, stand-length}
-use Rattle.demands.proofs.Passing.{Late, late, settled-late, past}
+use Rattle.demands.proofs.Passing.{Late, late, none-earlier, settled-late, past}
 use Rattle.demands.proofs.Answered.{chosen-count, numerators-count, over-60-or-24, quarters-fit}
 
 module _ (c : Call) (a : Answer) (out after : List ℕ) (gives : Gives c a out after) where
@@ -73,7 +73,7 @@ module _ (c : Call) (a : Answer) (out after : List ℕ) (gives : Gives c a out a
     answers = to-answered (none-applies e)
 
     is-verdict : verdict group t r (room c out) ≡ answered (answerOver t r)
-    is-verdict = sym (late c out (rw answers (unfold member in refl)) .over .its) ∙ answers
+    is-verdict = sym (late c out (none-earlier c out (rw answers (unfold member in refl))) .over .its) ∙ answers
 
     output : after ≡ stand c (numeratorsOf t r) ++ drop (quarters c) out
     unfolding answerOver
@@ -134,7 +134,7 @@ module _ (c : Call) (a : Answer) (out after : List ℕ) (gives : Gives c a out a
 
   -- ---- demand 3
   is-late : member (result a) (0 ∷ 8 ∷ 9 ∷ 10 ∷ []) ≡ true → Late c out
-  is-late e = late c out (rw number-is at e)
+  is-late e = late c out (none-earlier c out (rw number-is at e))
 
   module _ (s : Settled a) where
     l : Late c out
@@ -174,9 +174,9 @@ module _ (c : Call) (a : Answer) (out after : List ℕ) (gives : Gives c a out a
     fewest k less =
         reach-fewest group t r (room c out) (l .over .isOne) (l .over .well) (l .holds) settled k (omega (arith, less, reported-as))
 
-  given-when : member (result a) (0 ∷ 8 ∷ 9 ∷ 10 ∷ []) ≡ true → Undecided group t r → result a ≡ 8
-  given-when e u =
-      let x = is-late e in
+  given-when : any applies (earlier c (length out)) ≡ false → Undecided group t r → result a ≡ 8
+  given-when n u =
+      let x = late c out n in
       let margin = verdict-margin group t r (room c out) (x .over .isOne) (x .over .well) (x .holds) (x .none) .1 u in
       number-is ∙ eqb-true (numberIn (replyOf c out)) 8 (sym (margin-is (replyOf c out)) ∙ ap isMargin (x .over .its) ∙ margin)
 
@@ -190,7 +190,7 @@ module _ (c : Call) (a : Answer) (out after : List ℕ) (gives : Gives c a out a
   demand3 =
       record {
         stable = stable;
-        exactly = λ e. (λ m. shown m .two, given-when e);
+        exactly = λ n. (λ m. shown m .two, given-when n);
         shown = shown;
         reach-held = within;
         reach-same = same;
@@ -207,7 +207,7 @@ module _ (c : Call) (a : Answer) (out after : List ℕ) (gives : Gives c a out a
       sym (no-part group t u r (room c out) (f .isOne) (f .well) (other .0) (other .1) (x .first) (x .event) (λ d h b. x .days d b h) (x .readings)))
       gets
 
-pub demands : AllCalls
+pub demands : (c : Call) (a : Answer) (out after : List ℕ) → Gives c a out after → Demands c a out after
 demands c a out after gives =
     record {
       first = demand1 c a out after gives;

@@ -5,3 +5,4 @@ pub mod Results
 pub mod Passing
 pub mod Answered
 pub mod Demands
+pub mod Entries

@@ -1,54 +1,55 @@
--- What is known of a call by the number of its result: which rows did not apply, and so what its extract and its request are.
+-- Which rows did not apply, by the number of a call's result; and what its extract and its request are where they did not.
 use Prim.Native.Nat.{ℕ}
 use mathlib.Core.Path.{_≡_, refl, _∙_}
 use mathlib.Core.Bool.{Bool, true, false, not, _||_}
-use mathlib.Core.List.{List, [], _∷_}
+use mathlib.Core.List.{List, [], _∷_, _++_}
 use mathlib.Core.Logic.{⊎-elim}
 use lib.Dec.{eqb}
+use lib.ListN.{length}
 use Rattle.lists.specs.Lists.{all, any, member}
-use Rattle.lists.proofs.Bools.{bool-cases, clash}
+use Rattle.lists.proofs.Bools.{bool-cases, clash, or-none-left, or-none-right}
 use Rattle.calendar.specs.Holidays.{group}
 use Rattle.method.specs.declared.Refusal.{Refusal}
 use Rattle.method.specs.Table.{Table, held, history, isExtract}
-use Rattle.method.specs.Method.{outcome}
-use Rattle.method.specs.HighXofY.{highXofY}
-use Rattle.method.specs.Verdict.{Reply, tableRefusals, requestRefusals, closing, firstOf, methodology, verdict, wellFormed}
+use Rattle.method.specs.Verdict.{Reply, answered, firstOf, methodology, verdict, wellFormed}
 use Rattle.method.specs.Demands.{NoneEarlier}
 use Rattle.method.proofs.Replies.{test, other, none-early, early-other}
 use Rattle.method.proofs.Extract.{none-of-table}
 use Rattle.method.proofs.NoPart.{known}
-use Rattle.demands.specs.Calls.{Call, overTable, ofFile, extract, request, room}
-use Rattle.demands.specs.Rows.{fileRows}
-use Rattle.demands.proofs.Results.{replyOf, over-extract, numberIn}
+use Rattle.refusals.proofs.FirstRefusal.{first-append}
+use Rattle.demands.specs.Calls.{Call, overTable, ofFile, extract, request, perQuarter, room}
+use Rattle.demands.specs.Rows.{fileRows, tableRows, requestRows, dayRows, earlier, rows, applies, answerOver}
+use Rattle.demands.proofs.Rows.{table-rows, request-rows}
+use Rattle.demands.proofs.Results.{replyOf, room-test, over-extract, numberIn}
+
+-- none of rows and of others applies
+pub none-before : (xs ys : List (Bool × Refusal)) → any applies (xs ++ ys) ≡ false → any applies xs ≡ false
+unfolding any
+none-before [] ys e = refl
+none-before (x ∷ xs) ys e =
+    rw (or-none-left (x .0) (any applies (xs ++ ys)) e) (none-before xs ys (or-none-right (x .0) (any applies (xs ++ ys)) e))
+
+pub none-after : (xs ys : List (Bool × Refusal)) → any applies (xs ++ ys) ≡ false → any applies ys ≡ false
+unfolding any
+none-after [] ys e = e
+none-after (x ∷ xs) ys e = none-after xs ys (or-none-right (x .0) (any applies (xs ++ ys)) e)
 
 -- a reply of another kind than all these refusals: none of them applies
-passes : (q : Reply → Bool) (rs : List (Bool × Refusal)) (x : Reply) → all (other q) rs ≡ true → q (firstOf rs x) ≡ true
-    → (any test rs ≡ false) × (firstOf rs x ≡ x)
-passes q rs x o e = ⊎-elim (λ y. absurd (clash e (early-other q rs x o y))) (λ n. (n, none-early rs x n)) (bool-cases (any test rs))
-
--- a test of a reply that 11 and 12 fail, and that 1 to 3 fail
-module _ (q : Reply → Bool) where
-  abbrev pub NotOfFile : Type 0
-  NotOfFile = (c : Call) → all (other q) (fileRows c) ≡ true
-
-  abbrev pub NotOfTable : Type 0
-  NotOfTable = (t : Table) → all (other q) (tableRefusals t) ≡ true
+pub passes : (q : Reply → Bool) (rs : List (Bool × Refusal)) (x : Reply) → all (other q) rs ≡ true → q (firstOf rs x) ≡ true
+    → any applies rs ≡ false
+passes q rs x o e = ⊎-elim (λ y. absurd (clash e (early-other q rs x o y))) (λ n. n) (bool-cases (any test rs))
 
 -- the reply is the verdict over a well-formed extract
 pub record OverFormed (c : Call) (out : List ℕ) : Type 0 where
   pub its : replyOf c out ≡ verdict group (extract c) (request c) (room c out)
-  pub same : verdict group (extract c) (request c) (room c out) ≡ methodology group (extract c) (request c) (room c out)
   pub isOne : isExtract (extract c) ≡ true
   pub well : wellFormed (extract c) ≡ true
 
-pub over-formed : (q : Reply → Bool) → NotOfFile q → NotOfTable q → (c : Call) (out : List ℕ) → q (replyOf c out) ≡ true → OverFormed c out
-unfolding verdict
-over-formed q f t c out e =
-    let file = passes q (fileRows c) (verdict group (extract c) (request c) (room c out)) (f c) (rw (over-extract c out) at e) in
-    let its = over-extract c out ∙ file .1 in
-    let table = passes q (tableRefusals (extract c)) (methodology group (extract c) (request c) (room c out)) (t (extract c)) (rw its at e) in
-    let is = none-of-table (extract c) (table .0) in
-    record { its = its; same = table .1; isOne = is .0; well = is .1 }
+-- so it is where none of 11, 12 and 1 to 3 applies
+over-formed : (c : Call) (out : List ℕ) → any applies (fileRows c) ≡ false → any applies (tableRows (extract c)) ≡ false → OverFormed c out
+over-formed c out n m =
+    let is = none-of-table (extract c) (rw table-rows at m) in
+    record { its = over-extract c out ∙ none-early (fileRows c) _ n; isOne = is .0; well = is .1 }
 
 -- and no refusal before 8 applies: the event is held
 pub record Late (c : Call) (out : List ℕ) : Type 0 where
@@ -56,21 +57,43 @@ pub record Late (c : Call) (out : List ℕ) : Type 0 where
   pub none : NoneEarlier (extract c) (request c) (room c out)
   pub holds : held (history (extract c)) (request c .event) ≡ true
 
+pub late : (c : Call) (out : List ℕ) → any applies (earlier c (length out)) ≡ false → Late c out
+unfolding earlier
+late c out n =
+    record {
+      over = over-formed c out (none-before (fileRows c) _ n) (none-before (tableRows t) asked (none-after (fileRows c) _ n));
+      none = none;
+      holds = known t (request c) (room c out) none .1;
+    }
+  where
+    t : Table
+    t = extract c
+
+    asked : List (Bool × Refusal)
+    asked = requestRows t (request c) (perQuarter c) (length out)
+
+    none : NoneEarlier t (request c) (room c out)
+    none =
+        rw (request-rows t (request c) (perQuarter c) (length out) (room c out) (room-test c out)) at
+        (none-after (tableRows t) asked (none-after (fileRows c) _ n))
+
+-- so it is where the result is 0 or 8 to 10
 abbrev pub isLate : Reply → Bool
 isLate x = member (numberIn x) (0 ∷ 8 ∷ 9 ∷ 10 ∷ [])
 
-late-file : NotOfFile isLate
-unfolding fileRows all member
-late-file (overTable t r) = refl
-late-file (ofFile file place) = refl
+late-other : (c : Call) (size : ℕ) → all (other isLate) (earlier c size) ≡ true
+unfolding earlier fileRows tableRows requestRows all member
+late-other (overTable t r) size = refl
+late-other (ofFile file place) size = refl
 
-pub late : (c : Call) (out : List ℕ) → isLate (replyOf c out) ≡ true → Late c out
-unfolding methodology
-late c out e =
-    let f = over-formed isLate late-file (λ t. unfold tableRefusals all member in refl) c out e in
-    let n = passes isLate (requestRefusals (extract c) (request c) (room c out)) (closing (outcome (highXofY group (request c)) (history (extract c))))
-    (unfold requestRefusals all member in refl) (rw (f .its ∙ f .same) at e) in
-    record { over = f; none = n .0; holds = known (extract c) (request c) (room c out) (n .0) .1 }
+pub none-earlier : (c : Call) (out : List ℕ) → isLate (replyOf c out) ≡ true → any applies (earlier c (length out)) ≡ false
+unfolding rows
+none-earlier c out e =
+    passes isLate (earlier c (length out)) (firstOf (dayRows (extract c) (request c)) last) (late-other c (length out))
+    (rw (first-append (earlier c (length out)) (dayRows (extract c) (request c)) last) at e)
+  where
+    last : Reply
+    last = answered (answerOver (extract c) (request c))
 
 -- a settled reply is one of these
 pub settled-late : (n : ℕ) → member n (0 ∷ 9 ∷ 10 ∷ []) ≡ true → member n (0 ∷ 8 ∷ 9 ∷ 10 ∷ []) ≡ true
@@ -86,10 +109,17 @@ settled-late n e = go (eqb n 0) (eqb n 8) (eqb n 9 || (eqb n 10 || false)) e
 abbrev pub isPast : Reply → Bool
 isPast x = not (member (numberIn x) (11 ∷ 12 ∷ 1 ∷ 2 ∷ 3 ∷ []))
 
-past-file : NotOfFile isPast
-unfolding fileRows all member
-past-file (overTable t r) = refl
-past-file (ofFile file place) = refl
+past-other : (c : Call) → all (other isPast) (fileRows c ++ tableRows (extract c)) ≡ true
+unfolding fileRows tableRows all member
+past-other (overTable t r) = refl
+past-other (ofFile file place) = refl
+
+by-table : (c : Call) (out : List ℕ)
+    → replyOf c out ≡ firstOf (fileRows c ++ tableRows (extract c)) (methodology group (extract c) (request c) (room c out))
+unfolding verdict
+by-table c out = rw (over-extract c out, first-append (fileRows c) (tableRows (extract c)), table-rows (extract c))
 
 pub past : (c : Call) (out : List ℕ) → isPast (replyOf c out) ≡ true → OverFormed c out
-past c out e = over-formed isPast past-file (λ t. unfold tableRefusals all member in refl) c out e
+past c out e =
+    let n = passes isPast (fileRows c ++ tableRows (extract c)) _ (past-other c) (rw (by-table c out) at e) in
+    over-formed c out (none-before (fileRows c) _ n) (none-after (fileRows c) _ n)

@@ -1,11 +1,12 @@
 -- What the contract of a call says of its result and its output, by the reply.
-use Prim.Native.Nat.{ℕ, _-_, _*_, _/_}
-use mathlib.Core.Path.{_≡_, refl, sym, ap, subst, _∙_}
+use Prim.Native.Nat.{ℕ, _-_, _*_}
+use mathlib.Core.Path.{_≡_, refl, sym, subst, _∙_}
+use mathlib.Core.Bool.{Bool}
 use mathlib.Core.List.{List, [], _∷_, _++_}
 use native.Mathlib.Omega.{arith}
 use native.Mathlib.Nat.{one-mul}
 use lib.ListN.{length, drop}
-use lib.Dec.{eqb}
+use lib.Dec.{ltb, eqb}
 use Rattle.lists.specs.Lists.{member}
 use Rattle.calendar.specs.Holidays.{group}
 use Rattle.method.specs.declared.Request.{Request}
@@ -16,39 +17,56 @@ use Rattle.method.specs.Table.{Table}
 use Rattle.method.specs.Verdict.{Reply, Answer as Numbers, refused, answered, number, firstOf, verdict, written}
 use Rattle.method.specs.Demands.{isMargin, isSettled, reported as reportedIn}
 use Rattle.refusals.proofs.FirstRefusal.{first-append}
+use Rattle.record.specs.Reader.{requestAt}
 use Rattle.record.proofs.Back.{reading-length}
 use Rattle.answer.specs.declared.Given.the-variants.{Answered, Refused}
 use Rattle.answer.specs.declared.Answer.{Answer}
 use Rattle.answer.specs.Answer.{answerOf}
-use Rattle.bytewise.specs.Bytewise.{bytesWritten}
+use Rattle.baseline.specs.Ready.{Answers}
+use Rattle.bytewise.specs.Bytewise.{FileAnswers, bytesWritten}
 use Rattle.bytewise.proofs.Laws.{below-four}
-use Rattle.demands.specs.Calls.{Call, overTable, ofFile, extract, request, perQuarter, stand, room, Gets, Gives, result, reported}
-use Rattle.demands.specs.Rows.{fileRows, tableRows, requestRows, dayRows, rows, answerOver}
+use Rattle.entry.specs.Entry.{fileReply}
+use Rattle.demands.specs.Calls.{Call, overTable, ofFile, extract, request, perQuarter, stand, room, Gets, result, reported}
+use Rattle.demands.specs.Rows.{fileRows, tableRows, requestRows, dayRows, earlier, rows, answerOver}
 use Rattle.demands.proofs.Rows.{verdict-rows, file-rows}
 
 -- the reply of a call by its rows
 abbrev pub replyOf : Call → List ℕ → Reply
 replyOf c out = firstOf (rows c (length out)) (answered (answerOver (extract c) (request c)))
 
+-- the test of 7 in numerators
+pub room-test : (c : Call) (out : List ℕ)
+    → ltb (length out) (perQuarter c * (request c .e - request c .s)) ≡ ltb (room c out) (request c .e - request c .s)
+room-test (overTable t r) out = rw one-mul
+room-test (ofFile file place) out = sym (below-four (length out) (requestAt file place .e - requestAt file place .s))
+
 -- it is that of 11 and 12, and then the verdict over its extract
 pub over-extract : (c : Call) (out : List ℕ) → replyOf c out ≡ firstOf (fileRows c) (verdict group (extract c) (request c) (room c out))
-unfolding rows fileRows firstOf
-over-extract (overTable t r) out = sym (verdict-rows t r 1 (length out) (length out) (rw one-mul))
-over-extract (ofFile file place) out =
-    first-append (fileRows c) (tableRows t ++ (requestRows t r 4 (length out) ++ dayRows t r)) (answered (answerOver t r)) ∙
-    ap (firstOf (fileRows c)) (sym (verdict-rows t r 4 (length out) (length out / 4) (sym (below-four (length out) (r .e - r .s)))))
+unfolding rows earlier
+over-extract c out =
+    rw (
+      first-append (fileRows c ++ (tableRows t ++ asked)) (dayRows t r) (answered (answerOver t r)),
+      first-append (fileRows c) (tableRows t ++ asked) (firstOf (dayRows t r) (answered (answerOver t r))),
+      first-append (tableRows t) asked (firstOf (dayRows t r) (answered (answerOver t r))),
+      verdict-rows t r (perQuarter c) (length out) (room c out) (room-test c out),
+    )
   where
-    c : Call
-    c = ofFile file place
-
     t : Table
     t = extract c
 
     r : Request
     r = request c
 
+    asked : List (Bool × Refusal)
+    asked = requestRows t r (perQuarter c) (length out)
+
 pub gets-same : (c : Call) (a : Answer) (out after : List ℕ) {x y : Reply} → x ≡ y → Gets c x a out after → Gets c y a out after
 gets-same c a out after e g = subst (λ (z : Reply). Gets c z a out after) e g
+
+-- what the contract of a call says
+abbrev pub Gives : Call → Answer → List ℕ → List ℕ → Type 0
+Gives (overTable t r) a out after = Answers (verdict group t r (length out)) a out after
+Gives (ofFile file place) a out after = FileAnswers (fileReply file place (length out)) a out after
 
 pub gives-gets : (c : Call) (a : Answer) (out after : List ℕ) → Gives c a out after → Gets c (replyOf c out) a out after
 unfolding fileRows firstOf

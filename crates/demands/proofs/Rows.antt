@@ -2,7 +2,7 @@
 use Prim.Native.Nat.{ℕ, _+_, _-_, _*_, _/_}
 use mathlib.Core.Path.{_≡_, refl, _∙_}
 use mathlib.Core.Bool.{Bool, true, false, not, cond, _&&_, _||_}
-use mathlib.Core.List.{List, [], _∷_, _++_, map}
+use mathlib.Core.List.{List, [], _∷_, map}
 use mathlib.Core.Option.{none, some}
 use lib.ListN.{length}
 use lib.Dec.{leb, ltb, eqb}
@@ -17,7 +17,6 @@ use Rattle.method.specs.Adjustment.{Baseline, floored, adjustment, baselineAt, 
 use Rattle.method.specs.HighXofY.{highXofY}
 use Rattle.method.specs.Verdict.{Reply, refused, answered, tableRefusals, goodRequest, requestRefusals, closing, firstOf, methodology, verdict}
 use Rattle.method.proofs.Tables.{offset-is}
-use Rattle.refusals.proofs.FirstRefusal.{first-append}
 use Rattle.baseline.proofs.Laws.{numerators-are}
 use Rattle.record.specs.declared.EventAt.the-variants.{Event, NoEvent as NoneThere}
 use Rattle.record.specs.declared.Read.the-variants.{File, Refused}
@@ -25,7 +24,7 @@ use Rattle.record.specs.Reader.{isPF, goodEnd, eventsIn, shapeIn, readFile, tab
 use Rattle.entry.specs.Entry.{replyTo, fileReply}
 use Rattle.demands.specs.Calls.{ofFile}
 use Rattle.demands.specs.Rows.{chosenOf, windowOf, reachOf, endOf, AOf, BOf, NOf, numeratorsOf, answerOver}
-use Rattle.demands.specs.Rows.{fileRows, tableRows, requestRows, dayRows, rows}
+use Rattle.demands.specs.Rows.{fileRows, tableRows, requestRows, dayRows}
 use Rattle.demands.proofs.Tests.{below-not, from-not, and-not, or-not, none-of-four, any-not, none-chosen}
 
 -- 1
@@ -105,16 +104,9 @@ day-rows t r =
     rw (none-chosen (group (r .event)) (length (windowOf t r)), worked-is t r)
 
 pub verdict-rows : (t : Table) (r : Request) (w size room : ℕ) → ltb size (w * (r .e - r .s)) ≡ ltb room (r .e - r .s)
-    → verdict group t r room ≡ firstOf (tableRows t ++ (requestRows t r w size ++ dayRows t r)) (answered (answerOver t r))
+    → verdict group t r room ≡ firstOf (tableRows t) (firstOf (requestRows t r w size) (firstOf (dayRows t r) (answered (answerOver t r))))
 unfolding verdict methodology
-verdict-rows t r w size room e =
-    rw (
-      first-append (tableRows t) (requestRows t r w size ++ dayRows t r) (answered (answerOver t r)),
-      first-append (requestRows t r w size) (dayRows t r) (answered (answerOver t r)),
-      table-rows t,
-      request-rows t r w size room e,
-      day-rows t r,
-    )
+verdict-rows t r w size room e = rw (table-rows t, request-rows t r w size room e, day-rows t r)
 
 -- 11 and 12
 module _ (file : List ℕ) (place room : ℕ) where

@@ -1,11 +1,10 @@
--- The calls that the demands speak of, and what their contracts say that they give back.
+-- The calls that the demands speak of, and what they give back.
 use Prim.Native.Nat.{ℕ, _/_}
 use mathlib.Core.List.{List, reverse}
 use lib.ListN.{length, getD}
-use Rattle.calendar.specs.Holidays.{group}
 use Rattle.method.specs.declared.Request.{Request}
 use Rattle.method.specs.Table.{Table}
-use Rattle.method.specs.Verdict.{Reply, carries, verdict}
+use Rattle.method.specs.Verdict.{Reply, carries}
 use Rattle.record.specs.Layout.{readingBytes}
 use Rattle.record.specs.Reader.{tableIn, requestAt}
 use Rattle.answer.specs.declared.Given.{Given}
@@ -13,11 +12,10 @@ use Rattle.answer.specs.declared.Given.the-variants.{Answered, Refused}
 use Rattle.answer.specs.declared.Answer.{Answer}
 use Rattle.baseline.specs.Ready.{Answers}
 use Rattle.bytewise.specs.Bytewise.{FileAnswers}
-use Rattle.entry.specs.Entry.{fileReply}
 use Rattle.telling.specs.Telling.{numberOf}
 
--- a request over a lent table (`baseline::baseline`), or the event at a place of a file (`entry::file_baseline`, of which `hp_baseline` gives a C
--- caller `result` and the output)
+-- a request over a lent table (`baseline::baseline`, and `hp_baseline_table` for C), or the event at a place of a file (`entry::file_baseline`, and
+-- `hp_baseline` for C)
 pub data Call : Type 0 where
   overTable : Table → Request → Call
   ofFile : List ℕ → ℕ → Call
@@ -48,11 +46,6 @@ room (ofFile file place) out = length out / 4
 abbrev pub Gets : Call → Reply → Answer → List ℕ → List ℕ → Type 0
 Gets (overTable t r) reply a out after = Answers reply a out after
 Gets (ofFile file place) reply a out after = FileAnswers reply a out after
-
--- the call gives them back: its contract, as it stands in its source
-abbrev pub Gives : Call → Answer → List ℕ → List ℕ → Type 0
-Gives (overTable t r) a out after = Answers (verdict group t r (length out)) a out after
-Gives (ofFile file place) a out after = FileAnswers (fileReply file place (length out)) a out after
 
 -- "it gets 0 or the refusal number"
 abbrev pub result : Answer → ℕ

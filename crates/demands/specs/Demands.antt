@@ -1,5 +1,5 @@
 -- The three demands of the order (document 00), sentence by sentence, about what a call gives back: its result `a`, and its output, `out` before
--- the call and `after` it. Nothing is supposed but the call's contract (`Gives`); `proofs/Demands` proves all of it for every call.
+-- the call and `after` it. The functions of `src/lib.rt` have them as their contracts, on every input: "Callers promise nothing beforehand."
 use Prim.Native.Nat.{ℕ, _-_, _*_, _≤_, _<_}
 use mathlib.Core.Path.{_≡_}
 use mathlib.Core.Logic.{_↔_}
@@ -21,8 +21,8 @@ use Rattle.method.specs.Demands.{LongerFormed, heldBefore, cutTo, Undecided, Pa
 use Rattle.choose.specs.Choice.{inFive}
 use Rattle.answer.specs.declared.Given.the-variants.{Answered, Refused}
 use Rattle.answer.specs.declared.Answer.{Answer}
-use Rattle.demands.specs.Calls.{Call, extract, request, perQuarter, stand, room, Gets, Gives, result, reported}
-use Rattle.demands.specs.Rows.{tableRows, rows, applies, FirstIn, answerOver, numeratorsOf, chosenOf, reachOf, AOf, BOf, NOf}
+use Rattle.demands.specs.Calls.{Call, extract, request, perQuarter, stand, room, Gets, result, reported}
+use Rattle.demands.specs.Rows.{tableRows, earlier, rows, applies, FirstIn, answerOver, numeratorsOf, chosenOf, reachOf, AOf, BOf, NOf}
 
 -- a number is one of these
 abbrev pub OneOf : ℕ → List ℕ → Type 0
@@ -69,7 +69,7 @@ module _ (c : Call) (a : Answer) (out after : List ℕ) where
     pub stable : Settled a → (l : Table) → LongerFormed l (extract c) → Gets c (methodology group l (request c) (room c out)) a out after
     -- "'Margin too short' is given, once no earlier refusal applies, exactly when two longer well-formed histories agree with the extract and
     -- have different baseline windows for that request.": and two strictly longer ones, with a day in one window alone, are shown
-    pub exactly : OneOf (result a) (0 ∷ 8 ∷ 9 ∷ 10 ∷ []) → (result a ≡ 8) ↔ Undecided group (extract c) (request c)
+    pub exactly : any applies (earlier c (length out)) ≡ false → (result a ≡ 8) ↔ Undecided group (extract c) (request c)
     pub shown : result a ≡ 8 → Parted group (extract c) (request c)
     -- "The reported reach is the fewest days before the event that give this result.": so many are held; the extract cut to so many gets the same
     -- result, and cut to fewer it gets "margin too short"
@@ -97,7 +97,3 @@ pub record Demands (c : Call) (a : Answer) (out after : List ℕ) : Type 0 where
   pub second : a .given ≡ Answered → Demand2 c a out after
   pub third : Demand3 c a out after
   pub no-part : NoPart c a out after
-
--- of every call, "Callers promise nothing beforehand."
-abbrev pub AllCalls : Type 0
-AllCalls = (c : Call) (a : Answer) (out after : List ℕ) → Gives c a out after → Demands c a out after

@@ -114,10 +114,12 @@ dayRows t r =
     -- 10: "no adjustment window", "reach"
     (eqb (endOf t r) 0, NoAdjustmentWindow (reachOf t r)) ∷ []
 
--- 11, 12, 1 to 10
+-- 11, 12, 1 to 7: those earlier than 8; and all
+unfoldable pub earlier : Call → ℕ → List (Bool × Refusal)
+earlier c size = fileRows c ++ (tableRows (extract c) ++ requestRows (extract c) (request c) (perQuarter c) size)
+
 unfoldable pub rows : Call → ℕ → List (Bool × Refusal)
-rows c size =
-    fileRows c ++ (tableRows (extract c) ++ (requestRows (extract c) (request c) (perQuarter c) size ++ dayRows (extract c) (request c)))
+rows c size = earlier c size ++ dayRows (extract c) (request c)
 
 -- the test of a row
 abbrev pub applies : Bool × Refusal → Bool
