@@ -58,6 +58,7 @@ edges =
       easter-sunday-two = refl;
       ties = refl;
       forty-five = refl;
+      two-of-three = refl;
       filled = refl;
       not-filled = refl;
       outage = refl;

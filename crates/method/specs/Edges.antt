@@ -49,7 +49,7 @@ silent = record { first = 11 January 2019; marks = replicate 23 0; readings = re
 abbrev pub asked : ℕ → ℕ → ℕ → ℕ → Request
 asked p s e n = record { participation = p; event = 9006; s = s; e = e; n = n }
 
--- so many marks and so many readings
+-- the table of `h` days from `first` on, with so many readings
 abbrev pub lent : ℕ → ℕ → ℕ → Table
 lent first h readings = record { first = first; marks = replicate h 0; readings = replicate readings 1000 }
 
@@ -72,6 +72,9 @@ pub record Edges : Type 0 where
   pub ties : chosenOf (marked (1 January 2019) (2 February 2019) []) (at15 6900 6972) ≡ 26 January 2019 ∷ 19 January 2019 ∷ []
   -- of a Friday's look-back the 45th day is a Tuesday, and the 46th a Monday
   pub forty-five : verdict group (marked (20 August 2024) (30 August 2024) []) (at15 8700 (30 August 2024)) 4 ≡ refused (MarginTooShort 45)
+  -- "if fewer than Y but at least N exist, all of them": two Saturdays, and the third, with an event, is not added
+  pub two-of-three : windowDays group (marked (12 January 2019) (2 February 2019) (12 January 2019 ∷ [])) (at15 (12 January 2019) 6972) ≡
+      26 January 2019 ∷ 19 January 2019 ∷ []
   -- "four eligible weekdays and one complete relevant event day without outage: five chosen; without the event day, refusal 9"
   pub filled : chosenOf (fiveDays 1 1000) (at15 (20 August 2024) (28 August 2024)) ≡
       26 August 2024 ∷ 23 August 2024 ∷ 22 August 2024 ∷ 21 August 2024 ∷ 20 August 2024 ∷ []
