@@ -1,4 +1,4 @@
--- The worked listing of 01, byte for byte from its file's bytes, and the longest event, by computation of the definitions.
+-- The worked listing of 01, byte for byte from its file's bytes, and what it does not show, by computation of the definitions.
 use Prim.Native.Nat.{ℕ}
 use mathlib.Core.Path.{_≡_, refl}
 use Rattle.lists.specs.Lists.{keep, all, any, leading, member, sumOf, leastOf}
@@ -37,4 +37,4 @@ worked-listing = refl
 
 pub edges : Edges
 unfolding definitions
-edges = record { whole-day = refl }
+edges = record { whole-day = refl; negative = refl; two-carried = refl; file-refused = refl; longest-file = refl }

@@ -15,7 +15,8 @@ at15 day = record { day = day; s = 152; e = 156; n = 148 }
 abbrev pub workedContents : Contents
 workedContents = record { participation = 6900; portfolio = 77; table = worked; events = at15 6972 ∷ at15 6966 ∷ [] }
 
-abbrev line : String → List ℕ
+-- a line of a text
+abbrev pub line : String → List ℕ
 line text = ascii text ++ (newline ∷ [])
 
 abbrev pub workedListing : List ℕ

@@ -4,22 +4,21 @@ use Prim.Native.Nat.{ℕ}
 use Rattle.lists.specs.Lists.{keep, all, any, leading, member, sumOf, leastOf}
 use Rattle.dates.specs.Days.{leap, months, newYear, dayNumber, yearOf}
 use Rattle.calendar.specs.Holidays.{easter, fixedHolidays, easterHolidays, holidays, isHoliday, group}
-use Rattle.method.specs.Table.{size, offset, dayOf, held, shaped, isExtract}
+use Rattle.method.specs.Table.{size, offset, dayOf, held, shaped, isExtract, dayPart}
 use Rattle.method.specs.Relevant.{daysBefore, relevant, relevantDays}
 use Rattle.method.specs.Method.{wholeReach, seen, eligibles, spares, window, chosen, reach, isShort, outcome}
 use Rattle.method.specs.Adjustment.{windowEnds, latestEnd, adjustmentEnd, places, S, A, B, baselineAt, baseline}
 use Rattle.method.specs.HighXofY.{complete, eligible, spare, eventSum, higher, insertBy, sortBy, highXofY}
-use Rattle.method.specs.Verdict.{tableRefusals, goodRequest, requestRefusals, closing, firstOf, methodology, verdict, wellFormed}
+use Rattle.method.specs.Verdict.{tableRefusals, goodRequest, requestRefusals, closing, firstOf, methodology, verdict, written, wellFormed}
 use Rattle.method.specs.Checks.{Checks}
 use Rattle.method.specs.Edges.{Edges}
 
 -- unfolding this unfolds every definition that the tables compute with
 unfoldable pub definitions : ℕ
 unfolding keep all any leading member sumOf leastOf leap months newYear dayNumber yearOf easter fixedHolidays easterHolidays holidays
-    isHoliday group size offset dayOf held shaped isExtract daysBefore relevant relevantDays wholeReach seen eligibles spares window chosen reach
-    isShort outcome windowEnds latestEnd adjustmentEnd places S A B baselineAt baseline complete eligible spare eventSum higher insertBy sortBy
-    highXofY tableRefusals goodRequest requestRefusals closing firstOf methodology verdict
-    wellFormed
+    isHoliday group size offset dayOf held shaped isExtract dayPart daysBefore relevant relevantDays wholeReach seen eligibles spares window chosen
+    reach isShort outcome windowEnds latestEnd adjustmentEnd places S A B baselineAt baseline complete eligible spare eventSum higher insertBy
+    sortBy highXofY tableRefusals goodRequest requestRefusals closing firstOf methodology verdict written wellFormed
 definitions = 0
 
 pub checks : Checks
@@ -59,8 +58,14 @@ edges =
       easter-sunday-two = refl;
       ties = refl;
       forty-five = refl;
+      two-of-three = refl;
       filled = refl;
       not-filled = refl;
+      outage = refl;
+      incomplete = refl;
+      incomplete-event = refl;
+      event-bits = refl;
+      outage-bits = refl;
       n-12 = refl;
       n-11 = refl;
       n-12-missing = refl;
@@ -70,8 +75,23 @@ edges =
       s-today = refl;
       a-across = refl;
       b-across = refl;
+      halves-up = refl;
       reading-taken = refl;
       reading-refused = refl;
+      missing-taken = refl;
+      below-missing-refused = refl;
+      missing-absent = refl;
+      zero-present = refl;
+      days-taken = refl;
+      days-refused = refl;
+      no-days-refused = refl;
+      one-less-refused = refl;
+      one-more-refused = refl;
+      last-day-taken = refl;
+      past-last-refused = refl;
+      its-part = refl;
+      no-part = refl;
+      no-part-refused = refl;
       alone = refl;
       later = refl;
       latest-taken = refl;
@@ -82,8 +102,16 @@ edges =
       e-refused = refl;
       e-late-refused = refl;
       n-refused = refl;
+      no-readings = refl;
       second-mark = refl;
       reading-100 = refl;
+      no-quarters = refl;
       not-held = refl;
+      not-yet = refl;
+      no-room = refl;
+      no-adjustment = refl;
       numbers = refl;
+      carried = refl;
+      refused-keeps = refl;
+      answered-writes = refl;
     }

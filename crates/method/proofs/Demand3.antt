@@ -20,10 +20,11 @@ use Rattle.method.specs.HighXofY.{highXofY}
 use Rattle.method.specs.Verdict.{refused, closing, methodology, wellFormed}
 use Rattle.method.specs.Demands.{LongerFormed, Part, heldBefore, cutTo, Undecided, Parted, isMargin, NoneEarlier, Demand3}
 use Rattle.method.proofs.Histories.{Extends, extends-held}
+use Rattle.method.proofs.Short.{whole-enough}
 use Rattle.method.proofs.Stable.{same-window, same-outcome}
 use Rattle.method.proofs.Reach.{reach-held, wide-enough, reach-short, reach-enough}
 use Rattle.method.proofs.LookBack.{lookBack-is}
-use Rattle.method.proofs.HighXofY.{lawful, relevant-lookBack}
+use Rattle.method.proofs.HighXofY.{lawful, relevant-lookBack, relevant-participation}
 use Rattle.method.proofs.Tables.{longer-extends, cut-part, cut-before}
 use Rattle.method.proofs.Settled.{settled-reach}
 use Rattle.method.proofs.Replies.{earlier-cases, plain, hidden, hidden-same, margin-is, margin-carries, same-refusals}
@@ -84,11 +85,16 @@ module _ (group : ℕ → Group) (t : Table) (r : Request) (room : ℕ)
       ⊎-elim (λ a. absurd (clash e (hidden group t r room a)))
       (λ n. margin-carries group t r room n (sym (margin-is group t r room n) ∙ e)) (earlier-cases t r room)
 
+  not-given : isShort m (history t) ≡ false → isMargin (methodology group t r room) ≡ false
+  not-given e = ⊎-elim (hidden group t r room) (λ n. margin-is group t r room n ∙ e) (earlier-cases t r room)
+
   enough : wholeReach m ≤ heldBefore t r → isMargin (methodology group t r room) ≡ false
   unfolding highXofY
-  enough e =
-      ⊎-elim (hidden group t r room) (λ n. margin-is group t r room n ∙ wide-enough m (lawful group r) (history t) holds e)
-      (earlier-cases t r room)
+  enough e = not-given (wide-enough m (lawful group r) (history t) holds e)
+
+  since : t .first ≤ r .participation → isMargin (methodology group t r room) ≡ false
+  unfolding highXofY
+  since e = not-given (whole-enough m (history t) (λ d k. omega (arith, e, relevant-participation group r d k)))
 
   same : isMargin (methodology group t r room) ≡ false
       → (p : Table) → Part p t r → reach m (history t) ≤ heldBefore p r → methodology group p r room ≡ methodology group t r room
@@ -128,6 +134,7 @@ demand3 group t r room well holds =
       carried = carried group t r room well holds;
       at-most = at-most-45 group r;
       enough = enough group t r room well holds;
+      since = since group t r room well holds;
       reports = settled-reach group t r room;
       same = same group t r room well holds;
       fewer = fewer group t r room well holds;

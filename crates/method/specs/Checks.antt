@@ -5,19 +5,18 @@ use mathlib.Core.List.{List, [], _∷_, _++_, map}
 use Prim.Native.Nat.{ℕ, _+_, _-_, _*_}
 use lib.ListN.{take, replicate, set}
 use lib.IntN.{pos}
-use Rattle.lists.specs.Lists.{member, sumOf}
+use Rattle.lists.specs.Lists.{member}
 use Rattle.dates.specs.Days.{dayNumber}
 use Rattle.calendar.specs.Holidays.{easter, group}
-use Rattle.calendar.specs.declared.Group.{Group}
-use Rattle.calendar.specs.declared.Group.the-variants.{Weekday, Saturday, HolidayGroup}
+use Rattle.calendar.specs.declared.Group.the-variants.{Saturday, HolidayGroup}
 use Rattle.method.specs.declared.Request.{Request}
-use Rattle.method.specs.declared.Refusal.{Refusal}
 use Rattle.method.specs.declared.Refusal.the-variants.{MarginTooShort}
 use Rattle.method.specs.Table.{Table, Day, history}
-use Rattle.method.specs.Method.{window, reach, dated}
+use Rattle.method.specs.Method.{reach, dated}
 use Rattle.method.specs.Adjustment.{S, places, adjustment, unfloored, floored, rounded}
 use Rattle.method.specs.HighXofY.{highXofY, higher, sortBy, eventSum}
-use Rattle.method.specs.Verdict.{Reply, refused, answered, verdict}
+use Rattle.method.specs.Verdict.{refused, answered, verdict}
+use Rattle.method.specs.Demands.{windowDays}
 
 -- dates as dates: `28 August 2024` is day 9006
 infix 80 _January_ _February_ _April_ _May_ _July_ _August_
@@ -51,9 +50,6 @@ marked first last events =
       marks = map (λ d. cond (member d events) 1 0) (places (last + 1 - first) first);
       readings = replicate (96 * (last + 1 - first)) 1000;
     }
-
-abbrev pub windowOf : Table → Request → List ℕ
-windowOf t r = dated (window (highXofY group r) (history t))
 
 abbrev pub reachOf : Table → Request → ℕ
 reachOf t r = reach (highXofY group r) (history t)
@@ -114,7 +110,7 @@ pub record Checks : Type 0 where
   -- "event 28 August 2024 (day 9006), P 8700, events marked on 7 and 23 August, all complete: window 26, 22, 21, 20, 19, 16, 14, 13, 12, 9
   -- August, reach 19."
   pub august-day : 28 August 2024 ≡ 9006
-  pub august-window : windowOf (marked (14 July 2024) (28 August 2024) (7 August 2024 ∷ 23 August 2024 ∷ [])) (at15 8700 9006) ≡
+  pub august-window : windowDays group (marked (14 July 2024) (28 August 2024) (7 August 2024 ∷ 23 August 2024 ∷ [])) (at15 8700 9006) ≡
       26 August 2024 ∷ 22 August 2024 ∷ 21 August 2024 ∷ 20 August 2024 ∷ 19 August 2024 ∷
       16 August 2024 ∷ 14 August 2024 ∷ 13 August 2024 ∷ 12 August 2024 ∷ 9 August 2024 ∷ []
   pub august-reach : reachOf (marked (14 July 2024) (28 August 2024) (7 August 2024 ∷ 23 August 2024 ∷ [])) (at15 8700 9006) ≡ 19
@@ -122,7 +118,7 @@ pub record Checks : Type 0 where
   pub august-cut : verdict group (marked (10 August 2024) (28 August 2024) (23 August 2024 ∷ [])) (at15 8700 9006) 4 ≡
       refused (MarginTooShort 44)
   -- "Saturday 2 February 2019, P 6900, no marks, all complete: 26, 19, 12 January (003, Table 4)."
-  pub table-4 : windowOf (marked (1 January 2019) (2 February 2019) []) (at15 6900 6972) ≡
+  pub table-4 : windowDays group (marked (1 January 2019) (2 February 2019) []) (at15 6900 6972) ≡
       26 January 2019 ∷ 19 January 2019 ∷ 12 January 2019 ∷ []
   -- "four-quarter sums 27500, 27100, 25400, 24200, 23600, 22800, 23700, 22400, 20200, 21500 (003, Table 5 in kW), day 1 nearest: days 1, 2,
   -- 3, 4, 7 chosen."

@@ -100,6 +100,8 @@ pub record Demand3 (group : ℕ → Group) (t : Table) (r : Request) (room : ℕ
       → methodology group t r room ≡ refused (MarginTooShort (wholeReach (highXofY group r)))
   pub at-most : wholeReach (highXofY group r) ≤ 45
   pub enough : wholeReach (highXofY group r) ≤ heldBefore t r → isMargin (methodology group t r room) ≡ false
+  -- nor is it where the table starts at P or earlier
+  pub since : t .first ≤ r .participation → isMargin (methodology group t r room) ≡ false
   -- "The reported reach is the fewest days before the event that give this result.": a part of the table with so many days before the event
   -- gets the same reply, a part with fewer gets "margin too short", and there are parts with any number of days up to the reach
   pub reports : isSettled (methodology group t r room) ≡ true

@@ -1,10 +1,10 @@
 -- 01, "Choosing the days": window, chosen days, reach and margin, for any method of choosing and any finish. A method is what one request
 -- asks of the days; `HighXofY` is the methodology's. `A` is what is held of a day, `O` what comes after the choice.
-use Prim.Native.Nat.{ℕ, zero, suc, _-_}
-use mathlib.Core.Bool.{Bool, true, false, cond, _&&_}
-use mathlib.Core.List.{List, [], _∷_, _++_, map}
+use Prim.Native.Nat.{ℕ, _-_}
+use mathlib.Core.Bool.{Bool, cond, _&&_}
+use mathlib.Core.List.{List, _++_, map}
 use lib.ListN.{length, take}
-use lib.Dec.{leb, ltb, eqb}
+use lib.Dec.{ltb, eqb}
 use Rattle.lists.specs.Lists.{keep, any, leastOf}
 use Rattle.method.specs.Table.{History, held}
 

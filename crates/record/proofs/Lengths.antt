@@ -1,13 +1,13 @@
 -- How long what a file says is.
 use Prim.Native.Nat.{ℕ, zero, suc, _*_}
-use mathlib.Core.Path.{_≡_, refl, sym, _∙_, ap}
+use mathlib.Core.Path.{_≡_, refl, ap}
 use mathlib.Core.List.{List}
 use native.Mathlib.Omega.{arith}
 use lib.ListN.{length, drop, length-append}
 use Rattle.method.proofs.Tables.{size-is}
 use Rattle.record.specs.declared.Shape.{Shape}
 use Rattle.record.specs.declared.Read.the-variants.{File}
-use Rattle.record.specs.Reader.{dyLength, firstIn, daysIn, marksFrom, numbers, readingsFrom, shapeIn, tableIn, tableWithin, readFile}
+use Rattle.record.specs.Reader.{dyLength, marksFrom, numbers, readingsFrom, shapeIn, tableIn, tableWithin, readFile}
 use Rattle.record.proofs.Files.{shape-fits}
 
 pub numbers-length : (count : ℕ) (left : List ℕ) → length (numbers count left) ≡ count
@@ -25,21 +25,7 @@ unfolding readingsFrom
 readings-length zero d left = refl
 readings-length (suc h) d left = rw (length-append, numbers-length, readings-length h, size-is) (omega arith)
 
--- how long the table of an accepted file is
-module _ (file : List ℕ) {shape : Shape} (r : readFile file ≡ File shape) where
-  pub days-held : shape .days ≡ daysIn file
-  unfolding shapeIn
-  days-held = rw (shape-fits file shape r .is-shape)
-
-  pub marks-held : length (tableIn file .marks) ≡ shape .days
-  unfolding tableIn
-  marks-held = marks-length (daysIn file) (firstIn file) (drop 8 file) ∙ sym days-held
-
-  pub readings-held : length (tableIn file .readings) ≡ 96 * shape .days
-  unfolding tableIn
-  readings-held = readings-length (daysIn file) (firstIn file) (drop 8 file) ∙ (rw days-held)
-
-  -- what it holds, by its shape
-  pub table-within : tableWithin shape file ≡ tableIn file
-  unfolding tableWithin tableIn shapeIn
-  table-within = rw (shape-fits file shape r .is-shape)
+-- what an accepted file holds, by its shape
+pub table-within : (file : List ℕ) {shape : Shape} → readFile file ≡ File shape → tableWithin shape file ≡ tableIn file
+unfolding tableWithin tableIn shapeIn
+table-within file {shape} r = rw (shape-fits file shape r .is-shape)
