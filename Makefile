@@ -31,9 +31,10 @@ all: $(library) $(program) ## prove and build the archive, its header, a pkg-con
 help: ## list the targets
 	@sed -n 's/^\([a-z]*\):.*## /\1\t/p' $(MAKEFILE_LIST) | expand -t 10
 
-demo: $(program) ## build what is needed and list samples/worked.rec
+demo: $(program) ## build what is needed and list samples/worked.rec; it has to be samples/worked.listing
 	@echo 'honeyplank-list < samples/worked.rec'
-	@tests/x86 run $(program) < samples/worked.rec
+	@tests/x86 run $(program) < samples/worked.rec | tee build/demo.listing
+	@cmp build/demo.listing samples/worked.listing
 
 check: ## prove every crate that changed, and run the programs
 	$(call need,rt)
@@ -56,11 +57,11 @@ samples: ## make the sample files again from their texts
 	samples/make
 
 install: all ## install under PREFIX (/usr/local), below DESTDIR if given
-	install -d $(DESTDIR)$(PREFIX)/lib/pkgconfig $(DESTDIR)$(PREFIX)/include $(DESTDIR)$(PREFIX)/bin
-	install -m 644 build/lib/libhoneyplank.a $(DESTDIR)$(PREFIX)/lib/
-	install -m 644 build/lib/pkgconfig/honeyplank.pc $(DESTDIR)$(PREFIX)/lib/pkgconfig/
-	install -m 644 build/include/honeyplank.h $(DESTDIR)$(PREFIX)/include/
-	install -m 755 $(program) $(DESTDIR)$(PREFIX)/bin/
+	install -d "$(DESTDIR)$(PREFIX)"/{lib/pkgconfig,include,bin}
+	install -m 644 build/lib/libhoneyplank.a "$(DESTDIR)$(PREFIX)/lib/"
+	install -m 644 build/lib/pkgconfig/honeyplank.pc "$(DESTDIR)$(PREFIX)/lib/pkgconfig/"
+	install -m 644 build/include/honeyplank.h "$(DESTDIR)$(PREFIX)/include/"
+	install -m 755 $(program) "$(DESTDIR)$(PREFIX)/bin/"
 
 bench: all ## the entries' and the program's speed against plain C, in one run
 	$(call need,gcc)
@@ -88,12 +89,15 @@ fresh: ## demo and the gate without its proofs on a plain Debian, made for it (m
 clean: ## remove what was built
 	rm -rf target build
 
+# rt makes the archive each time, but the program only where its stamp does not stand; a program that is gone or empty has no stamp
 target/staticlib/libhost.a: $(proved_from)
 	$(call prove,staticlib host)
+	@test -s $@ && touch $@
 
 target/bin/list: $(proved_from)
+	@[ -s $@ ] || rm -f target/stamp/list
 	$(call prove,check list)
-	@touch $@
+	@test -s $@ && touch $@
 
 build/lib/libhoneyplank.a: target/staticlib/libhost.a
 build/bin/honeyplank-list: target/bin/list

@@ -13,14 +13,21 @@ function has(text, name,    rest, at, around) {
   return 0
 }
 
-# the parts of an ensures that are not the same on both sides of their sign
+# a text's words with one space between them, however it is bracketed and laid out
+function words(text) {
+  gsub(/[ \t(){}]+/, " ", text)
+  gsub(/^ | $/, "", text)
+  return text
+}
+
+# the parts of an ensures that have not the same words on both sides of their sign
 function telling(text,    parts, n, i, sides, out) {
   gsub(/⌜|⌝/, " × ", text)
+  gsub(/[ \t]+/, " ", text)
   n = split(text, parts, / × /)
   for (i = 1; i <= n; i++) {
-    gsub(/^[ \t({]+|[ \t)}]+$/, "", parts[i])
-    if (split(parts[i], sides, / (≡|≤|↔) /) == 2 && sides[1] == sides[2]) continue
-    if (parts[i] != "Unit") out = out " " parts[i]
+    if (split(parts[i], sides, / (≡|≤|↔) /) == 2 && words(sides[1]) == words(sides[2])) continue
+    if (words(parts[i]) != "Unit") out = out " " words(parts[i])
   }
   return out
 }
@@ -62,7 +69,7 @@ FNR == 1 { open = 0 }
 {
   line = $0
   sub(/(^|[ \t])\/\/.*$/, "", line)
-  if (!open && line ~ /^[ \t]*(#\[no_mangle\][ \t]*)?pub (extern "C" )?fn /) { open = 1; began = FNR; whole = "" }
+  if (!open && line ~ /^[ \t]*(#\[no_mangle\][ \t]*)?pub ((const|unsafe|extern "C") )*fn /) { open = 1; began = FNR; whole = "" }
   if (!open) next
   whole = whole " " line
   if (line ~ /^[ \t]*\{[ \t]*$/ || line ~ /[^ \t][ \t]*\{[ \t]*$/) { judge(whole); open = 0 }

@@ -40,7 +40,7 @@ function binders(text,    rest, found) {
   }
 }
 
-FNR == 1 { block = "" }
+FNR == 1 { block = begun = "" }
 
 {
   line = $0
@@ -49,10 +49,14 @@ FNR == 1 { block = "" }
   binders(line)
   match(line, /^[ \t]*/)
   indent = RLENGTH
-  if (block != "" && indent <= block_indent) block = ""
   head = substr(line, indent + 1)
+  # what was begun above goes on here
+  if (begun != "" && indent > begun_indent) { head = begun " " head; indent = begun_indent }
+  whole = head
+  begun = ""
+  if (block != "" && indent <= block_indent) block = ""
   public = 0
-  while (match(head, /^(unfoldable|abbrev|pub|axiom|mutual)[ \t]+/)) {
+  while (match(head, /^(unfoldable|abbrev|pub|axiom)[ \t]+/)) {
     if (head ~ /^pub/) public = 1
     head = substr(head, RLENGTH + 1)
   }
@@ -68,8 +72,11 @@ FNR == 1 { block = "" }
   } else if (head !~ /^(module|let|in|where|λ|record) /) {
     names = before(":", head)
     if (names !~ /[=;]|→|λ/) each(block != "" ? block : public ? "pub" : "own", names)
-    names = before("=", head, 1)
-    gsub(/[(){},]/, " ", names)
-    if (sub(/^[^ ]+ /, "", names)) each("pattern", names)
+    left = before("=", head, 1)
+    # neither sign, and not within what the last one began: its sign is on a later line
+    if (names left != "") last_indent = indent
+    else if (indent <= last_indent && head !~ /^([])}]|(where|mutual)[ \t]*$)/) { begun = whole; begun_indent = indent }
+    gsub(/[(){},]/, " ", left)
+    if (sub(/^[^ ]+ /, "", left)) each("pattern", left)
   }
 }
