@@ -72,5 +72,5 @@ FNR == 1 { open = 0 }
   if (!open && line ~ /^[ \t]*(#\[no_mangle\][ \t]*)?pub ((const|unsafe|extern "C") )*fn /) { open = 1; began = FNR; whole = "" }
   if (!open) next
   whole = whole " " line
-  if (line ~ /^[ \t]*\{[ \t]*$/ || line ~ /[^ \t][ \t]*\{[ \t]*$/) { judge(whole); open = 0 }
+  if (line ~ /\{\}?[ \t]*$/) { judge(whole); open = 0 }
 }
