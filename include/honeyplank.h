@@ -10,8 +10,8 @@
  *    larger buffer.
  *
  * What a caller may count on:
- *  - A refusal changes no buffer; an answer writes only the quarters of the event: no entry that gives a baseline is lent anything else for writing. (A
- *    listing is no baseline but a text: hp_listing writes only that, and nothing where it does not fit.)
+ *  - A refusal changes no buffer; an answer writes only the quarters of the event: an entry that gives a baseline has nothing but `out` to
+ *    write. (A listing is no baseline but a text: hp_listing writes only that, and nothing where it does not fit.)
  *  - No state, no heap, no files, no locks: any threads may call at once. It always returns.
  *  - HP_STACK bytes of stack are enough for any entry but hp_listing, for which HP_STACK_LISTING are.
  *
