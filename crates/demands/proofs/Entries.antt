@@ -4,11 +4,12 @@ use mathlib.Core.Path.{_≡_, refl, sym, ap, _∙_}
 use mathlib.Core.Bool.{Bool, true, false, not, cond}
 use mathlib.Core.List.{List, [], _∷_}
 use native.Mathlib.Omega.{arith}
-use lib.ListN.{length}
+use lib.ListN.{length, replicate}
 use lib.Dec.{ltb, eqb}
 use lib.IntN.{ℤ, pos}
 use borrow.Author.Tests.{eq-eqb}
 use Rattle.lists.specs.Lists.{all}
+use Rattle.lists.proofs.Unique.{unique}
 use Rattle.calendar.specs.Holidays.{group}
 use Rattle.method.specs.declared.Request.{Request}
 use Rattle.method.specs.declared.Refusal.{Refusal}
@@ -18,9 +19,13 @@ use Rattle.method.specs.Table.{Table, held, history}
 use Rattle.method.specs.Method.{outcome}
 use Rattle.method.specs.HighXofY.{highXofY}
 use Rattle.method.specs.Verdict.{Reply, refused, answered, number, goodRequest, tableRefusals, requestRefusals, closing, firstOf, methodology, verdict}
+use Rattle.method.specs.Verdict.{written}
 use Rattle.method.proofs.Replies.{other, none-early}
 use Rattle.answer.specs.declared.Answer.{Answer}
 use Rattle.answer.specs.Answer.{answerOf}
+use Rattle.baseline.proofs.Laws.{answers-unique}
+use Rattle.bytewise.specs.Bytewise.{bytesWritten}
+use Rattle.bytewise.proofs.Laws.{file-answers-unique}
 use Rattle.bytewise.proofs.Rooms.{room-enough}
 use Rattle.entry.specs.Entry.{fileReply}
 use Rattle.telling.specs.Names.{byName, refusalRow, rowFrom}
@@ -28,6 +33,7 @@ use Rattle.telling.specs.Telling.{answerRow, toldBy}
 use Rattle.host.specs.Host.{FileCall, TableCall}
 use Rattle.demands.specs.Calls.{Call, overTable, ofFile, extract, request, room, result}
 use Rattle.demands.specs.Rows.{fileRows}
+use Rattle.demands.specs.Demands.{Demands}
 use Rattle.demands.specs.Entries.{EntryDemands, Tells}
 use Rattle.demands.proofs.Rows.{file-rows}
 use Rattle.demands.proofs.Results.{replyOf, over-extract, gets-answer, numberIn, result-is}
@@ -161,3 +167,49 @@ pub file-tells : (file : List ℕ) (place name : ℕ) {told : ℤ} → told ≡ 
     → Tells (ofFile file place) name told
 unfolding roomy
 file-tells file place name e = tells (ofFile file place) name (e ∙ ap (λ (x : Reply). toldBy (answerOf x) name) (file-rows file place 384))
+
+-- ---- one result: no two differing results meet a contract
+pub demands-unique : (c : Call) {a a′ : Answer} {out after after′ : List ℕ} → Demands c a out after → Demands c a′ out after′
+    → (a ≡ a′) × (after ≡ after′)
+demands-unique (overTable t r) p q = answers-unique (p .first .one) (q .first .one)
+demands-unique (ofFile file place) p q = file-answers-unique (p .first .one) (q .first .one)
+
+pub entry-unique : (c : Call) {r r′ : ℕ} {out after after′ : List ℕ} → EntryDemands c r out after → EntryDemands c r′ out after′
+    → (r ≡ r′) × (after ≡ after′)
+entry-unique c p q =
+    let u = demands-unique c (p .meets) (q .meets) in
+    (p .number ∙ ap result (u .0) ∙ sym (q .number), u .1)
+
+-- a call with room for any event, whose answer is not 7
+pub record Roomy (c : Call) : Type 0 where
+  pub answer : Answer
+  pub out : List ℕ
+  pub after : List ℕ
+  pub meets : Demands c answer out after
+  pub differs : result answer ≡ 7 → ⊥
+
+roomy-call : (c : Call) → Roomy c
+unfolding roomy fileRows firstOf
+roomy-call (overTable t r) =
+    record {
+      answer = answerOf (verdict group t r 96);
+      out = replicate 96 0;
+      after = written (verdict group t r 96) (replicate 96 0);
+      meets = demands (overTable t r) _ _ _ (record { answer = refl; output = refl });
+      differs = λ e. never (overTable t r) (sym (result-is (verdict group t r 96)) ∙ e);
+    }
+roomy-call (ofFile file place) =
+    record {
+      answer = answerOf (fileReply file place 384);
+      out = replicate 384 0;
+      after = bytesWritten (fileReply file place 384) (replicate 384 0);
+      meets = demands (ofFile file place) _ _ _ (record { answer = refl; output = refl });
+      differs = λ e.
+          never (ofFile file place)
+          (sym (ap numberIn (file-rows file place 384)) ∙ sym (result-is (fileReply file place 384)) ∙ e);
+    }
+
+pub tells-unique : (c : Call) (name : ℕ) {x y : ℤ} → Tells c name x → Tells c name y → x ≡ y
+tells-unique c name p q =
+    let k = roomy-call c in
+    unique (p .same (k .answer) (k .out) (k .after) (k .meets) (k .differs)) (q .same (k .answer) (k .out) (k .after) (k .meets) (k .differs))
