@@ -2,7 +2,7 @@
 use Prim.Native.Nat.{ℕ, _≤_, _<_}
 use mathlib.Core.Path.{_≡_, refl, sym, ap, _∙_}
 use mathlib.Core.Logic.{⊎-elim}
-use mathlib.Core.Bool.{true, false, not}
+use mathlib.Core.Bool.{true, false}
 use mathlib.Core.List.{List, [], _∷_, _++_}
 use native.Mathlib.Omega.{arith}
 use lib.ListN.{length, take, drop, length-append, length-drop}
@@ -34,7 +34,7 @@ use Rattle.demands.proofs.Rows.{table-rows}
 use Rattle.demands.proofs.First.{first-in, first-of, none-first}
 use Rattle.demands.proofs.Results.{replyOf, gets-same, Gives, gives-gets, gets-answer, is-refused, is-answered, given-refused, given-answered}
 use Rattle.demands.proofs.Results.{numberIn, result-is, reported-is, settled-is, margin-is, gets-kept, gets-output, stand-length}
-use Rattle.demands.proofs.Passing.{Late, late, none-earlier, settled-late, past}
+use Rattle.demands.proofs.Passing.{Late, over-formed, late, none-earlier, settled-late}
 use Rattle.demands.proofs.Answered.{chosen-count, numerators-count, over-60-or-24, quarters-fit}
 
 module _ (c : Call) (a : Answer) (out after : List ℕ) (gives : Gives c a out after) where
@@ -199,8 +199,8 @@ module _ (c : Call) (a : Answer) (out after : List ℕ) (gives : Gives c a out a
 
   -- ---- what plays no part
   plays-none : NoPart c a out after
-  plays-none e u x n =
-      let f = past c out (rw number-is at (ap not e)) in
+  plays-none files tables u x n =
+      let f = over-formed c out files tables in
       let other = none-of-table u (rw table-rows at n) in
       gets-same c a out after
       (f .its ∙

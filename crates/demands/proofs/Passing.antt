@@ -11,7 +11,7 @@ use Rattle.lists.proofs.Bools.{bool-cases, clash, or-none-left, or-none-right}
 use Rattle.calendar.specs.Holidays.{group}
 use Rattle.method.specs.declared.Refusal.{Refusal}
 use Rattle.method.specs.Table.{Table, held, history, isExtract}
-use Rattle.method.specs.Verdict.{Reply, answered, firstOf, methodology, verdict, wellFormed}
+use Rattle.method.specs.Verdict.{Reply, answered, firstOf, verdict, wellFormed}
 use Rattle.method.specs.Demands.{NoneEarlier}
 use Rattle.method.proofs.Replies.{test, other, none-early, early-other}
 use Rattle.method.proofs.Extract.{none-of-table}
@@ -46,7 +46,7 @@ pub record OverFormed (c : Call) (out : List ℕ) : Type 0 where
   pub well : wellFormed (extract c) ≡ true
 
 -- so it is where none of 11, 12 and 1 to 3 applies
-over-formed : (c : Call) (out : List ℕ) → any applies (fileRows c) ≡ false → any applies (tableRows (extract c)) ≡ false → OverFormed c out
+pub over-formed : (c : Call) (out : List ℕ) → any applies (fileRows c) ≡ false → any applies (tableRows (extract c)) ≡ false → OverFormed c out
 over-formed c out n m =
     let is = none-of-table (extract c) (rw table-rows at m) in
     record { its = over-extract c out ∙ none-early (fileRows c) _ n; isOne = is .0; well = is .1 }
@@ -104,22 +104,3 @@ settled-late n e = go (eqb n 0) (eqb n 8) (eqb n 9 || (eqb n 10 || false)) e
     go true b x e = refl
     go false true x e = refl
     go false false x e = e
-
--- a reply other than 11, 12 and 1 to 3
-abbrev pub isPast : Reply → Bool
-isPast x = not (member (numberIn x) (11 ∷ 12 ∷ 1 ∷ 2 ∷ 3 ∷ []))
-
-past-other : (c : Call) → all (other isPast) (fileRows c ++ tableRows (extract c)) ≡ true
-unfolding fileRows tableRows all member
-past-other (overTable t r) = refl
-past-other (ofFile file place) = refl
-
-by-table : (c : Call) (out : List ℕ)
-    → replyOf c out ≡ firstOf (fileRows c ++ tableRows (extract c)) (methodology group (extract c) (request c) (room c out))
-unfolding verdict
-by-table c out = rw (over-extract c out, first-append (fileRows c) (tableRows (extract c)), table-rows (extract c))
-
-pub past : (c : Call) (out : List ℕ) → isPast (replyOf c out) ≡ true → OverFormed c out
-past c out e =
-    let n = passes isPast (fileRows c ++ tableRows (extract c)) _ (past-other c) (rw (by-table c out) at e) in
-    over-formed c out (none-before (fileRows c) _ n) (none-after (fileRows c) _ n)

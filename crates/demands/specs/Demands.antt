@@ -22,7 +22,7 @@ use Rattle.choose.specs.Choice.{inFive}
 use Rattle.answer.specs.declared.Given.the-variants.{Answered, Refused}
 use Rattle.answer.specs.declared.Answer.{Answer}
 use Rattle.demands.specs.Calls.{Call, extract, request, perQuarter, stand, room, Gets, result, reported}
-use Rattle.demands.specs.Rows.{tableRows, earlier, rows, applies, FirstIn, answerOver, numeratorsOf, chosenOf, reachOf, AOf, BOf, NOf}
+use Rattle.demands.specs.Rows.{fileRows, tableRows, earlier, rows, applies, FirstIn, answerOver, numeratorsOf, chosenOf, reachOf, AOf, BOf, NOf}
 
 -- a number is one of these
 abbrev pub OneOf : ℕ → List ℕ → Type 0
@@ -85,11 +85,12 @@ pub record SameBefore (t u : Table) (r : Request) : Type 0 where
   pub days : (d : ℕ) → d < r .event → held (history t) d ≡ true → dayOf u d ≡ dayOf t d
   pub readings : take (r .s - 96) (dayOf u (r .event) .readings) ≡ take (r .s - 96) (dayOf t (r .event) .readings)
 
--- "Day D's marks, its readings from s on, and all later days play no part beyond refusals 1 to 3.": where the call gives none of 11, 12 and 1 to 3,
--- and none of 1 to 3 applies to `u`, `u` gets what the call gives
+-- "Day D's marks, its readings from s on, and all later days play no part beyond refusals 1 to 3.": where none of 11, 12 and 1 to 3 applies to the
+-- call, and none of 1 to 3 to `u`, `u` gets what the call gives
 abbrev pub NoPart : Call → Answer → List ℕ → List ℕ → Type 0
 NoPart c a out after =
-    member (result a) (11 ∷ 12 ∷ 1 ∷ 2 ∷ 3 ∷ []) ≡ false → (u : Table) → SameBefore (extract c) u (request c) → any applies (tableRows u) ≡ false
+    any applies (fileRows c) ≡ false → any applies (tableRows (extract c)) ≡ false
+    → (u : Table) → SameBefore (extract c) u (request c) → any applies (tableRows u) ≡ false
     → Gets c (verdict group u (request c) (room c out)) a out after
 
 pub record Demands (c : Call) (a : Answer) (out after : List ℕ) : Type 0 where
