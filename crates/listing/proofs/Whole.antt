@@ -13,6 +13,7 @@ use Rattle.lists.proofs.Unique.{unique}
 use Rattle.text.specs.Text.{put, Puts}
 use Rattle.text.proofs.Text.{put-whole}
 use Rattle.filling.specs.Told.{toldFirst}
+use Rattle.filling.proofs.Told.{tells-none}
 use Rattle.record.specs.declared.Shape.{Shape}
 use Rattle.record.specs.declared.Read.the-variants.{File, Refused}
 use Rattle.record.specs.Reader.{readFile, tableIn, requestAt}
@@ -84,12 +85,11 @@ module _ (file out : List ℕ) where
         rw (w .holds, put-whole own 0 (listing file) (w .fits), zero-add) (take-at (listing file) _ end (sym long-is))
 
     pub not-fitting : length out < end → Lists file out NoRoom out
-    unfolding toldFirst
     not-fitting h =
         let long : length out < length (listing file) = omega (arith, long-is) in
         record {
           result = rw (lt-leb (length (listing file)) (length out) long);
-          output = rw (lt-leb (length (listing file)) (length out) long);
+          output = tells-none (listing file) out long;
         }
 
     pub copied : {r : ℕ} {after : List ℕ} → end ≤ length out → Puts out 0 (take end filled) r after → Lists file out (Length end) after
