@@ -14,9 +14,11 @@ use Rattle.calendar.specs.declared.Group.the-variants.{Weekday, Saturday, Holid
 use Rattle.method.specs.declared.Request.{Request}
 use Rattle.method.specs.declared.Refusal.{Refusal}
 use Rattle.method.specs.Table.{Table, Day, History, history}
-use Rattle.method.specs.Method.{Method, short, few, chose, outcome, window, chosen, reach, isShort, wholeReach, dated}
+use Rattle.method.specs.Method.{Method, short, few, chose, outcome, window, chosen, reach, isShort, wholeReach, daysOf}
 use Rattle.method.specs.Adjustment.{ruler, adjustmentEnd, A, B, adjustment, Baseline, floored, baseline, baselineAt}
-use Rattle.method.specs.HighXofY.{N, highXofY}
+use Rattle.method.specs.HighXofY.{N}
+use Rattle.method.specs.Rules.{methodBy}
+use Rattle.method.specs.Requested.{methodOf}
 use Rattle.method.specs.Verdict.{Answer, Reply, answered, goodRequest, requestRefusals, tableRefusals, closing, firstOf, methodology, verdict}
 use Rattle.places.proofs.Places.{length-places}
 use Rattle.refusals.proofs.FirstRefusal.{GoodRequest, good-request}
@@ -81,15 +83,15 @@ worked r n days yesterday today {b} e =
     let z = adjustment n (A (ruler yesterday today) end) (B days end) in
     rw (← some-window (eqb end 0) e) (quarters-are r n days z)
 
-chosen-most : (group : ℕ → Group) (r : Request) (h : History Day) → length (dated (chosen (highXofY group r) h)) ≤ N (group (r .event))
-unfolding chosen highXofY
+chosen-most : (group : ℕ → Group) (r : Request) (h : History Day) → length (daysOf (chosen (methodOf group r) h)) ≤ N (group (r .event))
+unfolding chosen methodOf methodBy
 chosen-most group r h =
-    let size = length (window (highXofY group r) h) in
+    let size = length (window (methodOf group r) h) in
     let n = N (group (r .event)) in
     rw (length-map, length-take) (omega (arith, taken-most (ltb size n) n))
 
 -- the request is good, and there is room for its quarters
-asked : (t : Table) (r : Request) (room : ℕ) (reply : Reply) {a : Answer} → firstOf (requestRefusals t r room) reply ≡ answered a
+asked : (t : Table) (r : Request) (room : ℕ) (reply : Reply) {a : Answer} → firstOf (requestRefusals (history t) r room) reply ≡ answered a
     → GoodRequest r × (r .e - r .s ≤ room)
 unfolding requestRefusals
 asked t r room reply e =
@@ -100,7 +102,7 @@ asked t r room reply e =
 
 -- what an answer over a lent table has
 pub sound : (group : ℕ → Group) (t : Table) (r : Request) (room : ℕ) {a : Answer} → verdict group t r room ≡ answered a → Sound r room a
-unfolding verdict methodology outcome highXofY
+unfolding verdict methodology outcome methodOf methodBy
 sound group t r room {a} e =
     record {
       few = rw (c .same-days) (omega (arith, chosen-most group r (history t), five-most (group (r .event))));
@@ -110,15 +112,15 @@ sound group t r room {a} e =
     }
   where
     how : Method Day (Option Baseline)
-    how = highXofY group r
+    how = methodOf group r
 
     h : History Day
     h = history t
 
-    m : firstOf (requestRefusals t r room) (closing (outcome how h)) ≡ answered a
-    m = first-answered (tableRefusals t) (methodology group t r room) e
+    m : firstOf (requestRefusals (history t) r room) (closing (outcome how h)) ≡ answered a
+    m = first-answered (tableRefusals t) (methodology group (history t) r room) e
 
-    c : Closed a (dated (chosen how h)) (how .finish (chosen how h) (h .day (r .event - 1)) (h .day (r .event)))
+    c : Closed a (daysOf (chosen how h)) (how .finish (chosen how h) (h .day (r .event - 1)) (h .day (r .event)))
     c =
-        closed (isShort how h) (eqb (how .taken (length (window how h))) 0) (wholeReach how) (length (window how h)) (reach how h) (dated (chosen how h))
-        (reach how h) _ (first-answered (requestRefusals t r room) (closing (outcome how h)) m)
+        closed (isShort how h) (eqb (how .taken (length (window how h))) 0) (wholeReach how) (length (window how h)) (reach how h) (daysOf (chosen how h))
+        (reach how h) _ (first-answered (requestRefusals (history t) r room) (closing (outcome how h)) m)

@@ -14,8 +14,11 @@ use Rattle.calendar.specs.declared.Group.{Group}
 use Rattle.method.specs.declared.Request.{Request}
 use Rattle.method.specs.Table.{Day, History, held, eventBit, outageBit}
 use Rattle.method.specs.Adjustment.{baseline}
-use Rattle.method.specs.HighXofY.{highXofY, higher, insertBy, sortBy, eligible, spare, complete, N}
-use Rattle.method.specs.Method.{Method, Outcome, short, few, chose, outcome, dated, wholeReach, seen, eligibles, spares, window, chosen}
+use Rattle.method.specs.Eligible.{higher, insertBy, sortBy, eligible, spare, complete}
+use Rattle.method.specs.HighXofY.{N}
+use Rattle.method.specs.Rules.{methodBy}
+use Rattle.method.specs.Requested.{methodOf}
+use Rattle.method.specs.Method.{Method, Outcome, short, few, chose, outcome, daysOf, wholeReach, seen, eligibles, spares, window, chosen}
 use Rattle.method.specs.Method.{reach, isShort}
 use Rattle.method.proofs.HighXofY.{lawful}
 use Rattle.method.proofs.Stable.{yesterday-held}
@@ -34,7 +37,7 @@ use Rattle.baseline.proofs.Whole.{event-held}
 -- ---- a choice and its outcome
 module _ {A O : Type 0} (m : Method A O) (h : History A) where
   abbrev picked : Chosen
-  picked = record { days = inFive (dated (chosen m h)); count = length (chosen m h); reach = reach m h }
+  picked = record { days = inFive (daysOf (chosen m h)); count = length (chosen m h); reach = reach m h }
 
   abbrev choice : Bool → Bool → Choice
   choice s f =
@@ -42,7 +45,7 @@ module _ {A O : Type 0} (m : Method A O) (h : History A) where
       (record { choosing = Days; chosen = picked }))
 
   abbrev ending : Outcome O
-  ending = chose (dated (chosen m h)) (reach m h) (m .finish (chosen m h) (h .day (m .event - 1)) (h .day (m .event)))
+  ending = chose (daysOf (chosen m h)) (reach m h) (m .finish (chosen m h) (h .day (m .event - 1)) (h .day (m .event)))
 
   abbrev ended : Bool → Bool → Outcome O
   ended s f = cond s (short (wholeReach m)) (cond f (few (length (window m h)) (reach m h)) ending)
@@ -130,7 +133,7 @@ every-keep P Q q f (x ∷ xs) e = go (q x) refl (every-keep P Q q f xs (e .1))
 -- ---- the chosen days of a history
 module _ (group : ℕ → Group) (r : Request) (h : History Day) where
   abbrev method : Method Day (mathlib.Core.Option.Option Rattle.method.specs.Adjustment.Baseline)
-  method = highXofY group r
+  method = methodOf group r
 
   abbrev Known : ℕ × Day → Type 0
   Known p = (p .1 ≡ h .day (p .0)) × (held h (p .0) ≡ true)
@@ -160,14 +163,14 @@ module _ (group : ℕ → Group) (r : Request) (h : History Day) where
   seen-known = known (method .relevant)
 
   eligibles-whole : Every Whole (eligibles method h)
-  unfolding eligibles highXofY
+  unfolding eligibles methodOf methodBy
   eligibles-whole =
       every-keep Known Whole (λ (p : ℕ × Day). eligible (p .1))
       (whole-of eligible (λ d e. complete-first (complete d) (not (eventBit (d .mark))) (not (outageBit (d .mark))) (unfold eligible in e)))
       (seen method h) seen-known
 
   spares-whole : Every Whole (spares method h)
-  unfolding spares highXofY
+  unfolding spares methodOf methodBy
   spares-whole =
       every-sorted Whole (higher r) (keep (λ (p : ℕ × Day). spare (p .1)) (seen method h))
       (every-keep Known Whole (λ (p : ℕ × Day). spare (p .1))
@@ -182,12 +185,12 @@ module _ (group : ℕ → Group) (r : Request) (h : History Day) where
       (every-take Whole (method .fill - length (eligibles method h)) (spares method h) spares-whole)
 
   chosen-whole : Every Whole (chosen method h)
-  unfolding chosen highXofY
+  unfolding chosen methodOf methodBy
   chosen-whole =
       every-take Whole (method .taken (length (window method h))) (sortBy (higher r) (window method h))
       (every-sorted Whole (higher r) (window method h) window-whole)
 
-  days-whole : (l : List (ℕ × Day)) → Every Whole l → (all (isWhole h) (dated l) ≡ true) × (withDays h (dated l) ≡ l)
+  days-whole : (l : List (ℕ × Day)) → Every Whole l → (all (isWhole h) (daysOf l) ≡ true) × (withDays h (daysOf l) ≡ l)
   unfolding all withDays
   days-whole [] e = (refl, refl)
   days-whole (p ∷ ps) e =
@@ -200,7 +203,7 @@ module _ (group : ℕ → Group) (r : Request) (h : History Day) where
     n = N (group (r .event))
 
     window-enough : ltb (length (window method h)) n ≡ false
-    unfolding highXofY
+    unfolding methodOf methodBy
     window-enough = go (ltb (length (window method h)) n) refl
       where
         go : (b : Bool) → ltb (length (window method h)) n ≡ b → ltb (length (window method h)) n ≡ false
@@ -208,14 +211,14 @@ module _ (group : ℕ → Group) (r : Request) (h : History Day) where
         go false e = e
 
     pub chosen-size : length (chosen method h) ≡ n
-    unfolding chosen highXofY
+    unfolding chosen methodOf methodBy
     chosen-size =
         rw (window-enough, length-take, length-sorted (higher r) (window method h))
         (omega (arith, ltb-false (length (window method h)) n window-enough))
 
     -- the event is not on day 0
     pub some-before : held h (r .event) ≡ true → 0 < r .event
-    unfolding highXofY
+    unfolding methodOf methodBy
     some-before holds = yesterday-held method (lawful group r) h holds enough .0
 
 -- days in five places are as many as there are
@@ -224,21 +227,21 @@ five-take l h = take-take (length l) 5 (l ++ replicate 5 0) h ∙ take-append-se
 
 -- what `finish` asks, and its reply
 module _ (group : ℕ → Group) (r : Request) (rooms : Directory) (readings : List ℕ) (room : ℕ) (fit : Fit r rooms readings room) (c : Choice)
-    (x : Chose (highXofY group r) (roomHistory r rooms readings) c) where
+    (x : Chose (methodOf group r) (roomHistory r rooms readings) c) where
   abbrev h : History Day
   h = roomHistory r rooms readings
 
   abbrev ch : List (ℕ × Day)
-  ch = chosen (highXofY group r) h
+  ch = chosen (methodOf group r) h
 
-  few-days : length (dated ch) ≤ 5
+  few-days : length (daysOf ch) ≤ 5
   few-days = omega (arith, length-map ch (λ (p : ℕ × Day). p .0), chosen-size group r h (x .taken), chosen-few (group (r .event)))
 
-  same-count : length (dated ch) ≡ length ch
+  same-count : length (daysOf ch) ≡ length ch
   same-count = length-map ch (λ (p : ℕ × Day). p .0)
 
-  listed : take (c .chosen .count) (c .chosen .days) ≡ dated ch
-  listed = rw (x .chosen, ← same-count) (five-take (dated ch) few-days)
+  listed : take (c .chosen .count) (c .chosen .days) ≡ daysOf ch
+  listed = rw (x .chosen, ← same-count) (five-take (daysOf ch) few-days)
 
   pub ready : Ready r rooms readings room (c .chosen)
   ready =
@@ -250,13 +253,13 @@ module _ (group : ℕ → Group) (r : Request) (rooms : Directory) (readings : L
         whole = rw listed (days-whole group r h ch (chosen-whole group r h) .0);
       }
 
-  pub reply-is : replyOf r h (c .chosen) ≡ closing (outcome (highXofY group r) h)
-  unfolding highXofY
+  pub reply-is : replyOf r h (c .chosen) ≡ closing (outcome (methodOf group r) h)
+  unfolding methodOf methodBy
   reply-is =
       ap closing ((λ i. chose (listed i) (reaches i) (baseline r (counted i) (same i) (h .day (r .event - 1)) (h .day (r .event)))) ∙
       sym (x .outcome))
     where
-      reaches : c .chosen .reach ≡ reach (highXofY group r) h
+      reaches : c .chosen .reach ≡ reach (methodOf group r) h
       reaches = ap (λ (k : Chosen). k .reach) (x .chosen)
 
       counted : c .chosen .count ≡ N (group (r .event))

@@ -17,10 +17,10 @@ use Rattle.method.specs.declared.Refusal.{Refusal}
 use Rattle.method.specs.Table.{Table, Day, History}
 use Rattle.method.specs.Adjustment.{places, adjustmentEnd, A, S, adjustment, unfloored, floored, baselineAt}
 use Rattle.method.specs.Method.{outcome}
-use Rattle.method.specs.HighXofY.{highXofY}
+use Rattle.method.specs.Requested.{methodOf}
 use Rattle.method.specs.Verdict.{Reply, Answer as Numbers, refused, answered, closing, verdict}
 use Rattle.rooms.specs.declared.Directory.{Directory}
-use Rattle.rooms.specs.Rooms.{partAt, roomHistory}
+use Rattle.rooms.specs.Rooms.{readingsAt, roomHistory}
 use Rattle.choose.specs.declared.Choosing.{Choosing}
 use Rattle.choose.specs.declared.Choosing.the-variants.{Short, Few, Days}
 use Rattle.choose.specs.declared.Chosen.{Chosen}
@@ -73,7 +73,7 @@ module _ (group : ℕ → Group) (t : Table) (r : Request) (room : ℕ) where
     h = roomHistory r rooms (t .readings)
 
     abbrev end : ℕ
-    end = adjustmentEnd r (partAt (t .readings) (getD (rooms .at) 1 0) ++ partAt (t .readings) (getD (rooms .at) 0 0))
+    end = adjustmentEnd r (readingsAt (t .readings) (getD (rooms .at) 1 0) ++ readingsAt (t .readings) (getD (rooms .at) 0 0))
 
     chosen-most : {a : Numbers} (chosen : Chosen) → Ready r rooms (t .readings) room chosen → replyOf r h chosen ≡ answered a → Most a
     chosen-most {a} chosen k e = ⊎-elim refusal answer (bool-cases (eqb end 0))
@@ -84,16 +84,16 @@ module _ (group : ℕ → Group) (t : Table) (r : Request) (room : ℕ) where
         answer : eqb end 0 ≡ false → Most a
         answer z = numbers-most r rooms (t .readings) room chosen k refl refl refl (eqb-false end 0 z) e
 
-    passed-most : {a : Numbers} → closing (outcome (highXofY group r) h) ≡ answered a → Most a
+    passed-most : {a : Numbers} → closing (outcome (methodOf group r) h) ≡ answered a → Most a
     unfolding closing
-    passed-most {a} e = go (choiceOf (highXofY group r) h .choosing) refl
+    passed-most {a} e = go (choiceOf (methodOf group r) h .choosing) refl
       where
-        go : (c : Choosing) → choiceOf (highXofY group r) h .choosing ≡ c → Most a
-        go (Short d) q = absurd (never-both (ap closing (short-is (highXofY group r) h refl q)) e)
-        go (Few n d) q = absurd (never-both (ap closing (few-is (highXofY group r) h refl q)) e)
+        go : (c : Choosing) → choiceOf (methodOf group r) h .choosing ≡ c → Most a
+        go (Short d) q = absurd (never-both (ap closing (short-is (methodOf group r) h refl q)) e)
+        go (Few n d) q = absurd (never-both (ap closing (few-is (methodOf group r) h refl q)) e)
         go Days q =
-            let x = days-is (highXofY group r) h refl q in
-            let c = choiceOf (highXofY group r) h in
+            let x = days-is (methodOf group r) h refl q in
+            let c = choiceOf (methodOf group r) h in
             chosen-most (c .chosen) (ready group r rooms (t .readings) room (fit t r room p) c x)
             (reply-is group r rooms (t .readings) room (fit t r room p) c x ∙ e)
 

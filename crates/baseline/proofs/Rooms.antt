@@ -6,7 +6,7 @@ use Rattle.calendar.specs.declared.Group.{Group}
 use Rattle.method.specs.declared.Request.{Request}
 use Rattle.method.specs.Table.{Table, history}
 use Rattle.method.specs.Method.{outcome}
-use Rattle.method.specs.HighXofY.{highXofY}
+use Rattle.method.specs.Requested.{methodOf}
 use Rattle.method.specs.Verdict.{tableRefusals, requestRefusals}
 use Rattle.rooms.specs.Rooms.{heldRooms, roomHistory}
 use Rattle.choose.proofs.Rooms.{Agree, rooms-outcome}
@@ -19,9 +19,9 @@ use Rattle.baseline.specs.Ready.{Fit}
 
 -- none of the refusals 1 to 7 applies
 module _ (t : Table) (r : Request) (room : ℕ) (p : tested (callRefusals t r room) ≡ Passed) where
-  passes : (tested (tableRefusals t) ≡ Passed) × (tested (requestRefusals t r room) ≡ Passed)
+  passes : (tested (tableRefusals t) ≡ Passed) × (tested (requestRefusals (history t) r room) ≡ Passed)
   unfolding callRefusals
-  passes = passed-both (tableRefusals t) (requestRefusals t r room) p
+  passes = passed-both (tableRefusals t) (requestRefusals (history t) r room) p
 
   good : Good t
   good = table-passed t (passes .0)
@@ -48,5 +48,5 @@ module _ (t : Table) (r : Request) (room : ℕ) (p : tested (callRefusals t r ro
 
   -- the outcome over the directory is the outcome over the table
   pub outcome-is : (group : ℕ → Group)
-      → outcome (highXofY group r) (roomHistory r (directoryOf t (r .event)) (t .readings)) ≡ outcome (highXofY group r) (history t)
+      → outcome (methodOf group r) (roomHistory r (directoryOf t (r .event)) (t .readings)) ≡ outcome (methodOf group r) (history t)
   outcome-is group = rooms-outcome group agree

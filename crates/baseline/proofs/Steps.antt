@@ -25,11 +25,11 @@ use Rattle.method.specs.declared.Refusal.the-variants.{NoAdjustmentWindow}
 use Rattle.method.specs.Table.{Table, Day, History, goodReading, history}
 use Rattle.method.specs.Adjustment.{places, ruler, adjustmentEnd, A, B, S, adjustment, unfloored, floored, baselineAt, baseline}
 use Rattle.method.specs.Method.{outcome}
-use Rattle.method.specs.HighXofY.{highXofY}
+use Rattle.method.specs.Requested.{methodOf}
 use Rattle.method.specs.Verdict.{Reply, Answer as Numbers, refused, answered, tableRefusals, requestRefusals, closing, firstOf}
 use Rattle.method.specs.Verdict.{methodology, verdict, written}
 use Rattle.rooms.specs.declared.Directory.{Directory}
-use Rattle.rooms.specs.Rooms.{partAt, roomHistory}
+use Rattle.rooms.specs.Rooms.{readingsAt, roomHistory}
 use Rattle.window.proofs.Laws.{adjustment-holds, adjustment-least, adjustment-most, window-most}
 use Rattle.places.proofs.Places.{length-over, over-same, over-shift, over-list}
 use Rattle.quarters.specs.Quarters.{quarterSum}
@@ -55,19 +55,19 @@ unfolding written
 refuses out e f = record { answer = e ∙ ap answerOf (sym f); output = rw f }
 
 module _ (group : ℕ → Group) (t : Table) (r : Request) (room : ℕ) where
-  as-call : verdict group t r room ≡ firstOf (callRefusals t r room) (closing (outcome (highXofY group r) (history t)))
+  as-call : verdict group t r room ≡ firstOf (callRefusals t r room) (closing (outcome (methodOf group r) (history t)))
   unfolding verdict methodology callRefusals
-  as-call = sym (first-append (tableRefusals t) (requestRefusals t r room) (closing (outcome (highXofY group r) (history t))))
+  as-call = sym (first-append (tableRefusals t) (requestRefusals (history t) r room) (closing (outcome (methodOf group r) (history t))))
 
   pub call-refused : {w : Refusal} → tested (callRefusals t r room) ≡ Failed w → verdict group t r room ≡ refused w
-  call-refused {w} e = as-call ∙ first-failed (callRefusals t r room) w (closing (outcome (highXofY group r) (history t))) e
+  call-refused {w} e = as-call ∙ first-failed (callRefusals t r room) w (closing (outcome (methodOf group r) (history t))) e
 
   -- over the directory of the table's event
   pub over-table : tested (callRefusals t r room) ≡ Passed → {rooms : Directory} → rooms ≡ directoryOf t (r .event)
-      → closing (outcome (highXofY group r) (roomHistory r rooms (t .readings))) ≡ verdict group t r room
+      → closing (outcome (methodOf group r) (roomHistory r rooms (t .readings))) ≡ verdict group t r room
   over-table p e =
-      ap (λ (d : Directory). closing (outcome (highXofY group r) (roomHistory r d (t .readings)))) e ∙ ap closing (outcome-is t r room p group) ∙
-      sym (as-call ∙ first-passed (callRefusals t r room) (closing (outcome (highXofY group r) (history t))) p)
+      ap (λ (d : Directory). closing (outcome (methodOf group r) (roomHistory r d (t .readings)))) e ∙ ap closing (outcome-is t r room p group) ∙
+      sym (as-call ∙ first-passed (callRefusals t r room) (closing (outcome (methodOf group r) (history t))) p)
 
 -- ---- a rule of every place
 all-over : {A : Type 0} (p : A → Bool) (f : ℕ → A) (n t : ℕ) → ((q : ℕ) → t ≤ q → q < t + n → p (f q) ≡ true)
@@ -104,7 +104,7 @@ module _ (r : Request) (rooms : Directory) (readings : List ℕ) (room : ℕ) (c
   days-long = rw length-take (omega (arith, five-long, k .few))
 
   -- yesterday's and today's readings, and the ruler
-  module _ {y z : List ℕ} (ey : y ≡ partAt readings (getD (rooms .at) 1 0)) (ez : z ≡ partAt readings (getD (rooms .at) 0 0)) {end : ℕ}
+  module _ {y z : List ℕ} (ey : y ≡ readingsAt readings (getD (rooms .at) 1 0)) (ez : z ≡ readingsAt readings (getD (rooms .at) 0 0)) {end : ℕ}
       (ee : end ≡ adjustmentEnd r (y ++ z)) where
     abbrev line : List ℕ
     line = ruler (h .day (r .event - 1)) (h .day (r .event))

@@ -14,10 +14,10 @@ use Rattle.lists.proofs.Bools.{both}
 use Rattle.method.specs.declared.Request.{Request}
 use Rattle.method.specs.Table.{Day, History, present, goodReading, held}
 use Rattle.method.specs.Adjustment.{A, B, S}
-use Rattle.method.specs.HighXofY.{complete}
+use Rattle.method.specs.Eligible.{complete}
 use Rattle.method.proofs.Histories.{is-held, held-first, held-last}
 use Rattle.rooms.specs.declared.Directory.{Directory}
-use Rattle.rooms.specs.Rooms.{partAt, roomDay, heldRooms, roomHistory}
+use Rattle.rooms.specs.Rooms.{readingsAt, roomDay, heldRooms, roomHistory}
 use Rattle.window.proofs.Laws.{all-in-range, day-most, whole, B-by-days}
 use Rattle.quarters.specs.Quarters.{quarterSum}
 use Rattle.numerators.specs.Numerators.{windowSums}
@@ -49,7 +49,7 @@ module _ (r : Request) (rooms : Directory) (readings : List ℕ) where
   unfolding roomHistory heldRooms
   event-held = is-held h (r .event) (omega arith) (omega arith)
 
-  pub day-part : (d : ℕ) → h .day d .readings ≡ partAt readings (start d)
+  pub day-part : (d : ℕ) → h .day d .readings ≡ readingsAt readings (start d)
   unfolding roomHistory roomDay
   day-part d = refl
 
@@ -58,7 +58,7 @@ module _ (r : Request) (rooms : Directory) (readings : List ℕ) where
   unfolding S quarterSum withDays roomHistory roomDay
   S-is ds q =
       ap sumOf (map-map (λ (p : ℕ × Day). getD (p .1 .readings) (q % 96) 0) (λ d. (d, roomDay rooms readings (r .event - d))) ds ∙
-      sym (map-map (λ a. getD (partAt readings a) (q % 96) 0) start ds))
+      sym (map-map (λ a. getD (readingsAt readings a) (q % 96) 0) start ds))
 
   module _ {room : ℕ} (fit : Fit r rooms readings room) where
     -- a held day has its ninety-six readings
@@ -71,7 +71,7 @@ module _ (r : Request) (rooms : Directory) (readings : List ℕ) where
         omega arith
 
     day-size : (d : ℕ) → isWhole h d ≡ true → length (h .day d .readings) ≡ 96
-    unfolding partAt
+    unfolding readingsAt
     day-size d e =
         let w = fit .stands (r .event - d) (day-back d e) in
         rw (day-part d, le-leb (start d + 96) (length readings) w, length-take, length-drop) (omega arith)
@@ -87,10 +87,10 @@ module _ (r : Request) (rooms : Directory) (readings : List ℕ) where
     pub quarter-most : (ds : List ℕ) → all (isWhole h) ds ≡ true → (q : ℕ) → quarterSum readings (map start ds) q ≤ 10000000 * length ds
     unfolding quarterSum
     quarter-most ds w q =
-        rw (map-map (λ a. getD (partAt readings a) q 0) start ds)
-        (sum-most (isWhole h) (λ d. getD (partAt readings (start d)) q 0) 10000000 each ds w)
+        rw (map-map (λ a. getD (readingsAt readings a) q 0) start ds)
+        (sum-most (isWhole h) (λ d. getD (readingsAt readings (start d)) q 0) 10000000 each ds w)
       where
-        each : (d : ℕ) → isWhole h d ≡ true → getD (partAt readings (start d)) q 0 ≤ 10000000
+        each : (d : ℕ) → isWhole h d ≡ true → getD (readingsAt readings (start d)) q 0 ≤ 10000000
         each d e =
             rw (day-part d) at
             (leb-true (getD (h .day d .readings) q 0) 10000000
@@ -109,18 +109,18 @@ module _ (r : Request) (rooms : Directory) (readings : List ℕ) where
     unfolding windowSums
     B-is ds w end x y = B-by-days (withDays h ds) end (wholes ds w) x y ∙ ap sumOf same
       where
-        same : map (λ (p : ℕ × Day). A (p .1 .readings ++ p .1 .readings) end) (withDays h ds) ≡ map (λ a. A (partAt readings a ++ partAt readings a) end)
+        same : map (λ (p : ℕ × Day). A (p .1 .readings ++ p .1 .readings) end) (withDays h ds) ≡ map (λ a. A (readingsAt readings a ++ readingsAt readings a) end)
             (map start ds)
         same =
             unfold withDays roomHistory roomDay in
             map-map (λ (p : ℕ × Day). A (p .1 .readings ++ p .1 .readings) end) (λ d. (d, roomDay rooms readings (r .event - d))) ds ∙
-            sym (map-map (λ a. A (partAt readings a ++ partAt readings a) end) start ds)
+            sym (map-map (λ a. A (readingsAt readings a ++ readingsAt readings a) end) start ds)
 
     pub windows-most : (ds : List ℕ) → all (isWhole h) ds ≡ true → (end : ℕ) → windowSums readings (map start ds) end ≤ 120000000 * length ds
     unfolding windowSums
     windows-most ds w end =
-        rw (map-map (λ a. A (partAt readings a ++ partAt readings a) end) start ds)
-        (sum-most (isWhole h) (λ d. A (partAt readings (start d) ++ partAt readings (start d)) end) 120000000 each ds w)
+        rw (map-map (λ a. A (readingsAt readings a ++ readingsAt readings a) end) start ds)
+        (sum-most (isWhole h) (λ d. A (readingsAt readings (start d) ++ readingsAt readings (start d)) end) 120000000 each ds w)
       where
-        each : (d : ℕ) → isWhole h d ≡ true → A (partAt readings (start d) ++ partAt readings (start d)) end ≤ 120000000
+        each : (d : ℕ) → isWhole h d ≡ true → A (readingsAt readings (start d) ++ readingsAt readings (start d)) end ≤ 120000000
         each d e = rw (day-part d) at (day-most (h .day d .readings) end (day-good d) (day-present d e))

@@ -8,7 +8,7 @@ use Rattle.lists.specs.Lists.{all}
 use Rattle.method.specs.declared.Request.{Request}
 use Rattle.method.specs.Table.{Day, History, held, goodReading}
 use Rattle.method.specs.Adjustment.{baseline}
-use Rattle.method.specs.HighXofY.{complete}
+use Rattle.method.specs.Eligible.{complete}
 use Rattle.method.specs.Method.{chose}
 use Rattle.method.specs.Verdict.{Reply, goodRequest, closing, written}
 use Rattle.rooms.specs.declared.Directory.{Directory}

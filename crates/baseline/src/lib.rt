@@ -3,7 +3,7 @@ ghost use mathlib.Core.Path.{_≡_};
 ghost use lib.ListN.{length};
 ghost use Rattle.calendar.specs.Holidays.{group};
 ghost use Rattle.method.specs.Method.{outcome};
-ghost use Rattle.method.specs.HighXofY.{highXofY};
+ghost use Rattle.method.specs.Requested.{methodOf};
 ghost use Rattle.method.specs.Verdict.{closing, verdict};
 ghost use Rattle.rooms.specs.Rooms.{roomHistory};
 ghost use Rattle.table.specs.Lent.{tableOf};
@@ -28,8 +28,8 @@ fn finish(
     requires { ⌜ Ready request rooms (now readings) (length (now out)) chosen ⌝ }
     ensures { λ r. ⌜ Answers (replyOf request (roomHistory request rooms (now (readings .entry))) chosen) r (now (out .entry)) (now (out .exit)) ⌝ }
 {
-    let yesterday = rooms::part_at(readings, rooms.at[1]);
-    let today = rooms::part_at(readings, rooms.at[0]);
+    let yesterday = rooms::readings_at(readings, rooms.at[1]);
+    let today = rooms::readings_at(readings, rooms.at[0]);
     let end = window::adjustment_end(request, yesterday, today);
     if end == 0 {
         return answer::refuse(Refusal::NoAdjustmentWindow(chosen.reach));
@@ -50,7 +50,7 @@ fn finish(
 // None of the refusals 1 to 7 applies: the days are chosen, and refusal 8 or 9 given, or the answer.
 fn choose_days(request: Request, rooms: Directory, readings: &[u32], out: &mut [u32]) -> Answer
     requires { ⌜ Fit request rooms (now readings) (length (now out)) ⌝ }
-    ensures { λ r. ⌜ Answers (closing (outcome (highXofY group request) (roomHistory request rooms (now (readings .entry))))) r (now (out .entry)) (now (out .exit)) ⌝ }
+    ensures { λ r. ⌜ Answers (closing (outcome (methodOf group request) (roomHistory request rooms (now (readings .entry))))) r (now (out .entry)) (now (out .exit)) ⌝ }
 {
     let choice = choose::choose(request, rooms, readings);
     let choosing = choice.choosing;

@@ -16,7 +16,7 @@ use Rattle.method.specs.declared.Refusal.the-variants.{BadTable, BadMark, BadRe
 use Rattle.method.specs.Table.{Table, goodMark, goodReading, held, history, isExtract}
 use Rattle.method.specs.Method.{Outcome, short, few, chose, outcome}
 use Rattle.method.specs.Adjustment.{Baseline}
-use Rattle.method.specs.HighXofY.{highXofY}
+use Rattle.method.specs.Requested.{methodOf}
 use Rattle.method.specs.Verdict.{Reply, refused, number, goodRequest, tableRefusals, requestRefusals, closing, firstOf, methodology, verdict}
 use Rattle.refusals.proofs.FirstRefusal.{good-request}
 
@@ -69,14 +69,14 @@ room-enough r group t =
     (tested-before (not (all goodReading (t .readings))) (BadReading (leading goodReading (t .readings))) _ (λ n. omega arith)
     (⊎-elim good bad (bool-cases (goodRequest r)))))
   where
-    good : goodRequest r ≡ true → methodology group t r 96 ≡ refused NoRoom → ⊥
+    good : goodRequest r ≡ true → methodology group (history t) r 96 ≡ refused NoRoom → ⊥
     good g =
         let k = good-request r g in
         let o : r .e - r .s ≤ 96 = omega arith in
         rw (g, le-ltb 96 (r .e - r .s) o)
         (tested-before (not (held (history t) (r .event))) NotHeld _ (λ n. omega arith)
         (tested-before (ltb (r .event) (r .participation)) NotYetParticipating _ (λ n. omega arith)
-        (closing-never (outcome (highXofY group r) (history t)))))
+        (closing-never (outcome (methodOf group r) (history t)))))
 
-    bad : goodRequest r ≡ false → methodology group t r 96 ≡ refused NoRoom → ⊥
+    bad : goodRequest r ≡ false → methodology group (history t) r 96 ≡ refused NoRoom → ⊥
     bad g = rw g (λ e. let z : _≡_ {A = ℕ} 0 1 = cc in omega arith)

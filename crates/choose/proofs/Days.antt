@@ -14,7 +14,8 @@ use Rattle.method.specs.declared.Request.{Request}
 use Rattle.method.specs.Table.{Day, History, held}
 use Rattle.method.specs.Relevant.{daysBefore, relevant, relevantDays}
 use Rattle.method.specs.Method.{seen}
-use Rattle.method.specs.HighXofY.{highXofY}
+use Rattle.method.specs.Rules.{methodBy}
+use Rattle.method.specs.Requested.{methodOf}
 use Rattle.method.proofs.LookBack.{daysBefore-is, none-before, days-then, one-before}
 use Rattle.method.proofs.Histories.{is-held, held-last}
 use Rattle.ranking.proofs.Rank.{lookedBack}
@@ -89,8 +90,8 @@ module _ (group : ℕ → Group) (r : Request) (h : History Day) where
           (go (relevant group r d) (keep (relevant group r) (daysBefore k d)) (keep (relevant group r) (daysBefore (min k (d - h .first)) d))
           (is-held h d b (omega arith)) later)
 
-  pub seen-nearest : held h (r .event) ≡ true → seen (highXofY group r) h ≡ nearest group r (h .day) (min 45 (r .event - h .first))
-  unfolding seen nearest highXofY relevantDays
+  pub seen-nearest : held h (r .event) ≡ true → seen (methodOf group r) h ≡ nearest group r (h .day) (min 45 (r .event - h .first))
+  unfolding seen nearest methodOf methodBy relevantDays
   seen-nearest t =
       ap (map {B = ℕ × Day} (λ d. (d, h .day d))) (held-days 45 (r .event) (omega (arith, held-last h (r .event) t)))
 

@@ -9,10 +9,10 @@ use borrow.Author.Tests.{le-leb}
 use Rattle.lists.proofs.All.{all-of, all-take, all-drop}
 use Rattle.lists.proofs.Sums.{sum-most}
 use Rattle.method.specs.declared.Request.{Request}
-use Rattle.method.specs.HighXofY.{eligible, spare, eventSum}
+use Rattle.method.specs.Eligible.{eligible, spare, eventSum}
 use Rattle.ranking.specs.Words.{word}
 use Rattle.rooms.specs.declared.Directory.{Directory}
-use Rattle.rooms.specs.Rooms.{partAt, roomDay}
+use Rattle.rooms.specs.Rooms.{readingsAt, roomDay}
 use Rattle.judging.specs.declared.Judged.{Judged}
 use Rattle.judging.specs.declared.Judged.the-variants.{Eligible, Spare, Neither}
 use Rattle.judging.specs.Judging.{room, wordAt, judgedAt}
@@ -20,7 +20,7 @@ use Rattle.choose.specs.Look.{roomsOf, judged}
 
 -- the room of the day so far back
 pub room-back : (r : Request) (rooms : Directory) (readings : List ℕ) (back : ℕ) → back ≤ r .event
-    → room (getD (rooms .marks) back 0) (partAt readings (getD (rooms .at) back 0)) ≡ roomsOf r rooms readings (r .event - back)
+    → room (getD (rooms .marks) back 0) (readingsAt readings (getD (rooms .at) back 0)) ≡ roomsOf r rooms readings (r .event - back)
 unfolding roomDay
 room-back r rooms readings back h = let e : r .event - (r .event - back) ≡ back = omega arith in rw e
 

@@ -10,9 +10,9 @@ use Rattle.lists.specs.Lists.{keep, leastOf}
 use Rattle.lists.proofs.Keep.{keep-append, keep-yes, keep-no, leastOf-top}
 use Rattle.method.specs.declared.Request.{Request}
 use Rattle.method.specs.Table.{Day, eventBit, outageBit}
-use Rattle.method.specs.Method.{dated}
+use Rattle.method.specs.Method.{daysOf}
 use Rattle.method.specs.Relevant.{relevant}
-use Rattle.method.specs.HighXofY.{complete, eligible, spare, sortBy}
+use Rattle.method.specs.Eligible.{complete, eligible, spare, sortBy}
 use Rattle.calendar.specs.declared.Group.{Group}
 use Rattle.ranking.specs.Words.{word, sortDown, padded, pushed}
 use Rattle.ranking.proofs.Rank.{insert-sorts}
@@ -102,7 +102,7 @@ module _ (r : Request) (l : List (ℕ × Day)) (p : ℕ × Day) where
 
   oldest-more : (back : ℕ) {o : ℕ} → p .0 ≡ r .event - back → back ≤ r .event → o ≡ oldestOf r l → o ≤ back → back ≡ oldestOf r (l ++ (p ∷ []))
   oldest-more back {o} e h f g =
-      rw (map-append (λ (q : ℕ × Day). q .0) l (p ∷ []), leastOf-snoc (r .event) (dated l) (p .0)) (omega (arith, leastOf-top (r .event) (dated l)))
+      rw (map-append (λ (q : ℕ × Day). q .0) l (p ∷ []), leastOf-snoc (r .event) (daysOf l) (p .0)) (omega (arith, leastOf-top (r .event) (daysOf l)))
 
 module _ {r : Request} {days : List (ℕ × Day)} {found : Found} (q : Looked r days found) where
   pub looked-none : Looked r (days ++ []) found

@@ -13,7 +13,8 @@ use Rattle.method.specs.declared.Request.{Request}
 use Rattle.method.specs.Table.{Day, History, held}
 use Rattle.method.specs.Relevant.{daysBefore, relevant}
 use Rattle.method.specs.Method.{Method, seen, eligibles, window, chosen, reach, wholeReach, isShort, outcome}
-use Rattle.method.specs.HighXofY.{highXofY}
+use Rattle.method.specs.Rules.{methodBy}
+use Rattle.method.specs.Requested.{methodOf}
 use Rattle.method.proofs.LookBack.{daysBefore-is}
 use Rattle.method.proofs.Histories.{held-first}
 use Rattle.method.proofs.Stable.{window-of-seen, outcome-same}
@@ -78,7 +79,7 @@ module _ (group : ℕ → Group) {r : Request} {rooms : Directory} {readings : L
   unfolding roomHistory
   same-day i o w = let e : r .event - (r .event - i) ≡ i = omega arith in rw e (sym (agree .days i o))
 
-  pub rooms-seen : seen (highXofY group r) (roomHistory r rooms readings) ≡ seen (highXofY group r) h
+  pub rooms-seen : seen (methodOf group r) (roomHistory r rooms readings) ≡ seen (methodOf group r) h
   rooms-seen =
       seen-rooms group r rooms readings ∙ ap (nearest group r (roomsOf r rooms readings)) width-is
       ∙ nearest-same group r (roomsOf r rooms readings) (h .day) (min 45 (r .event - h .first)) same
@@ -89,11 +90,11 @@ module _ (group : ℕ → Group) {r : Request} {rooms : Directory} {readings : L
           let e : r .event - (r .event - i) ≡ i = omega arith in
           rw e (sym (agree .days i (omega (arith, agree .width))))
 
-  rooms-begin : any (λ d. ltb d (roomHistory r rooms readings .first)) (highXofY group r .relevant) ≡ any (λ d. ltb d (h .first)) (highXofY group r .relevant)
+  rooms-begin : any (λ d. ltb d (roomHistory r rooms readings .first)) (methodOf group r .relevant) ≡ any (λ d. ltb d (h .first)) (methodOf group r .relevant)
   unfolding roomHistory
   rooms-begin =
       short-of-reach group r (r .event - heldRooms r rooms) (omega arith)
-      ∙ rw width-is (below (wholeReach (highXofY group r)) (reach-most group r))
+      ∙ rw width-is (below (wholeReach (methodOf group r)) (reach-most group r))
       ∙ sym (short-of-reach group r (h .first) (held-first h (r .event) (agree .holds)))
     where
       below : (far : ℕ) → far ≤ 45 → ltb (r .event - (r .event - min 45 (r .event - h .first))) far ≡ ltb (r .event - h .first) far
@@ -101,15 +102,15 @@ module _ (group : ℕ → Group) {r : Request} {rooms : Directory} {readings : L
           let e : r .event - (r .event - min 45 (r .event - h .first)) ≡ min 45 (r .event - h .first) = omega arith in
           rw e (same-test (min 45 (r .event - h .first)) far (r .event - h .first) far (omega arith) (omega arith))
 
-  pub rooms-choice : choiceOf (highXofY group r) (roomHistory r rooms readings) ≡ choiceOf (highXofY group r) h
-  rooms-choice = same-choice (highXofY group r) (roomHistory r rooms readings) h rooms-seen rooms-begin
+  pub rooms-choice : choiceOf (methodOf group r) (roomHistory r rooms readings) ≡ choiceOf (methodOf group r) h
+  rooms-choice = same-choice (methodOf group r) (roomHistory r rooms readings) h rooms-seen rooms-begin
 
-  pub rooms-outcome : outcome (highXofY group r) (roomHistory r rooms readings) ≡ outcome (highXofY group r) h
-  unfolding highXofY
+  pub rooms-outcome : outcome (methodOf group r) (roomHistory r rooms readings) ≡ outcome (methodOf group r) h
+  unfolding methodOf methodBy
   rooms-outcome =
-      outcome-same (highXofY group r) (lawful group r) h (agree .holds) (roomHistory r rooms readings)
-      (same-short (highXofY group r) (roomHistory r rooms readings) h rooms-seen rooms-begin)
-      (same-window (highXofY group r) (roomHistory r rooms readings) h rooms-seen rooms-begin)
+      outcome-same (methodOf group r) (lawful group r) h (agree .holds) (roomHistory r rooms readings)
+      (same-short (methodOf group r) (roomHistory r rooms readings) h rooms-seen rooms-begin)
+      (same-window (methodOf group r) (roomHistory r rooms readings) h rooms-seen rooms-begin)
       (λ days some e. rw (yesterday some e, today))
     where
       today : roomHistory r rooms readings .day (r .event) ≡ h .day (r .event)

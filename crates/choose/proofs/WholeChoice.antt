@@ -16,8 +16,11 @@ use Rattle.calendar.specs.declared.Group.{Group}
 use Rattle.calendar.specs.declared.Group.the-variants.{Weekday, Saturday, HolidayGroup}
 use Rattle.method.specs.declared.Request.{Request}
 use Rattle.method.specs.Table.{Day, History, held}
-use Rattle.method.specs.Method.{Method, dated, wholeReach, seen, eligibles, spares, window, chosen, reach, isShort}
-use Rattle.method.specs.HighXofY.{eligible, spare, Y, N, higher, sortBy, highXofY}
+use Rattle.method.specs.Method.{Method, daysOf, wholeReach, seen, eligibles, spares, window, chosen, reach, isShort}
+use Rattle.method.specs.Eligible.{eligible, spare, higher, sortBy}
+use Rattle.method.specs.HighXofY.{Y, N, highXofY}
+use Rattle.method.specs.Rules.{methodBy}
+use Rattle.method.specs.Requested.{methodOf}
 use Rattle.method.proofs.HighXofY.{lawful}
 use Rattle.method.proofs.Window.{window-full, full-size, size-below}
 use Rattle.method.proofs.Short.{full-enough}
@@ -30,7 +33,7 @@ use Rattle.choose.specs.declared.Found.{Found}
 use Rattle.choose.specs.declared.Choosing.the-variants.{Short, Few, Days}
 use Rattle.rooms.specs.Rooms.{heldRooms, roomHistory}
 use Rattle.choose.specs.Choice.{choiceOf, noDays, inFive}
-use Rattle.choose.specs.Look.{nearest, roomsOf, eligibleOf, spareOf, rowOf, Enough, dayOf, ranked, amongFew}
+use Rattle.choose.specs.Look.{nearest, roomsOf, eligibleOf, spareOf, rowOf, Enough, wordDay, ranked, amongFew}
 use Rattle.choose.proofs.Days.{seen-nearest, nearest-back, all-keep}
 use Rattle.relevance.proofs.Reaching.{short-of-reach}
 
@@ -86,49 +89,49 @@ module _ {A O : Type 0} (m : Method A O) (h : History A) where
 
   choice-days : isShort m h ≡ false → eqb (m .taken (length (window m h))) 0 ≡ false
       → choiceOf m h
-      ≡ record { choosing = Days; chosen = record { days = inFive (dated (chosen m h)); count = length (chosen m h); reach = reach m h } }
+      ≡ record { choosing = Days; chosen = record { days = inFive (daysOf (chosen m h)); count = length (chosen m h); reach = reach m h } }
   unfolding choiceOf
   choice-days e f = rw (e, f)
 
-module _ (group : ℕ → Group) (r : Request) (h : History Day) (w : List (ℕ × Day)) (is : window (highXofY group r) h ≡ w) where
+module _ (group : ℕ → Group) (r : Request) (h : History Day) (w : List (ℕ × Day)) (is : window (methodOf group r) h ≡ w) where
   -- too few days in the window
-  few-taken : length w < N (group (r .event)) → eqb (highXofY group r .taken (length (window (highXofY group r) h))) 0 ≡ true
-  unfolding highXofY
+  few-taken : length w < N (group (r .event)) → eqb (methodOf group r .taken (length (window (methodOf group r) h))) 0 ≡ true
+  unfolding methodOf methodBy
   few-taken o = rw (is, lt-ltb (length w) (N (group (r .event))) o)
 
   module _ (o : N (group (r .event)) ≤ length w) where
-    all-taken : highXofY group r .taken (length (window (highXofY group r) h)) ≡ N (group (r .event))
-    unfolding highXofY
+    all-taken : methodOf group r .taken (length (window (methodOf group r) h)) ≡ N (group (r .event))
+    unfolding methodOf methodBy
     all-taken = rw (is, le-ltb (length w) (N (group (r .event))) o)
 
-    chosen-is : chosen (highXofY group r) h ≡ take (N (group (r .event))) (sortBy (higher r) w)
+    chosen-is : chosen (methodOf group r) h ≡ take (N (group (r .event))) (sortBy (higher r) w)
     unfolding chosen
     chosen-is = rw (all-taken, is) (unfold highXofY in refl)
 
     -- the row of the window gives the choice
-    ranked-is : {row : List ℕ} {far : ℕ} → isShort (highXofY group r) h ≡ false → all (lookedBack r) w ≡ true → row ≡ rowOf r w
-        → far ≡ reach (highXofY group r) h → ranked (r .event) row (N (group (r .event))) far ≡ choiceOf (highXofY group r) h
+    ranked-is : {row : List ℕ} {far : ℕ} → isShort (methodOf group r) h ≡ false → all (lookedBack r) w ≡ true → row ≡ rowOf r w
+        → far ≡ reach (methodOf group r) h → ranked (r .event) row (N (group (r .event))) far ≡ choiceOf (methodOf group r) h
     ranked-is {row} {far} e back f g =
         (λ i. record { choosing = Days; chosen = record { days = inFive (days i); count = count i; reach = g i } })
-        ∙ sym (choice-days (highXofY group r) h e (rw all-taken (ne-eqb (N (group (r .event))) 0 (omega (arith, some-chosen (group (r .event)))))))
+        ∙ sym (choice-days (methodOf group r) h e (rw all-taken (ne-eqb (N (group (r .event))) 0 (omega (arith, some-chosen (group (r .event)))))))
       where
-        days : map (dayOf (r .event)) (take (N (group (r .event))) row) ≡ dated (chosen (highXofY group r) h)
+        days : map (wordDay (r .event)) (take (N (group (r .event))) row) ≡ daysOf (chosen (methodOf group r) h)
         days =
-            ap (λ (k : List ℕ). map (dayOf (r .event)) (take (N (group (r .event))) k)) f
+            ap (λ (k : List ℕ). map (wordDay (r .event)) (take (N (group (r .event))) k)) f
             ∙ first-of-row r (N (group (r .event))) 10 w back o (omega (arith, chosen-few (group (r .event))))
-            ∙ ap dated (sym chosen-is)
+            ∙ ap daysOf (sym chosen-is)
 
-        count : N (group (r .event)) ≡ length (chosen (highXofY group r) h)
+        count : N (group (r .event)) ≡ length (chosen (methodOf group r) h)
         count = rw (chosen-is, length-take, length-sorted) (omega arith)
 
 module _ (group : ℕ → Group) (r : Request) (h : History Day) (days : List (ℕ × Day)) (found : Found)
-    (sees : seen (highXofY group r) h ≡ days) (back : all (lookedBack r) days ≡ true) (q : Enough r (Y (group (r .event))) days found) where
-  eligibles-are : eligibles (highXofY group r) h ≡ eligibleOf days
-  unfolding eligibles highXofY eligibleOf
+    (sees : seen (methodOf group r) h ≡ days) (back : all (lookedBack r) days ≡ true) (q : Enough r (Y (group (r .event))) days found) where
+  eligibles-are : eligibles (methodOf group r) h ≡ eligibleOf days
+  unfolding eligibles methodOf methodBy eligibleOf
   eligibles-are = ap (keep (λ (p : ℕ × Day). eligible (p .1))) sees
 
-  spares-are : spares (highXofY group r) h ≡ sortBy (higher r) (spareOf days)
-  unfolding spares highXofY spareOf
+  spares-are : spares (methodOf group r) h ≡ sortBy (higher r) (spareOf days)
+  unfolding spares methodOf methodBy spareOf
   spares-are = ap (λ (l : List (ℕ × Day)). sortBy (higher r) (keep (λ (p : ℕ × Day). spare (p .1)) l)) sees
 
   eligible-back : all (lookedBack r) (eligibleOf days) ≡ true
@@ -141,25 +144,25 @@ module _ (group : ℕ → Group) (r : Request) (h : History Day) (days : List (�
 
   -- the eligible days fill the window
   module _ (full : Y (group (r .event)) ≤ found .count) where
-    many : highXofY group r .most ≤ length (eligibles (highXofY group r) h)
-    unfolding highXofY
+    many : methodOf group r .most ≤ length (eligibles (methodOf group r) h)
+    unfolding methodOf methodBy
     many = rw eligibles-are (omega (arith, q .count))
 
-    full-window : window (highXofY group r) h ≡ take (Y (group (r .event))) (eligibleOf days)
-    unfolding highXofY
-    full-window = window-full (highXofY group r) (lawful group r) h many ∙ ap (take (Y (group (r .event)))) eligibles-are
+    full-window : window (methodOf group r) h ≡ take (Y (group (r .event))) (eligibleOf days)
+    unfolding methodOf methodBy
+    full-window = window-full (methodOf group r) (lawful group r) h many ∙ ap (take (Y (group (r .event)))) eligibles-are
 
-    full-reach : found .oldest ≡ reach (highXofY group r) h
+    full-reach : found .oldest ≡ reach (methodOf group r) h
     unfolding reach
     full-reach =
-        rw (full-size (highXofY group r) (lawful group r) h many, eq-eqb (highXofY group r .most) (highXofY group r .most) refl, full-window)
+        rw (full-size (methodOf group r) (lawful group r) h many, eq-eqb (methodOf group r .most) (methodOf group r .most) refl, full-window)
         (unfold highXofY in q .oldest)
 
-    full-choice : ranked (r .event) (found .eligible) (N (group (r .event))) (found .oldest) ≡ choiceOf (highXofY group r) h
+    full-choice : ranked (r .event) (found .eligible) (N (group (r .event))) (found .oldest) ≡ choiceOf (methodOf group r) h
     full-choice =
         ranked-is group r h (take (Y (group (r .event))) (eligibleOf days)) full-window
         (rw length-take (omega (arith, q .count, fewer-chosen (group (r .event)))))
-        (full-enough (highXofY group r) h many)
+        (full-enough (methodOf group r) h many)
         (all-take (lookedBack r) (Y (group (r .event))) (eligibleOf days) eligible-back)
         (q .row) full-reach
 
@@ -174,8 +177,8 @@ module _ (group : ℕ → Group) (r : Request) (h : History Day) (days : List (�
     few-window : List (ℕ × Day)
     few-window = eligibleOf days ++ take (N (group (r .event)) - length (eligibleOf days)) (sortBy (higher r) (spareOf days))
 
-    window-is : window (highXofY group r) h ≡ few-window
-    unfolding window highXofY few-window
+    window-is : window (methodOf group r) h ≡ few-window
+    unfolding window methodOf methodBy few-window
     window-is =
         (λ i. take (Y (group (r .event))) (eligibles-are i) ++ take (N (group (r .event)) - length (eligibles-are i)) (spares-are i))
         ∙ ap (λ (l : List (ℕ × Day)). l ++ take (N (group (r .event)) - length (eligibleOf days)) (sortBy (higher r) (spareOf days)))
@@ -199,44 +202,44 @@ module _ (group : ℕ → Group) (r : Request) (h : History Day) (days : List (�
         (window-ranked r (N (group (r .event)) - length (eligibleOf days)) (eligibleOf days) (spareOf days) spare-back
         (omega (arith, chosen-few (group (r .event)))))
 
-    few-eligible : length (eligibles (highXofY group r) h) < highXofY group r .most
-    unfolding highXofY
+    few-eligible : length (eligibles (methodOf group r) h) < methodOf group r .most
+    unfolding methodOf methodBy
     few-eligible = rw eligibles-are fewer
 
-    reach-is : reach (highXofY group r) h ≡ wholeReach (highXofY group r)
+    reach-is : reach (methodOf group r) h ≡ wholeReach (methodOf group r)
     unfolding reach
     reach-is =
-        rw (ne-eqb (length (window (highXofY group r) h)) (highXofY group r .most)
-        (λ e. omega (arith, size-below (highXofY group r) (lawful group r) h few-eligible)))
+        rw (ne-eqb (length (window (methodOf group r) h)) (methodOf group r .most)
+        (λ e. omega (arith, size-below (methodOf group r) (lawful group r) h few-eligible)))
 
-    short-is : isShort (highXofY group r) h ≡ ltb (r .event - h .first) (wholeReach (highXofY group r))
+    short-is : isShort (methodOf group r) h ≡ ltb (r .event - h .first) (wholeReach (methodOf group r))
     unfolding isShort
-    short-is = rw (lt-ltb (length (eligibles (highXofY group r) h)) (highXofY group r .most) few-eligible) (short-of-reach group r (h .first) before)
+    short-is = rw (lt-ltb (length (eligibles (methodOf group r) h)) (methodOf group r .most) few-eligible) (short-of-reach group r (h .first) before)
 
-    few-choice : amongFew r (N (group (r .event))) found (r .event - h .first) (wholeReach (highXofY group r)) ≡ choiceOf (highXofY group r) h
+    few-choice : amongFew r (N (group (r .event))) found (r .event - h .first) (wholeReach (methodOf group r)) ≡ choiceOf (methodOf group r) h
     few-choice =
         ⊎-elim
-        (λ (o : r .event - h .first < wholeReach (highXofY group r)).
-        sym (short-of-days r (N (group (r .event))) found (r .event - h .first) (wholeReach (highXofY group r)) o)
-        ∙ sym (choice-short (highXofY group r) h (short-is ∙ lt-ltb (r .event - h .first) (wholeReach (highXofY group r)) o)))
-        (λ (o : wholeReach (highXofY group r) ≤ r .event - h .first). ⊎-elim (too-few o) (enough o) (lt-or-le (found .count + found .spares) (N (group (r .event)))))
-        (lt-or-le (r .event - h .first) (wholeReach (highXofY group r)))
+        (λ (o : r .event - h .first < wholeReach (methodOf group r)).
+        sym (short-of-days r (N (group (r .event))) found (r .event - h .first) (wholeReach (methodOf group r)) o)
+        ∙ sym (choice-short (methodOf group r) h (short-is ∙ lt-ltb (r .event - h .first) (wholeReach (methodOf group r)) o)))
+        (λ (o : wholeReach (methodOf group r) ≤ r .event - h .first). ⊎-elim (too-few o) (enough o) (lt-or-le (found .count + found .spares) (N (group (r .event)))))
+        (lt-or-le (r .event - h .first) (wholeReach (methodOf group r)))
       where
-        not-short : wholeReach (highXofY group r) ≤ r .event - h .first → isShort (highXofY group r) h ≡ false
-        not-short o = short-is ∙ le-ltb (r .event - h .first) (wholeReach (highXofY group r)) o
+        not-short : wholeReach (methodOf group r) ≤ r .event - h .first → isShort (methodOf group r) h ≡ false
+        not-short o = short-is ∙ le-ltb (r .event - h .first) (wholeReach (methodOf group r)) o
 
-        too-few : wholeReach (highXofY group r) ≤ r .event - h .first → found .count + found .spares < N (group (r .event))
-            → amongFew r (N (group (r .event))) found (r .event - h .first) (wholeReach (highXofY group r)) ≡ choiceOf (highXofY group r) h
+        too-few : wholeReach (methodOf group r) ≤ r .event - h .first → found .count + found .spares < N (group (r .event))
+            → amongFew r (N (group (r .event))) found (r .event - h .first) (wholeReach (methodOf group r)) ≡ choiceOf (methodOf group r) h
         too-few o l =
             let size : length few-window ≡ found .count + found .spares = omega (arith, size-is) in
-            sym (few-days r (N (group (r .event))) found (r .event - h .first) (wholeReach (highXofY group r)) o l)
+            sym (few-days r (N (group (r .event))) found (r .event - h .first) (wholeReach (methodOf group r)) o l)
             ∙ (λ i. noDays (Few (sym (ap length window-is ∙ size) i) (sym reach-is i)))
-            ∙ sym (choice-few (highXofY group r) h (not-short o) (few-taken group r h few-window window-is (omega arith)))
+            ∙ sym (choice-few (methodOf group r) h (not-short o) (few-taken group r h few-window window-is (omega arith)))
 
-        enough : wholeReach (highXofY group r) ≤ r .event - h .first → N (group (r .event)) ≤ found .count + found .spares
-            → amongFew r (N (group (r .event))) found (r .event - h .first) (wholeReach (highXofY group r)) ≡ choiceOf (highXofY group r) h
+        enough : wholeReach (methodOf group r) ≤ r .event - h .first → N (group (r .event)) ≤ found .count + found .spares
+            → amongFew r (N (group (r .event))) found (r .event - h .first) (wholeReach (methodOf group r)) ≡ choiceOf (methodOf group r) h
         enough o l =
-            sym (enough-days r (N (group (r .event))) found (r .event - h .first) (wholeReach (highXofY group r)) o l)
+            sym (enough-days r (N (group (r .event))) found (r .event - h .first) (wholeReach (methodOf group r)) o l)
             ∙ ranked-is group r h few-window window-is (omega (arith, size-is)) (not-short o) few-back row-is (sym reach-is)
 
 -- Over a directory
@@ -258,7 +261,7 @@ module _ (group : ℕ → Group) (r : Request) (rooms : Directory) (readings : L
   unfolding roomHistory
   holds-event = is-held (roomHistory r rooms readings) (r .event) (omega arith) (omega (arith, within-event))
 
-  pub seen-rooms : seen (highXofY group r) (roomHistory r rooms readings) ≡ nearest group r (roomsOf r rooms readings) (heldRooms r rooms)
+  pub seen-rooms : seen (methodOf group r) (roomHistory r rooms readings) ≡ nearest group r (roomsOf r rooms readings) (heldRooms r rooms)
   unfolding roomHistory
   seen-rooms =
       let e : min 45 (r .event - (r .event - heldRooms r rooms)) ≡ heldRooms r rooms = omega (arith, within-45, within-event) in
@@ -266,16 +269,16 @@ module _ (group : ℕ → Group) (r : Request) (rooms : Directory) (readings : L
 
   module _ (found : Found) (q : Enough r (Y (group (r .event))) (nearest group r (roomsOf r rooms readings) (heldRooms r rooms)) found) where
     pub choose-full : Y (group (r .event)) ≤ found .count
-        → ranked (r .event) (found .eligible) (N (group (r .event))) (found .oldest) ≡ choiceOf (highXofY group r) (roomHistory r rooms readings)
+        → ranked (r .event) (found .eligible) (N (group (r .event))) (found .oldest) ≡ choiceOf (methodOf group r) (roomHistory r rooms readings)
     choose-full =
         full-choice group r (roomHistory r rooms readings) (nearest group r (roomsOf r rooms readings) (heldRooms r rooms)) found seen-rooms
         (nearest-back group r (roomsOf r rooms readings) (heldRooms r rooms) within-45) q
 
     pub choose-few : found .count < Y (group (r .event))
-        → amongFew r (N (group (r .event))) found (heldRooms r rooms) (wholeReach (highXofY group r)) ≡ choiceOf (highXofY group r) (roomHistory r rooms readings)
+        → amongFew r (N (group (r .event))) found (heldRooms r rooms) (wholeReach (methodOf group r)) ≡ choiceOf (methodOf group r) (roomHistory r rooms readings)
     unfolding roomHistory
     choose-few less =
         let e : heldRooms r rooms ≡ r .event - (r .event - heldRooms r rooms) = omega (arith, within-event) in
-        ap (λ (n : ℕ). amongFew r (N (group (r .event))) found n (wholeReach (highXofY group r))) e
+        ap (λ (n : ℕ). amongFew r (N (group (r .event))) found n (wholeReach (methodOf group r))) e
         ∙ few-choice group r (roomHistory r rooms readings) (nearest group r (roomsOf r rooms readings) (heldRooms r rooms)) found seen-rooms
         (nearest-back group r (roomsOf r rooms readings) (heldRooms r rooms) within-45) q less (omega arith)

@@ -5,7 +5,7 @@ use mathlib.Core.List.{List, [], _∷_, _++_}
 use lib.ListN.{length, take, replicate}
 use lib.Dec.{eqb}
 use Rattle.method.specs.Table.{History}
-use Rattle.method.specs.Method.{Method, dated, wholeReach, window, chosen, reach, isShort}
+use Rattle.method.specs.Method.{Method, daysOf, wholeReach, window, chosen, reach, isShort}
 use Rattle.choose.specs.declared.Chosen.{Chosen}
 use Rattle.choose.specs.declared.Choosing.{Choosing}
 use Rattle.choose.specs.declared.Choosing.the-variants.{Short, Few, Days}
@@ -24,5 +24,5 @@ choiceOf m h =
     (cond (eqb (m .taken (length (window m h))) 0) (noDays (Few (length (window m h)) (reach m h)))
     (record {
       choosing = Days;
-      chosen = record { days = inFive (dated (chosen m h)); count = length (chosen m h); reach = reach m h };
+      chosen = record { days = inFive (daysOf (chosen m h)); count = length (chosen m h); reach = reach m h };
     }))

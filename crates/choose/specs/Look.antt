@@ -9,9 +9,9 @@ use Rattle.lists.specs.Lists.{keep, leastOf}
 use Rattle.calendar.specs.declared.Group.{Group}
 use Rattle.method.specs.declared.Request.{Request}
 use Rattle.method.specs.Table.{Day}
-use Rattle.method.specs.Method.{dated}
+use Rattle.method.specs.Method.{daysOf}
 use Rattle.method.specs.Relevant.{daysBefore, relevant}
-use Rattle.method.specs.HighXofY.{eligible, spare}
+use Rattle.method.specs.Eligible.{eligible, spare}
 use Rattle.ranking.specs.Words.{word, sortDown, padded, insertAll}
 use Rattle.judging.specs.declared.Judged.{Judged}
 use Rattle.judging.specs.declared.Judged.the-variants.{Eligible, Spare, Neither}
@@ -50,7 +50,7 @@ rowOf r days = padded 10 (sortDown (map (word r) days))
 
 -- how far before the event the oldest of some days lies
 abbrev pub oldestOf : Request → List (ℕ × Day) → ℕ
-oldestOf r days = r .event - leastOf (r .event) (dated days)
+oldestOf r days = r .event - leastOf (r .event) (daysOf days)
 
 -- what was found in the days looked at
 pub record Looked (r : Request) (days : List (ℕ × Day)) (found : Found) : Type 0 where
@@ -86,13 +86,13 @@ pub record Enough (r : Request) (most : ℕ) (days : List (ℕ × Day)) (found :
   pub few : found .spares ≤ 45
 
 -- the day of a word
-abbrev pub dayOf : ℕ → ℕ → ℕ
-dayOf event w = event - (46 - w % 64)
+abbrev pub wordDay : ℕ → ℕ → ℕ
+wordDay event w = event - (46 - w % 64)
 
 -- the first of a row of words chosen
 abbrev pub ranked : ℕ → List ℕ → ℕ → ℕ → Choice
 ranked event row count reach =
-    record { choosing = Days; chosen = record { days = inFive (map (dayOf event) (take count row)); count = count; reach = reach } }
+    record { choosing = Days; chosen = record { days = inFive (map (wordDay event) (take count row)); count = count; reach = reach } }
 
 -- the choice where the eligible days do not fill the window
 unfoldable pub amongFew : Request → ℕ → Found → ℕ → ℕ → Choice

@@ -6,11 +6,12 @@ ghost use Prim.Native.Nat.{_-_, _%_, _≤_, _<_};
 ghost use lib.ListN.{length, take};
 ghost use Rattle.calendar.specs.Holidays.{group as groupOf};
 ghost use Rattle.method.specs.Method.{wholeReach};
-ghost use Rattle.method.specs.HighXofY.{Y, N, highXofY};
+ghost use Rattle.method.specs.HighXofY.{Y, N};
+ghost use Rattle.method.specs.Requested.{methodOf};
 ghost use Rattle.rooms.specs.Rooms.{roomHistory};
 ghost use Rattle.judging.specs.Judging.{room};
 ghost use Rattle.choose.specs.Choice.{choiceOf, noDays, inFive};
-ghost use Rattle.choose.specs.Look.{roomsOf, nearest, ifRelevant, Further, Adds, Enough, dayOf, ranked, amongFew};
+ghost use Rattle.choose.specs.Look.{roomsOf, nearest, ifRelevant, Further, Adds, Enough, wordDay, ranked, amongFew};
 use calendar::Group;
 use judging::Judged;
 use method::Request;
@@ -129,7 +130,7 @@ fn look(request: Request, group: Group, rooms: Directory, readings: &[u32], held
         }
         back += 1;
         let place = back as usize;
-        let part = rooms::part_at(readings, rooms.at[place]);
+        let part = rooms::readings_at(readings, rooms.at[place]);
         let next = with_day(request, group, back, rooms.marks[place], part, found);
         found = next;
     }
@@ -146,7 +147,7 @@ fn day_of(event: u32, word: u64) -> u32
 // The days of the first words of a row, up to five.
 fn days_of(event: u32, row: [u64; 10], count: usize) -> [u32; 5]
     requires { ⌜ count ≤ 5 ⌝ }
-    ensures { λ r. ⌜ r ≡ inFive (map (dayOf event) (take count row)) ⌝ }
+    ensures { λ r. ⌜ r ≡ inFive (map (wordDay event) (take count row)) ⌝ }
 {
     let mut days = [0; 5];
     let mut i = 0;
@@ -189,7 +190,7 @@ fn first_of(event: u32, row: [u64; 10], count: u32, reach: u32) -> Choice
 // The choice where the eligible days do not fill the window: spare days are put in up to N, and the reach is that of all relevant days.
 fn choose_among_few(request: Request, group: Group, found: Found, held: u32) -> Choice
     requires { ⌜ (found .count < 10) × (found .spares ≤ 45) ⌝ }
-    ensures { λ r. ⌜ r ≡ amongFew request (N group) found held (wholeReach (highXofY groupOf request)) ⌝ }
+    ensures { λ r. ⌜ r ≡ amongFew request (N group) found held (wholeReach (methodOf groupOf request)) ⌝ }
 {
     let reach = relevance::whole_reach(request);
     if held < reach {
@@ -208,7 +209,7 @@ fn choose_among_few(request: Request, group: Group, found: Found, held: u32) -> 
 
 // The choice of days: refusal 8 or 9, or the chosen days and the reach.
 pub fn choose(request: Request, rooms: Directory, readings: &[u32]) -> Choice
-    ensures { λ r. ⌜ r ≡ choiceOf (highXofY groupOf request) (roomHistory request rooms (now (readings .entry))) ⌝ }
+    ensures { λ r. ⌜ r ≡ choiceOf (methodOf groupOf request) (roomHistory request rooms (now (readings .entry))) ⌝ }
 {
     let event = request.event;
     let group = calendar::group_of(event);

@@ -13,8 +13,11 @@ use Rattle.calendar.specs.declared.Group.the-variants.{Weekday, Saturday, Holid
 use Rattle.method.specs.declared.Request.{Request}
 use Rattle.method.specs.declared.Refusal.{Refusal}
 use Rattle.method.specs.Table.{Table}
-use Rattle.method.specs.Method.{dated, chosen}
-use Rattle.method.specs.HighXofY.{highXofY, higher, N}
+use Rattle.method.specs.Method.{daysOf, chosen}
+use Rattle.method.specs.Eligible.{higher}
+use Rattle.method.specs.HighXofY.{N}
+use Rattle.method.specs.Rules.{methodBy}
+use Rattle.method.specs.Requested.{methodOf}
 use Rattle.method.proofs.Sort.{length-sorted}
 use Rattle.places.proofs.Places.{length-places}
 use Rattle.demands.specs.Calls.{Call, overTable, ofFile, extract, request, perQuarter, room}
@@ -35,12 +38,12 @@ unfolding rows
 window-enough c size e = window-least (extract c) (request c) (none-after (earlier c size) (dayRows (extract c) (request c)) e)
 
 -- and N days are chosen
-count-chosen : (t : Table) (r : Request) → NOf r ≤ length (windowOf t r) → length (dated (chosenOf t r)) ≡ NOf r
-unfolding chosen highXofY
+count-chosen : (t : Table) (r : Request) → NOf r ≤ length (windowOf t r) → length (daysOf (chosenOf t r)) ≡ NOf r
+unfolding chosen methodOf methodBy
 count-chosen t r e =
     rw (length-map, length-take, length-sorted (higher r) (windowOf t r), le-ltb (length (windowOf t r)) (NOf r) e) (omega arith)
 
-pub chosen-count : (c : Call) (size : ℕ) → any applies (rows c size) ≡ false → length (dated (chosenOf (extract c) (request c))) ≡ NOf (request c)
+pub chosen-count : (c : Call) (size : ℕ) → any applies (rows c size) ≡ false → length (daysOf (chosenOf (extract c) (request c))) ≡ NOf (request c)
 chosen-count c size e = count-chosen (extract c) (request c) (window-enough c size e)
 
 pub numerators-count : (t : Table) (r : Request) → length (numeratorsOf t r) ≡ r .e - r .s

@@ -13,9 +13,9 @@ use Rattle.calendar.specs.Holidays.{group}
 use Rattle.method.specs.declared.Request.{Request}
 use Rattle.method.specs.declared.Refusal.{Refusal}
 use Rattle.method.specs.declared.Refusal.the-variants.{MarginTooShort}
-use Rattle.method.specs.Table.{Table}
+use Rattle.method.specs.Table.{Table, history}
 use Rattle.method.specs.Method.{wholeReach}
-use Rattle.method.specs.HighXofY.{highXofY}
+use Rattle.method.specs.Requested.{methodOf}
 use Rattle.method.specs.Verdict.{Reply, Answer as Numbers, refused, answered, methodology, verdict}
 use Rattle.method.specs.Demands.{LongerFormed, heldBefore, cutTo, Undecided, Parted, isMargin, isSettled, reported as reportedIn}
 use Rattle.method.proofs.Replies.{none-early}
@@ -152,7 +152,7 @@ module _ (c : Call) (a : Answer) (out after : List ℕ) (gives : Gives c a out a
     clear : isMargin (verdict group t r (room c out)) ≡ false
     clear = settled-margin (verdict group t r (room c out)) settled
 
-    stable : (m : Table) → LongerFormed m t → Gets c (methodology group m r (room c out)) a out after
+    stable : (m : Table) → LongerFormed m t → Gets c (methodology group (history m) r (room c out)) a out after
     stable m x =
         gets-same c a out after
         (its ∙
@@ -170,7 +170,7 @@ module _ (c : Call) (a : Answer) (out after : List ℕ) (gives : Gives c a out a
         gets
 
     fewest : (k : ℕ) → k < reported a
-        → verdict group (cutTo t r k) r (room c out) ≡ refused (MarginTooShort (wholeReach (highXofY group r)))
+        → verdict group (cutTo t r k) r (room c out) ≡ refused (MarginTooShort (wholeReach (methodOf group r)))
     fewest k less =
         reach-fewest group t r (room c out) (l .over .isOne) (l .over .well) (l .holds) settled k (omega (arith, less, reported-as))
 

@@ -17,7 +17,7 @@ use Rattle.method.specs.declared.Refusal.the-variants.{BadFile, NoEvent, BadTab
 use Rattle.method.specs.declared.Refusal.the-variants.{NotYetParticipating, NoRoom, MarginTooShort, TooFew, NoAdjustmentWindow}
 use Rattle.method.specs.Table.{Table, held, history}
 use Rattle.method.specs.Method.{outcome}
-use Rattle.method.specs.HighXofY.{highXofY}
+use Rattle.method.specs.Requested.{methodOf}
 use Rattle.method.specs.Verdict.{Reply, refused, answered, number, goodRequest, tableRefusals, requestRefusals, closing, firstOf, methodology, verdict}
 use Rattle.method.specs.Verdict.{written}
 use Rattle.method.proofs.Replies.{other, none-early}
@@ -117,12 +117,12 @@ module _ (t : Table) (r : Request) where
       (ltb (r .event) (r .participation), NotYetParticipating) ∷ []
 
   last : Reply
-  last = closing (outcome (highXofY group r) (history t))
+  last = closing (outcome (methodOf group r) (history t))
 
   any-room : (n : ℕ) → (numberIn (verdict group t r n) ≡ 7 → ⊥) → verdict group t r n ≡ firstOf (tableRefusals t) (firstOf asked last)
   unfolding verdict methodology requestRefusals asked last firstOf
   any-room n differs =
-      same-after (tableRefusals t) (methodology group t r n) (firstOf asked last)
+      same-after (tableRefusals t) (methodology group (history t) r n) (firstOf asked last)
       (same-after asked (cond (ltb n (r .e - r .s)) (refused NoRoom) last) last (but-seven (ltb n (r .e - r .s)) last)) differs
 
   not-seven : numberIn (verdict group t r 96) ≡ 7 → ⊥

@@ -12,9 +12,10 @@ use Rattle.method.specs.declared.Request.{Request}
 use Rattle.method.specs.declared.Refusal.the-variants.{BadFile, NoEvent}
 use Rattle.method.specs.declared.Refusal.the-variants.{MarginTooShort, TooFew, NoAdjustmentWindow}
 use Rattle.method.specs.Table.{Table, heldDays, history, shaped, isExtract, goodMark, goodReading, missing}
-use Rattle.method.specs.Method.{short, few, chose, dated, wholeReach, isShort, outcome}
+use Rattle.method.specs.Method.{short, few, chose, daysOf, wholeReach, isShort, outcome}
 use Rattle.method.specs.Adjustment.{Baseline, floored, adjustment, baselineAt, baseline}
-use Rattle.method.specs.HighXofY.{highXofY}
+use Rattle.method.specs.Rules.{methodBy}
+use Rattle.method.specs.Requested.{methodOf}
 use Rattle.method.specs.Verdict.{Reply, refused, answered, tableRefusals, goodRequest, requestRefusals, closing, firstOf, methodology, verdict}
 use Rattle.method.proofs.Tables.{offset-is}
 use Rattle.baseline.proofs.Laws.{numerators-are}
@@ -66,7 +67,7 @@ bad-request r =
     (simp and-not)
 
 pub request-rows : (t : Table) (r : Request) (w size room : ℕ) → ltb size (w * (r .e - r .s)) ≡ ltb room (r .e - r .s)
-    → requestRows t r w size ≡ requestRefusals t r room
+    → requestRows t r w size ≡ requestRefusals (history t) r room
 unfolding requestRows requestRefusals
 request-rows t r w size room e = rw (bad-request r, e)
 
@@ -87,7 +88,7 @@ worked t r = baselineAt r (NOf r) (chosenOf t r) (adjustment (NOf r) (AOf t r) (
 
 worked-is : (t : Table) (r : Request)
     → record {
-      days = dated (chosenOf t r);
+      days = daysOf (chosenOf t r);
       reach = reachOf t r;
       denominator = worked t r .denominator;
       adjusted = worked t r .adjusted;
@@ -96,11 +97,11 @@ worked-is : (t : Table) (r : Request)
 unfolding worked answerOver numeratorsOf baselineAt
 worked-is t r = rw (numerators-are r (NOf r) (chosenOf t r) (AOf t r) (BOf t r))
 
-day-rows : (t : Table) (r : Request) → closing (outcome (highXofY group r) (history t)) ≡ firstOf (dayRows t r) (answered (answerOver t r))
-unfolding outcome highXofY baseline isShort wholeReach dayRows worked
+day-rows : (t : Table) (r : Request) → closing (outcome (methodOf group r) (history t)) ≡ firstOf (dayRows t r) (answered (answerOver t r))
+unfolding outcome methodOf methodBy baseline isShort wholeReach dayRows worked
 day-rows t r =
-    closing-rows (isShort (highXofY group r) (history t)) (eqb (cond (ltb (length (windowOf t r)) (NOf r)) 0 (NOf r)) 0) (eqb (endOf t r) 0)
-    (wholeReach (highXofY group r)) (length (windowOf t r)) (reachOf t r) (reachOf t r) (dated (chosenOf t r)) (worked t r) ∙
+    closing-rows (isShort (methodOf group r) (history t)) (eqb (cond (ltb (length (windowOf t r)) (NOf r)) 0 (NOf r)) 0) (eqb (endOf t r) 0)
+    (wholeReach (methodOf group r)) (length (windowOf t r)) (reachOf t r) (reachOf t r) (daysOf (chosenOf t r)) (worked t r) ∙
     rw (none-chosen (group (r .event)) (length (windowOf t r)), worked-is t r)
 
 pub verdict-rows : (t : Table) (r : Request) (w size room : ℕ) → ltb size (w * (r .e - r .s)) ≡ ltb room (r .e - r .s)

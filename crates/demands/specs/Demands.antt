@@ -13,9 +13,10 @@ use Rattle.method.specs.declared.Request.{Request}
 use Rattle.method.specs.declared.Refusal.{Refusal}
 use Rattle.method.specs.declared.Refusal.the-variants.{MarginTooShort}
 use Rattle.method.specs.Table.{Table, dayOf, held, history}
-use Rattle.method.specs.Method.{dated, wholeReach}
+use Rattle.method.specs.Method.{daysOf, wholeReach}
 use Rattle.method.specs.Adjustment.{adjustment}
-use Rattle.method.specs.HighXofY.{highXofY}
+use Rattle.method.specs.Ruler.{rulerStart}
+use Rattle.method.specs.Requested.{methodOf}
 use Rattle.method.specs.Verdict.{answered, refused, firstOf, methodology, verdict}
 use Rattle.method.specs.Demands.{LongerFormed, heldBefore, cutTo, Undecided, Parted}
 use Rattle.choose.specs.Choice.{inFive}
@@ -53,7 +54,7 @@ module _ (c : Call) (a : Answer) (out after : List ℕ) where
   -- "The window, the ranked days, the adjustment and the baseline are those of the operator's methodology, version 1.0, as document 01 fixes
   -- it, exact to the last fraction of a kilowatt.": numerators over 12N
   pub record Demand2 : Type 0 where
-    pub days : a .chosen .days ≡ inFive (dated (chosenOf (extract c) (request c)))
+    pub days : a .chosen .days ≡ inFive (daysOf (chosenOf (extract c) (request c)))
     pub count : a .chosen .count ≡ NOf (request c)
     pub reach : a .chosen .reach ≡ reachOf (extract c) (request c)
     pub denominator : a .denominator ≡ 12 * NOf (request c)
@@ -76,14 +77,14 @@ module _ (c : Call) (a : Answer) (out after : List ℕ) where
     pub reach-held : Settled a → reported a ≤ heldBefore (extract c) (request c)
     pub reach-same : Settled a → Gets c (verdict group (cutTo (extract c) (request c) (reported a)) (request c) (room c out)) a out after
     pub reach-fewest : Settled a → (k : ℕ) → k < reported a
-        → verdict group (cutTo (extract c) (request c) k) (request c) (room c out) ≡ refused (MarginTooShort (wholeReach (highXofY group (request c))))
+        → verdict group (cutTo (extract c) (request c) k) (request c) (room c out) ≡ refused (MarginTooShort (wholeReach (methodOf group (request c))))
 
 -- `u` is `t` but for day D's mark, its readings from s on, and all later days; it may end on another day
 pub record SameBefore (t u : Table) (r : Request) : Type 0 where
   pub first : u .first ≡ t .first
   pub event : held (history u) (r .event) ≡ held (history t) (r .event)
   pub days : (d : ℕ) → d < r .event → held (history t) d ≡ true → dayOf u d ≡ dayOf t d
-  pub readings : take (r .s - 96) (dayOf u (r .event) .readings) ≡ take (r .s - 96) (dayOf t (r .event) .readings)
+  pub readings : take (r .s - rulerStart (r .event)) (dayOf u (r .event) .readings) ≡ take (r .s - rulerStart (r .event)) (dayOf t (r .event) .readings)
 
 -- "Day D's marks, its readings from s on, and all later days play no part beyond refusals 1 to 3.": where none of 11, 12 and 1 to 3 applies to the
 -- call, and none of 1 to 3 to `u`, `u` gets what the call gives

@@ -13,9 +13,10 @@ use Rattle.method.specs.declared.Refusal.the-variants.{BadFile, NoEvent, BadTab
 use Rattle.method.specs.declared.Refusal.the-variants.{NotYetParticipating, NoRoom, MarginTooShort, TooFew, NoAdjustmentWindow}
 use Rattle.method.specs.Table.{Table, Day, heldDays, dayOf, held, history, goodMark, goodReading, missing}
 use Rattle.method.specs.Relevant.{relevantDays}
-use Rattle.method.specs.Method.{eligibles, window, chosen, reach, dated}
+use Rattle.method.specs.Method.{eligibles, window, chosen, reach, daysOf}
 use Rattle.method.specs.Adjustment.{ruler, adjustmentEnd, places, S, A, B, adjustment}
-use Rattle.method.specs.HighXofY.{highXofY, Y, N}
+use Rattle.method.specs.HighXofY.{Y, N}
+use Rattle.method.specs.Requested.{methodOf}
 use Rattle.method.specs.Verdict.{Answer}
 use Rattle.record.specs.Reader.{isPF, goodEnd, eventsIn}
 use Rattle.demands.specs.Calls.{Call, overTable, ofFile, extract, request, perQuarter}
@@ -23,13 +24,13 @@ use Rattle.demands.specs.Calls.{Call, overTable, ofFile, extract, reques
 -- the methodology of an extract and a request: window, chosen days and reach; the ruler, where the adjustment window ends, A and B
 module _ (t : Table) (r : Request) where
   abbrev pub windowOf : List (ℕ × Day)
-  windowOf = window (highXofY group r) (history t)
+  windowOf = window (methodOf group r) (history t)
 
   abbrev pub chosenOf : List (ℕ × Day)
-  chosenOf = chosen (highXofY group r) (history t)
+  chosenOf = chosen (methodOf group r) (history t)
 
   abbrev pub reachOf : ℕ
-  reachOf = reach (highXofY group r) (history t)
+  reachOf = reach (methodOf group r) (history t)
 
   abbrev pub rulerOf : List ℕ
   rulerOf = ruler (dayOf t (r .event - 1)) (dayOf t (r .event))
@@ -58,7 +59,7 @@ numeratorsOf t r = map (λ q. 12 * S (chosenOf t r) q + NOf r * AOf t r - BOf t 
 unfoldable pub answerOver : Table → Request → Answer
 answerOver t r =
     record {
-      days = dated (chosenOf t r);
+      days = daysOf (chosenOf t r);
       reach = reachOf t r;
       denominator = 12 * NOf r;
       adjusted = adjustment (NOf r) (AOf t r) (BOf t r);
@@ -106,7 +107,7 @@ unfoldable pub dayRows : Table → Request → List (Bool × Refusal)
 dayRows t r =
     -- 8: "margin too short: eligible held days below Y and a relevant day before F", "D minus the oldest relevant day"
     (
-      ltb (length (eligibles (highXofY group r) (history t))) (YOf r) && any (λ d. ltb d (t .first)) (relevantDays group r),
+      ltb (length (eligibles (methodOf group r) (history t))) (YOf r) && any (λ d. ltb d (t .first)) (relevantDays group r),
       MarginTooShort (r .event - leastOf (r .event) (relevantDays group r)),
     ) ∷
     -- 9: "too few: window below N", "its size, reach"

@@ -8,7 +8,7 @@ use lib.ListN.{take, drop}
 use Rattle.lists.specs.Lists.{all}
 use Rattle.method.specs.declared.Request.{Request}
 use Rattle.method.specs.Table.{present, eventBit, outageBit}
-use Rattle.method.specs.HighXofY.{complete, eligible, spare, eventSum}
+use Rattle.method.specs.Eligible.{complete, eligible, spare, eventSum}
 use Rattle.sums.specs.Sums.{Summed}
 use Rattle.judging.specs.declared.Judged.{Judged}
 use Rattle.judging.specs.declared.Judged.the-variants.{Eligible, Spare, Neither}

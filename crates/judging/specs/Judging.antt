@@ -4,7 +4,7 @@ use mathlib.Core.Bool.{cond}
 use mathlib.Core.List.{List}
 use Rattle.method.specs.declared.Request.{Request}
 use Rattle.method.specs.Table.{Day}
-use Rattle.method.specs.HighXofY.{eligible, spare, eventSum}
+use Rattle.method.specs.Eligible.{eligible, spare, eventSum}
 use Rattle.judging.specs.declared.Judged.{Judged}
 use Rattle.judging.specs.declared.Judged.the-variants.{Eligible, Spare, Neither}
 

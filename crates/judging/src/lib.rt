@@ -1,7 +1,7 @@
 // What a day's mark and readings make of it: eligible or spare with its word, or neither (document 01, "Choosing the days").
 ghost use mathlib.Core.Path.{_≡_};
 ghost use Prim.Native.Nat.{_%_, _^_};
-ghost use Rattle.method.specs.HighXofY.{eventSum};
+ghost use Rattle.method.specs.Eligible.{eventSum};
 ghost use Rattle.judging.specs.Judging.{room, judgedAt};
 use method::Request;
 use numbers::counts;

@@ -9,7 +9,11 @@ use Rattle.method.specs.Table.{size, offset, dayOf, held, shaped, isExtract}
 use Rattle.method.specs.Relevant.{daysBefore, relevant, relevantDays}
 use Rattle.method.specs.Method.{wholeReach, seen, eligibles, spares, window, chosen, reach, isShort, outcome}
 use Rattle.method.specs.Adjustment.{windowEnds, latestEnd, adjustmentEnd, places, S, A, B, baselineAt, baseline}
-use Rattle.method.specs.HighXofY.{complete, eligible, spare, eventSum, higher, insertBy, sortBy, highXofY}
+use Rattle.method.specs.Eligible.{complete, eligible, spare, eventSum, higher, insertBy, sortBy}
+use Rattle.method.specs.HighXofY.{highXofY}
+use Rattle.method.specs.Requested.{rulesOf, methodOf}
+use Rattle.method.specs.Rules.{methodBy}
+use Rattle.method.specs.Ruler.{rulerStart, rulerEnd, quarterOf, against}
 use Rattle.method.specs.Verdict.{tableRefusals, goodRequest, requestRefusals, closing, firstOf, methodology, verdict}
 use Rattle.record.specs.Layout.{bytes, pfRecord, readingBytes, dyRecord, evRecord, dyRecords, evRecords, fileOf}
 use Rattle.record.specs.Reader.{numberAt, opensWith, isRecord, isPF, isDY, isEV, run, isDYof, daysFrom, eventsFrom, firstIn, daysIn, dayStart}
@@ -25,7 +29,7 @@ definitions : ℕ
 unfolding keep all any leading member sumOf leastOf leap months newYear dayNumber yearOf easter fixedHolidays easterHolidays holidays
     isHoliday group digits dec decimal size offset dayOf held shaped isExtract daysBefore relevant relevantDays wholeReach seen eligibles spares
     window chosen reach isShort outcome windowEnds latestEnd adjustmentEnd places S A B baselineAt baseline complete eligible spare eventSum
-    higher insertBy sortBy highXofY tableRefusals goodRequest requestRefusals closing firstOf methodology verdict bytes pfRecord readingBytes
+    higher insertBy sortBy methodOf methodBy rulesOf highXofY rulerStart rulerEnd quarterOf against tableRefusals goodRequest requestRefusals closing firstOf methodology verdict bytes pfRecord readingBytes
     dyRecord evRecord dyRecords evRecords fileOf numberAt opensWith isRecord isPF isDY isEV run isDYof daysFrom eventsFrom firstIn daysIn dayStart
     eventStart eventsIn goodEnd shapeIn readFile marksFrom numbers readingsFrom tableIn eventOf requestAt spaced lineText linesText refusedLine
     headerLine eventLine quarterLine quarterLines refusalLine eventLines repliedLines linesFrom listingLines listing

@@ -21,9 +21,12 @@ use Rattle.method.specs.declared.Request.{Request}
 use Rattle.method.specs.declared.Refusal.{Refusal}
 use Rattle.method.specs.Table.{Table, Day, History, history, dayOf, held, size, offset, goodMark, goodReading}
 use Rattle.method.specs.Relevant.{relevantDays}
-use Rattle.method.specs.Method.{Method, short, few, chose, dated, seen, eligibles, spares, window, chosen, reach, wholeReach, isShort, outcome}
+use Rattle.method.specs.Method.{Method, short, few, chose, daysOf, seen, eligibles, spares, window, chosen, reach, wholeReach, isShort, outcome}
 use Rattle.method.specs.Adjustment.{ruler, adjustmentEnd, places, S, A, B, adjustment, Baseline, baselineAt, baseline}
-use Rattle.method.specs.HighXofY.{Y, N, eligible, spare, higher, sortBy, highXofY}
+use Rattle.method.specs.Eligible.{eligible, spare, higher, sortBy}
+use Rattle.method.specs.HighXofY.{Y, N}
+use Rattle.method.specs.Rules.{methodBy}
+use Rattle.method.specs.Requested.{methodOf}
 use Rattle.method.specs.Verdict.{Answer, Reply, refused, answered, carries, tableRefusals, requestRefusals, closing, firstOf, methodology, verdict}
 use Rattle.method.proofs.LookBack.{lookBack-is}
 use Rattle.method.proofs.HighXofY.{relevant-lookBack}
@@ -67,7 +70,7 @@ module _ (event : ℕ) where
   abbrev near : ℕ × Day → Bool
   near p = ltb (p .0) event && all small (p .1 .readings)
 
-  days-small : event ≤ 65535 → (l : List (ℕ × Day)) → all near l ≡ true → all small (dated l) ≡ true
+  days-small : event ≤ 65535 → (l : List (ℕ × Day)) → all near l ≡ true → all small (daysOf l) ≡ true
   unfolding all
   days-small h [] e = refl
   days-small h (p ∷ l) e =
@@ -119,7 +122,7 @@ two-small m n h k = rw (le-leb m 4294967295 h, le-leb n 4294967295 k)
 module _ (group : ℕ → Group) (t : Table) (r : Request) (few-marks : length (t .marks) ≤ 128) (few-readings : length (t .readings) ≤ 12288)
     (good : all small (t .readings) ≡ true) (early : r .event ≤ 65535) where
   abbrev how : Method Day (Option Baseline)
-  how = highXofY group r
+  how = methodOf group r
 
   abbrev h : History Day
   h = history t
@@ -132,7 +135,7 @@ module _ (group : ℕ → Group) (t : Table) (r : Request) (few-marks : length (
   day-small d = all-take small (size d) (drop (offset (t .first) (d - t .first)) (t .readings)) (all-drop small (offset (t .first) (d - t .first)) (t .readings) good)
 
   seen-near : all (near (r .event)) (seen how h) ≡ true
-  unfolding seen highXofY
+  unfolding seen methodOf methodBy
   seen-near = all-mapped (near (r .event)) (λ d. (d, dayOf t d)) (keep (held h) (relevantDays group r)) each
     where
       each : (d : ℕ) → member d (keep (held h) (relevantDays group r)) ≡ true → near (r .event) (d, dayOf t d) ≡ true
@@ -141,7 +144,7 @@ module _ (group : ℕ → Group) (t : Table) (r : Request) (few-marks : length (
           rw (lt-ltb d (r .event) before, day-small d)
 
   window-near : all (near (r .event)) (window how h) ≡ true
-  unfolding window eligibles spares highXofY
+  unfolding window eligibles spares methodOf methodBy
   window-near =
       let kept = all-keep (near (r .event)) (λ (p : ℕ × Day). eligible (p .1)) (seen how h) seen-near in
       let spare-days = keep (λ (p : ℕ × Day). spare (p .1)) (seen how h) in
@@ -153,29 +156,29 @@ module _ (group : ℕ → Group) (t : Table) (r : Request) (few-marks : length (
       )
 
   chosen-near : all (near (r .event)) (chosen how h) ≡ true
-  unfolding chosen highXofY
+  unfolding chosen methodOf methodBy
   chosen-near =
       all-take (near (r .event)) (how .taken (length (window how h))) (sortBy (higher r) (window how h))
       (all-sorted (higher r) (near (r .event)) (window how h) ∙ window-near)
 
   chosen-few : length (chosen how h) ≤ 5
-  unfolding chosen highXofY
+  unfolding chosen methodOf methodBy
   chosen-few = rw length-take (omega (arith, taken-most (ltb (length (window how h)) (N g)) (N g), five-most g))
 
   window-few : length (window how h) ≤ 15
-  unfolding window highXofY
+  unfolding window methodOf methodBy
   window-few = simp (length-append, length-take) (omega (arith, ten-most g))
 
   whole-small : wholeReach how ≤ 4294967295
-  unfolding wholeReach highXofY
+  unfolding wholeReach methodOf methodBy
   whole-small = omega arith
 
   reach-small : reach how h ≤ 4294967295
-  unfolding reach wholeReach highXofY
+  unfolding reach wholeReach methodOf methodBy
   reach-small =
       omega (
         arith,
-        either-less (eqb (length (window how h)) (Y g)) (r .event) (leastOf (r .event) (dated (window how h)))
+        either-less (eqb (length (window how h)) (Y g)) (r .event) (leastOf (r .event) (daysOf (window how h)))
             (leastOf (r .event) (relevantDays group r)),
       )
 
@@ -199,11 +202,11 @@ module _ (group : ℕ → Group) (t : Table) (r : Request) (few-marks : length (
       (omega (arith, chosen-few, rw length-places at sums))
 
   closing-near : Near (closing (outcome how h))
-  unfolding closing outcome highXofY baseline baselineAt
+  unfolding closing outcome methodOf methodBy baseline baselineAt
   closing-near = go (isShort how h) (eqb (how .taken (length (window how h))) 0) (eqb end 0)
     where
       go : (x y z : Bool) → Near (closing (cond x (short (wholeReach how)) (cond y (few (length (window how h)) (reach how h))
-          (chose (dated (chosen how h)) (reach how h)
+          (chose (daysOf (chosen how h)) (reach how h)
           (cond z none (some (baselineAt r (N g) (chosen how h) (adjustment (N g) (A (ruler yesterday today) end) (B (chosen how h) end)))))))))
       go true y z = one-small (wholeReach how) whole-small
       go false true z = two-small (length (window how h)) (reach how h) (omega (arith, window-few)) reach-small
@@ -223,10 +226,10 @@ module _ (group : ℕ → Group) (t : Table) (r : Request) (few-marks : length (
       let reading : leading goodReading (t .readings) ≤ 4294967295 = omega (arith, leading-most goodReading (t .readings)) in
       rw (le-leb (leading goodMark (t .marks)) 4294967295 mark, le-leb (leading goodReading (t .readings)) 4294967295 reading)
 
-  request-small : (room : ℕ) → all carry-small (requestRefusals t r room) ≡ true
+  request-small : (room : ℕ) → all carry-small (requestRefusals (history t) r room) ≡ true
   unfolding requestRefusals all carry-small
   request-small room = refl
 
   pub verdict-near : (room : ℕ) → Near (verdict group t r room)
   unfolding verdict methodology
-  verdict-near room = first-near (tableRefusals t) _ table-small (first-near (requestRefusals t r room) _ (request-small room) closing-near)
+  verdict-near room = first-near (tableRefusals t) _ table-small (first-near (requestRefusals (history t) r room) _ (request-small room) closing-near)

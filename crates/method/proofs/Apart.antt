@@ -9,7 +9,7 @@ use Rattle.lists.specs.Lists.{keep, member}
 use Rattle.lists.proofs.Bools.{bool-cases, clash}
 use Rattle.lists.proofs.Keep.{keep-append}
 use Rattle.method.specs.Table.{History, held}
-use Rattle.method.specs.Method.{Method, dated, seen, eligibles, spares, window, isShort}
+use Rattle.method.specs.Method.{Method, daysOf, seen, eligibles, spares, window, isShort}
 use Rattle.method.specs.Lawful.{Lawful}
 use Rattle.method.proofs.Histories.{Extends, held-last, is-held}
 use Rattle.method.proofs.Seen.{In, by, window-first}
@@ -57,11 +57,11 @@ pub apart : {A O : Type 0} (m : Method A O) (law : Lawful m) (h one other : Hist
     → held h (m .event) ≡ true → isShort m h ≡ true
     → Below h one (m .eligible) true → Below h other (m .eligible) false → Below h other (m .spare) false
     → (k : ℕ) → member k (m .relevant) ≡ true → k < h .first → one .first ≤ k
-    → (d : ℕ) × In d (window m one) × (member d (dated (window m other)) ≡ false)
+    → (d : ℕ) × In d (window m one) × (member d (daysOf (window m other)) ≡ false)
 apart m law h one other x y holds too-short every no-eligible no-spare k r b f =
     let i = comes-in m law h one x holds too-short every k r b f in
     (i .0, i .2, rw (stays m law h other y holds no-eligible no-spare) (outside (i .0) (i .1)))
   where
-    outside : (d : ℕ) → d < h .first → member d (dated (window m h)) ≡ false
+    outside : (d : ℕ) → d < h .first → member d (daysOf (window m h)) ≡ false
     outside d less =
-        ⊎-elim (λ e. absurd (omega (arith, window-first m law h d e))) (λ e. e) (bool-cases (member d (dated (window m h))))
+        ⊎-elim (λ e. absurd (omega (arith, window-first m law h d e))) (λ e. e) (bool-cases (member d (daysOf (window m h))))

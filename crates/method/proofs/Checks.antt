@@ -8,7 +8,11 @@ use Rattle.method.specs.Table.{size, offset, dayOf, held, shaped, isExtr
 use Rattle.method.specs.Relevant.{daysBefore, relevant, relevantDays}
 use Rattle.method.specs.Method.{wholeReach, seen, eligibles, spares, window, chosen, reach, isShort, outcome}
 use Rattle.method.specs.Adjustment.{windowEnds, latestEnd, adjustmentEnd, places, S, A, B, baselineAt, baseline}
-use Rattle.method.specs.HighXofY.{complete, eligible, spare, eventSum, higher, insertBy, sortBy, highXofY}
+use Rattle.method.specs.Eligible.{complete, eligible, spare, eventSum, higher, insertBy, sortBy}
+use Rattle.method.specs.HighXofY.{highXofY}
+use Rattle.method.specs.Requested.{rulesOf, methodOf}
+use Rattle.method.specs.Rules.{methodBy}
+use Rattle.method.specs.Ruler.{rulerStart, rulerEnd, quarterOf, against}
 use Rattle.method.specs.Verdict.{tableRefusals, goodRequest, requestRefusals, closing, firstOf, methodology, verdict, written, wellFormed}
 use Rattle.method.specs.Checks.{Checks}
 use Rattle.method.specs.Edges.{Edges}
@@ -18,7 +22,7 @@ unfoldable pub definitions : ℕ
 unfolding keep all any leading member sumOf leastOf leap months newYear dayNumber yearOf easter fixedHolidays easterHolidays holidays
     isHoliday group size offset dayOf held shaped isExtract dayPart daysBefore relevant relevantDays wholeReach seen eligibles spares window chosen
     reach isShort outcome windowEnds latestEnd adjustmentEnd places S A B baselineAt baseline complete eligible spare eventSum higher insertBy
-    sortBy highXofY tableRefusals goodRequest requestRefusals closing firstOf methodology verdict written wellFormed
+    sortBy methodOf methodBy rulesOf highXofY rulerStart rulerEnd quarterOf against tableRefusals goodRequest requestRefusals closing firstOf methodology verdict written wellFormed
 definitions = 0
 
 pub checks : Checks

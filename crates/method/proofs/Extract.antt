@@ -13,9 +13,10 @@ use Rattle.method.specs.declared.Refusal.{Refusal}
 use Rattle.method.specs.declared.Refusal.the-variants.{MarginTooShort}
 use Rattle.method.specs.Table.{Table, heldDays, held, history, shaped, isExtract, goodMark, goodReading}
 use Rattle.method.specs.Method.{reach, wholeReach}
-use Rattle.method.specs.HighXofY.{highXofY}
+use Rattle.method.specs.Rules.{methodBy}
+use Rattle.method.specs.Requested.{methodOf}
 use Rattle.method.specs.Verdict.{refused, tableRefusals, firstOf, methodology, verdict, wellFormed}
-use Rattle.method.specs.Demands.{LongerFormed, Part, heldBefore, cutTo, Undecided, Parted, isMargin, isSettled, reported, NoneEarlier}
+use Rattle.method.specs.Demands.{LongerFormed, CutFrom, heldBefore, cutTo, Undecided, Parted, isMargin, isSettled, reported, NoneEarlier}
 use Rattle.method.proofs.Tables.{formed-is, cut-part, cut-before}
 use Rattle.method.proofs.Reach.{reach-held}
 use Rattle.method.proofs.HighXofY.{lawful}
@@ -25,7 +26,7 @@ use Rattle.method.proofs.Demand3.{demand3}
 
 -- of a well-formed extract the verdict is the methodology's reply
 pub verdict-is : (group : ℕ → Group) (t : Table) (r : Request) (room : ℕ) → isExtract t ≡ true → wellFormed t ≡ true
-    → verdict group t r room ≡ methodology group t r room
+    → verdict group t r room ≡ methodology group (history t) r room
 unfolding verdict tableRefusals firstOf
 verdict-is group t r room extract well =
     let f = formed-is t well in
@@ -50,7 +51,7 @@ unfolding wellFormed
 shaped-is t e = search (and-left, and-right)
 
 -- a part of an extract is one
-part-extract : (t p : Table) (r : Request) → isExtract t ≡ true → Part p t r → isExtract p ≡ true
+part-extract : (t p : Table) (r : Request) → isExtract t ≡ true → CutFrom p t r → isExtract p ≡ true
 unfolding isExtract
 part-extract t p r e x =
     let most : leb (heldDays t) 128 ≡ true = search and-left in
@@ -59,12 +60,12 @@ part-extract t p r e x =
 
 module _ (group : ℕ → Group) (t : Table) (r : Request) (room : ℕ)
     (extract : isExtract t ≡ true) (well : wellFormed t ≡ true) (holds : held (history t) (r .event) ≡ true) where
-  is : verdict group t r room ≡ methodology group t r room
+  is : verdict group t r room ≡ methodology group (history t) r room
   is = verdict-is group t r room extract well
 
   -- "every longer well-formed history that agrees with the extract .. gets the same by the methodology, all numbers included"
   pub verdict-stable : isMargin (verdict group t r room) ≡ false → (l : Table) → LongerFormed l t
-      → methodology group l r room ≡ verdict group t r room
+      → methodology group (history l) r room ≡ verdict group t r room
   verdict-stable clear l x = demand3 group t r room well holds .stable (sym (ap isMargin is) ∙ clear) l x ∙ sym is
 
   -- "'Margin too short' is given, once no earlier refusal applies, exactly when two longer well-formed histories .. have different baseline
@@ -77,33 +78,33 @@ module _ (group : ℕ → Group) (t : Table) (r : Request) (room : ℕ)
   )
 
   module _ (settled : isSettled (verdict group t r room) ≡ true) where
-    settled-method : isSettled (methodology group t r room) ≡ true
+    settled-method : isSettled (methodology group (history t) r room) ≡ true
     settled-method = rw is at settled
 
     none-earlier : NoneEarlier t r room
     none-earlier = settled-early group t r room settled-method
 
-    clear : isMargin (methodology group t r room) ≡ false
-    clear = settled-margin (methodology group t r room) settled-method
+    clear : isMargin (methodology group (history t) r room) ≡ false
+    clear = settled-margin (methodology group (history t) r room) settled-method
 
-    reported-is : reported (verdict group t r room) ≡ reach (highXofY group r) (history t)
+    reported-is : reported (verdict group t r room) ≡ reach (methodOf group r) (history t)
     reported-is = ap reported is ∙ settled-reach group t r room settled-method
 
     -- so many days before the event are held
     pub reach-within : reported (verdict group t r room) ≤ heldBefore t r
-    unfolding highXofY
+    unfolding methodOf methodBy
     reach-within =
-        rw reported-is (reach-held (highXofY group r) (lawful group r) (history t) holds (sym (margin-is group t r room none-earlier) ∙ clear))
+        rw reported-is (reach-held (methodOf group r) (lawful group r) (history t) holds (sym (margin-is group t r room none-earlier) ∙ clear))
 
     -- the table cut to `k` days before the event, at most the reach
     module _ (k : ℕ) (e : k ≤ reported (verdict group t r room)) where
-      part : Part (cutTo t r k) t r
+      part : CutFrom (cutTo t r k) t r
       part = cut-part t r well holds k (omega (arith, e, reach-within))
 
       days : heldBefore (cutTo t r k) r ≡ k
       days = cut-before t r well holds k (omega (arith, e, reach-within))
 
-      part-is : verdict group (cutTo t r k) r room ≡ methodology group (cutTo t r k) r room
+      part-is : verdict group (cutTo t r k) r room ≡ methodology group (history (cutTo t r k)) r room
       part-is = verdict-is group (cutTo t r k) r room (part-extract t (cutTo t r k) r extract part) (part .formed)
 
     -- "The reported reach is the fewest days before the event that give this result."
@@ -119,12 +120,12 @@ module _ (group : ℕ → Group) (t : Table) (r : Request) (room : ℕ)
 
     -- "one day less gives refusal 8 whenever reach is not 0", and so does any number of days less
     pub reach-fewest : (k : ℕ) → k < reported (verdict group t r room)
-        → verdict group (cutTo t r k) r room ≡ refused (MarginTooShort (wholeReach (highXofY group r)))
+        → verdict group (cutTo t r k) r room ≡ refused (MarginTooShort (wholeReach (methodOf group r)))
     reach-fewest k less = part-is k fits ∙ demand3 group (cutTo t r k) r room (part k fits .formed) (part k fits .holds) .carried margin
       where
         fits : k ≤ reported (verdict group t r room)
         fits = omega arith
 
-        margin : isMargin (methodology group (cutTo t r k) r room) ≡ true
+        margin : isMargin (methodology group (history (cutTo t r k)) r room) ≡ true
         margin =
             demand3 group t r room well holds .fewer none-earlier (cutTo t r k) (part k fits) (omega (arith, reported-is, days k fits))

@@ -1,4 +1,4 @@
--- High X of Y is lawful: its days come from the look-back, N is below Y, and sorting only permutes.
+-- The method that a request asks for is lawful: its days come from the look-back, N is below Y, and sorting only permutes.
 use mathlib.Core.Path.{_≡_, refl, sym, _∙_}
 use mathlib.Core.Bool.{true, cond}
 use Prim.Native.Nat.{ℕ, _≤_, _<_}
@@ -12,7 +12,10 @@ use Rattle.calendar.specs.declared.Group.{Group}
 use Rattle.calendar.specs.declared.Group.the-variants.{Weekday, Saturday, HolidayGroup}
 use Rattle.method.specs.declared.Request.{Request}
 use Rattle.method.specs.Relevant.{relevant, relevantDays, lookBack}
-use Rattle.method.specs.HighXofY.{highXofY, higher, Y, N}
+use Rattle.method.specs.Eligible.{higher}
+use Rattle.method.specs.Rules.{methodBy}
+use Rattle.method.specs.HighXofY.{highXofY, Y, N}
+use Rattle.method.specs.Requested.{rulesOf, methodOf}
 use Rattle.method.specs.Lawful.{Lawful, Falling}
 use Rattle.method.proofs.Falling.{falling-keep}
 use Rattle.method.proofs.Sort.{member-sorted}
@@ -45,8 +48,8 @@ module _ (group : ℕ → Group) (r : Request) where
   unfolding relevantDays
   relevant-fall = falling-keep (relevant group r) (lookBack-fall (r .event))
 
-  pub lawful : Lawful (highXofY group r)
-  unfolding highXofY
+  pub lawful : Lawful (methodOf group r)
+  unfolding methodOf methodBy rulesOf highXofY
   lawful =
       record {
         falling = relevant-fall;

@@ -14,6 +14,7 @@ pub mod Before
 pub mod Sort
 pub mod HighXofY
 pub mod Tables
+pub mod Ruler
 pub mod Replies
 pub mod Settled
 pub mod Undecided

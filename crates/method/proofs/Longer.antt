@@ -13,7 +13,7 @@ use Rattle.lists.specs.Lists.{keep, member}
 use Rattle.lists.proofs.Bools.{bool-cases, and-left, and-right}
 use Rattle.lists.proofs.Keep.{member-head, member-map-reach, member-keep, kept-holds, keep-append, keep-map, keep-same, keep-every, keep-none, map-same}
 use Rattle.method.specs.Table.{History, held}
-use Rattle.method.specs.Method.{Method, dated, seen, eligibles, spares, window}
+use Rattle.method.specs.Method.{Method, daysOf, seen, eligibles, spares, window}
 use Rattle.method.specs.Lawful.{Lawful}
 use Rattle.method.proofs.Falling.{since, until, falling-split}
 use Rattle.method.proofs.Histories.{Extends, extends-held, held-first}
@@ -32,7 +32,7 @@ module _ {A O : Type 0} (m : Method A O) (h l : History A) where
       let k = kept-holds (until (h .first) (held l)) (m .relevant) d e in
       (held-first l d (and-right (ltb d (h .first)) (held l d) k), ltb-true d (h .first) (and-left (ltb d (h .first)) (held l d) k))
 
-  dated-earlier : dated earlier ≡ added
+  dated-earlier : daysOf earlier ≡ added
   unfolding earlier
   dated-earlier = dated-days (l .day) added
 
@@ -96,7 +96,7 @@ module _ {A O : Type 0} (m : Method A O) (law : Lawful m) (h l : History A) (x :
   late-in e y ys q = (below, in-left (y .0) (take (m .most) (eligibles m l)) (take (m .fill - length (eligibles m l)) (spares m l)) inside)
     where
       below : y .0 < h .first
-      below = earlier-below m h l (y .0) (in-keep (y .0) (by (m .eligible)) (earlier m h l) (rw q (member-head (y .0) (dated ys))))
+      below = earlier-below m h l (y .0) (in-keep (y .0) (by (m .eligible)) (earlier m h l) (rw q (member-head (y .0) (daysOf ys))))
 
       inside : In (y .0) (take (m .most) (eligibles m l))
       inside = rw (eligibles-longer, q) (member-map-reach (λ (p : ℕ × A). p .0) (y .0) (m .most) (eligibles m h) y ys e refl)

@@ -19,11 +19,15 @@ use Rattle.method.specs.Table.{Table, Day, dayOf, held, history, isExtra
 use Rattle.method.specs.Method.{outcome}
 use Rattle.method.specs.Adjustment.{baseline, ruler, twelve, windowEnds, latestEnd, adjustmentEnd, A}
 use Rattle.method.specs.HighXofY.{highXofY, N}
+use Rattle.method.specs.Rules.{methodBy}
+use Rattle.method.specs.Requested.{rulesOf, methodOf}
+use Rattle.method.specs.Ruler.{rulerStart}
+use Rattle.method.proofs.Ruler.{start-size, window-before}
 use Rattle.method.specs.Verdict.{closing, goodRequest, requestRefusals, methodology, verdict, wellFormed}
 use Rattle.method.specs.Demands.{NoneEarlier}
 use Rattle.method.proofs.Before.{before-same}
 use Rattle.method.proofs.HighXofY.{lawful}
-use Rattle.method.proofs.Tables.{size-is, day-size}
+use Rattle.method.proofs.Tables.{day-size}
 use Rattle.method.proofs.Replies.{earlier-cases, plain, hidden-same, same-refusals}
 use Rattle.method.proofs.Extract.{verdict-is}
 
@@ -77,12 +81,17 @@ module _ (r : Request) (ordered : r .n ≤ r .s) (enough : 12 ≤ r .s) where
       ys : List ℕ
       ys = ruler yesterday b
 
-ruler-same : (s : ℕ) (yesterday a b : Day) → length (yesterday .readings) ≡ 96 → 96 ≤ s
-    → take (s - 96) (a .readings) ≡ take (s - 96) (b .readings) → take s (ruler yesterday a) ≡ take s (ruler yesterday b)
-ruler-same s yesterday a b size e alike =
-    rw (split, take-append-add (yesterday .readings) (a .readings) (s - 96), take-append-add (yesterday .readings) (b .readings) (s - 96), alike)
+ruler-same : (start s : ℕ) (yesterday a b : Day) → length (yesterday .readings) ≡ start → start ≤ s
+    → take (s - start) (a .readings) ≡ take (s - start) (b .readings) → take s (ruler yesterday a) ≡ take s (ruler yesterday b)
+ruler-same start s yesterday a b size e alike =
+    rw (
+      split,
+      take-append-add (yesterday .readings) (a .readings) (s - start),
+      take-append-add (yesterday .readings) (b .readings) (s - start),
+      alike,
+    )
   where
-    split : s ≡ length (yesterday .readings) + (s - 96)
+    split : s ≡ length (yesterday .readings) + (s - start)
     split = omega arith
 
 -- what is known once no refusal before 8 applies
@@ -96,39 +105,45 @@ unfolding requestRefusals any
 known t r room n =
     first-two (goodRequest r) (held (history t) (r .event)) (ltb (r .event) (r .participation) || (ltb room (r .e - r .s) || false)) n
 
-known-quarters : (r : Request) → goodRequest r ≡ true → (96 ≤ r .s) × (r .n ≤ r .s)
+known-quarters : (r : Request) → goodRequest r ≡ true → (rulerStart (r .event) ≤ r .s) × (r .n ≤ r .s)
 unfolding goodRequest
 known-quarters r e =
-    let on-D : leb 96 (r .s) ≡ true = search (and-left, and-right) in
+    let on-D : leb (rulerStart (r .event)) (r .s) ≡ true = search (and-left, and-right) in
     let ordered : leb (r .n) (r .s) ≡ true = search (and-left, and-right) in
-    (leb-true 96 (r .s) on-D, leb-true (r .n) (r .s) ordered)
+    (leb-true (rulerStart (r .event)) (r .s) on-D, leb-true (r .n) (r .s) ordered)
+
+-- what comes of the chosen days looks at day D before s alone
+finish-same : (g : Group) (r : Request) → 12 ≤ r .s → r .n ≤ r .s → (chosen : List (ℕ × Day)) (yesterday a b : Day)
+    → take (r .s) (ruler yesterday a) ≡ take (r .s) (ruler yesterday b) → rulesOf g r .finish chosen yesterday a ≡ rulesOf g r .finish chosen yesterday b
+unfolding rulesOf highXofY
+finish-same g r enough ordered = baseline-same r ordered enough (N g)
 
 module _ (group : ℕ → Group) (t u : Table) (r : Request) (well : wellFormed t ≡ true)
     (starts : u .first ≡ t .first) (both : held (history u) (r .event) ≡ held (history t) (r .event))
     (agrees : (d : ℕ) → held (history t) d ≡ true → d < r .event → dayOf u d ≡ dayOf t d)
-    (alike : take (r .s - 96) (dayOf u (r .event) .readings) ≡ take (r .s - 96) (dayOf t (r .event) .readings)) where
+    (alike : take (r .s - rulerStart (r .event)) (dayOf u (r .event) .readings) ≡ take (r .s - rulerStart (r .event)) (dayOf t (r .event) .readings)) where
   outcomes : goodRequest r ≡ true → held (history t) (r .event) ≡ true
-      → outcome (highXofY group r) (history u) ≡ outcome (highXofY group r) (history t)
-  unfolding highXofY
+      → outcome (methodOf group r) (history u) ≡ outcome (methodOf group r) (history t)
+  unfolding methodOf methodBy
   outcomes good holds =
-      before-same (highXofY group r) (lawful group r) (history t) (history u) starts holds (both ∙ holds) agrees
-      (λ days e. baseline-same r (q .1) (omega (arith, q .0)) (N (group (r .event))) days yesterday (dayOf u (r .event)) (dayOf t (r .event))
-      (rulers (day-size t well (r .event - 1) e ∙ size-is (r .event - 1))))
+      before-same (methodOf group r) (lawful group r) (history t) (history u) starts holds (both ∙ holds) agrees
+      (λ days e. finish-same (group (r .event)) r (omega (arith, q .0, window-before (r .event))) (q .1) days yesterday (dayOf u (r .event)) (dayOf t (r .event))
+      (rulers (day-size t well (r .event - 1) e ∙ start-size (r .event))))
     where
-      q : (96 ≤ r .s) × (r .n ≤ r .s)
+      q : (rulerStart (r .event) ≤ r .s) × (r .n ≤ r .s)
       q = known-quarters r good
 
       yesterday : Day
       yesterday = dayOf t (r .event - 1)
 
-      rulers : length (yesterday .readings) ≡ 96
+      rulers : length (yesterday .readings) ≡ rulerStart (r .event)
           → take (r .s) (ruler yesterday (dayOf u (r .event))) ≡ take (r .s) (ruler yesterday (dayOf t (r .event)))
-      rulers size = ruler-same (r .s) yesterday (dayOf u (r .event)) (dayOf t (r .event)) size (q .0) alike
+      rulers size = ruler-same (rulerStart (r .event)) (r .s) yesterday (dayOf u (r .event)) (dayOf t (r .event)) size (q .0) alike
 
-  methodologies : (room : ℕ) → methodology group u r room ≡ methodology group t r room
+  methodologies : (room : ℕ) → methodology group (history u) r room ≡ methodology group (history t) r room
   methodologies room = ⊎-elim (hidden-same group u t r room both) plainly (earlier-cases t r room)
     where
-      plainly : NoneEarlier t r room → methodology group u r room ≡ methodology group t r room
+      plainly : NoneEarlier t r room → methodology group (history u) r room ≡ methodology group (history t) r room
       plainly n =
           plain group u r room (rw (same-refusals u t r room both) n) ∙
           ap closing (outcomes (known t r room n .0) (known t r room n .1)) ∙ sym (plain group t r room n)
@@ -137,7 +152,7 @@ pub no-part : (group : ℕ → Group) (t u : Table) (r : Request) (room : ℕ)
     → isExtract t ≡ true → wellFormed t ≡ true → isExtract u ≡ true → wellFormed u ≡ true
     → u .first ≡ t .first → held (history u) (r .event) ≡ held (history t) (r .event)
     → ((d : ℕ) → held (history t) d ≡ true → d < r .event → dayOf u d ≡ dayOf t d)
-    → take (r .s - 96) (dayOf u (r .event) .readings) ≡ take (r .s - 96) (dayOf t (r .event) .readings)
+    → take (r .s - rulerStart (r .event)) (dayOf u (r .event) .readings) ≡ take (r .s - rulerStart (r .event)) (dayOf t (r .event) .readings)
     → verdict group u r room ≡ verdict group t r room
 no-part group t u r room te tw ue uw starts both agrees alike =
     verdict-is group u r room ue uw ∙ methodologies group t u r tw starts both agrees alike room ∙ sym (verdict-is group t r room te tw)

@@ -12,7 +12,7 @@ use Rattle.lists.specs.Lists.{leastOf}
 use Rattle.lists.proofs.Bools.{bool-cases, clash}
 use Rattle.lists.proofs.Keep.{leastOf-top, leastOf-member, leastOf-from}
 use Rattle.method.specs.Table.{History, held}
-use Rattle.method.specs.Method.{Method, dated, eligibles, window, reach, wholeReach, isShort}
+use Rattle.method.specs.Method.{Method, daysOf, eligibles, window, reach, wholeReach, isShort}
 use Rattle.method.specs.Lawful.{Lawful}
 use Rattle.method.proofs.Histories.{Extends, held-first}
 use Rattle.method.proofs.Seen.{window-first}
@@ -31,7 +31,7 @@ module _ {A O : Type 0} (m : Method A O) (law : Lawful m) (h : History A) (holds
   reach-held enough = ⊎-elim full other (bool-cases (eqb (length (window m h)) (m .most)))
     where
       full : eqb (length (window m h)) (m .most) ≡ true → reach m h ≤ m .event - h .first
-      full t = rw t (omega (arith, leastOf-from (m .event) (dated (window m h)) (h .first) first (window-first m law h)))
+      full t = rw t (omega (arith, leastOf-from (m .event) (daysOf (window m h)) (h .first) first (window-first m law h)))
 
       other : eqb (length (window m h)) (m .most) ≡ false → reach m h ≤ m .event - h .first
       other t =
@@ -49,7 +49,7 @@ module _ {A O : Type 0} (m : Method A O) (law : Lawful m) (h l : History A) (x :
       ⊎-elim (λ t. t) (λ f. absurd (omega (arith, same-reach m law h l x holds f, reach-held m law h holds f))) (bool-cases (isShort m h))
 
   -- where the window of `l` holds Y days, none below the first day of `h`, then `h` holds Y eligible days
-  full-part : length (window m l) ≡ m .most → h .first ≤ leastOf (m .event) (dated (window m l)) → Full m h
+  full-part : length (window m l) ≡ m .most → h .first ≤ leastOf (m .event) (daysOf (window m l)) → Full m h
   full-part e f =
       ⊎-elim (λ t. absurd (go (ltb-true (length (eligibles m h)) (m .most) t) (late m h l) refl))
       (ltb-false (length (eligibles m h)) (m .most)) (bool-cases (ltb (length (eligibles m h)) (m .most)))
@@ -60,7 +60,7 @@ module _ {A O : Type 0} (m : Method A O) (law : Lawful m) (h l : History A) (x :
           omega (arith, size-below m law l (omega arith))
       go n (y ∷ ys) q =
           let i = late-in m law h l x holds n y ys q in
-          omega (arith, i .0, leastOf-member (m .event) (dated (window m l)) (y .0) (i .1))
+          omega (arith, i .0, leastOf-member (m .event) (daysOf (window m l)) (y .0) (i .1))
 
   pub reach-enough : reach m l ≤ m .event - h .first → isShort m h ≡ false
   unfolding reach
@@ -68,7 +68,7 @@ module _ {A O : Type 0} (m : Method A O) (law : Lawful m) (h l : History A) (x :
     where
       full : eqb (length (window m l)) (m .most) ≡ true → isShort m h ≡ false
       full t =
-          let d : m .event - leastOf (m .event) (dated (window m l)) ≤ m .event - h .first = rw t at e in
+          let d : m .event - leastOf (m .event) (daysOf (window m l)) ≤ m .event - h .first = rw t at e in
           full-enough m h
           (full-part (eqb-true (length (window m l)) (m .most) t)
-          (omega (arith, held-first h (m .event) holds, leastOf-top (m .event) (dated (window m l)))))
+          (omega (arith, held-first h (m .event) holds, leastOf-top (m .event) (daysOf (window m l)))))

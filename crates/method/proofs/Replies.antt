@@ -15,9 +15,9 @@ use Rattle.method.specs.declared.Request.{Request}
 use Rattle.method.specs.declared.Refusal.{Refusal}
 use Rattle.method.specs.declared.Refusal.the-variants.{MarginTooShort}
 use Rattle.method.specs.Table.{Table, Day, History, held, history}
-use Rattle.method.specs.Method.{Method, short, few, chose, dated, window, chosen, reach, wholeReach, isShort, outcome}
+use Rattle.method.specs.Method.{Method, short, few, chose, daysOf, window, chosen, reach, wholeReach, isShort, outcome}
 use Rattle.method.specs.Adjustment.{Baseline}
-use Rattle.method.specs.HighXofY.{highXofY}
+use Rattle.method.specs.Requested.{methodOf}
 use Rattle.method.specs.Verdict.{Reply, refused, requestRefusals, closing, firstOf, methodology}
 use Rattle.method.specs.Demands.{isMargin, NoneEarlier}
 
@@ -69,7 +69,7 @@ closing-margin m h =
   where
     ending : Bool → Bool → Option Baseline → Reply
     ending s f o =
-        closing (cond s (short (wholeReach m)) (cond f (few (length (window m h)) (reach m h)) (chose (dated (chosen m h)) (reach m h) o)))
+        closing (cond s (short (wholeReach m)) (cond f (few (length (window m h)) (reach m h)) (chose (daysOf (chosen m h)) (reach m h) o)))
 
     go : (s f : Bool) (o : Option Baseline) → isMargin (ending s f o) ≡ s
     go true f o = refl
@@ -84,42 +84,42 @@ closing-carries m h e = rw e
 
 -- refusals 4 to 7 ask of the table only whether it holds the event
 pub same-refusals : (l t : Table) (r : Request) (room : ℕ) → held (history l) (r .event) ≡ held (history t) (r .event)
-    → requestRefusals l r room ≡ requestRefusals t r room
+    → requestRefusals (history l) r room ≡ requestRefusals (history t) r room
 unfolding requestRefusals
 same-refusals l t r room e = rw e
 
 -- a refusal before 8 applies
 abbrev pub Earlier : Table → Request → ℕ → Type 0
-Earlier t r room = any (λ (p : Bool × Refusal). p .0) (requestRefusals t r room) ≡ true
+Earlier t r room = any (λ (p : Bool × Refusal). p .0) (requestRefusals (history t) r room) ≡ true
 
 pub earlier-cases : (t : Table) (r : Request) (room : ℕ) → Earlier t r room ⊎ NoneEarlier t r room
-earlier-cases t r room = bool-cases (any test (requestRefusals t r room))
+earlier-cases t r room = bool-cases (any test (requestRefusals (history t) r room))
 
 module _ (group : ℕ → Group) (t : Table) (r : Request) (room : ℕ) where
-  pub plain : NoneEarlier t r room → methodology group t r room ≡ closing (outcome (highXofY group r) (history t))
+  pub plain : NoneEarlier t r room → methodology group (history t) r room ≡ closing (outcome (methodOf group r) (history t))
   unfolding methodology
-  plain n = none-early (requestRefusals t r room) (closing (outcome (highXofY group r) (history t))) n
+  plain n = none-early (requestRefusals (history t) r room) (closing (outcome (methodOf group r) (history t))) n
 
-  pub hidden-other : (q : Reply → Bool) → all (other q) (requestRefusals t r room) ≡ true
-      → Earlier t r room → q (methodology group t r room) ≡ false
+  pub hidden-other : (q : Reply → Bool) → all (other q) (requestRefusals (history t) r room) ≡ true
+      → Earlier t r room → q (methodology group (history t) r room) ≡ false
   unfolding methodology
-  hidden-other q o e = early-other q (requestRefusals t r room) (closing (outcome (highXofY group r) (history t))) o e
+  hidden-other q o e = early-other q (requestRefusals (history t) r room) (closing (outcome (methodOf group r) (history t))) o e
 
-  pub hidden : Earlier t r room → isMargin (methodology group t r room) ≡ false
+  pub hidden : Earlier t r room → isMargin (methodology group (history t) r room) ≡ false
   unfolding requestRefusals
   hidden e = hidden-other isMargin (unfold all in refl) e
 
-  pub margin-is : NoneEarlier t r room → isMargin (methodology group t r room) ≡ isShort (highXofY group r) (history t)
-  margin-is n = rw (plain n) (closing-margin (highXofY group r) (history t))
+  pub margin-is : NoneEarlier t r room → isMargin (methodology group (history t) r room) ≡ isShort (methodOf group r) (history t)
+  margin-is n = rw (plain n) (closing-margin (methodOf group r) (history t))
 
-  pub margin-carries : NoneEarlier t r room → isShort (highXofY group r) (history t) ≡ true
-      → methodology group t r room ≡ refused (MarginTooShort (wholeReach (highXofY group r)))
-  margin-carries n e = plain n ∙ closing-carries (highXofY group r) (history t) e
+  pub margin-carries : NoneEarlier t r room → isShort (methodOf group r) (history t) ≡ true
+      → methodology group (history t) r room ≡ refused (MarginTooShort (wholeReach (methodOf group r)))
+  margin-carries n e = plain n ∙ closing-carries (methodOf group r) (history t) e
 
 -- two tables that both hold the event, or both do not: an earlier refusal is the same over both
 pub hidden-same : (group : ℕ → Group) (l t : Table) (r : Request) (room : ℕ) → held (history l) (r .event) ≡ held (history t) (r .event)
-    → Earlier t r room → methodology group l r room ≡ methodology group t r room
+    → Earlier t r room → methodology group (history l) r room ≡ methodology group (history t) r room
 unfolding methodology
 hidden-same group l t r room e a =
     rw (same-refusals l t r room e)
-    (early-same (requestRefusals t r room) (closing (outcome (highXofY group r) (history l))) (closing (outcome (highXofY group r) (history t))) a)
+    (early-same (requestRefusals (history t) r room) (closing (outcome (methodOf group r) (history l))) (closing (outcome (methodOf group r) (history t))) a)

@@ -12,13 +12,13 @@ use Rattle.lists.specs.Lists.{keep, member}
 use Rattle.lists.proofs.Bools.{either}
 use Rattle.lists.proofs.Keep.{kept-holds, kept-member, member-map-keep, member-map-take, member-map-append}
 use Rattle.method.specs.Table.{History, held}
-use Rattle.method.specs.Method.{Method, dated, seen, eligibles, spares, window}
+use Rattle.method.specs.Method.{Method, daysOf, seen, eligibles, spares, window}
 use Rattle.method.specs.Lawful.{Lawful}
 use Rattle.method.proofs.Histories.{held-first, held-last}
 
 -- day `d` is among the days
 abbrev pub In : {A : Type 0} → ℕ → List (ℕ × A) → Type 0
-In d days = member d (dated days) ≡ true
+In d days = member d (daysOf days) ≡ true
 
 -- a test of a day, by what is held of it
 abbrev pub by : {A : Type 0} → (A → Bool) → ℕ × A → Bool
@@ -32,17 +32,17 @@ module _ {A : Type 0} (d : ℕ) where
   in-take k days e = member-map-take (λ (p : ℕ × A). p .0) k days d e
 
   pub in-cases : (xs ys : List (ℕ × A)) → In d (xs ++ ys) → In d xs ⊎ In d ys
-  in-cases xs ys e = either (member d (dated xs)) (member d (dated ys)) (sym (member-map-append (λ (p : ℕ × A). p .0) d xs ys) ∙ e)
+  in-cases xs ys e = either (member d (daysOf xs)) (member d (daysOf ys)) (sym (member-map-append (λ (p : ℕ × A). p .0) d xs ys) ∙ e)
 
   pub in-left : (xs ys : List (ℕ × A)) → In d xs → In d (xs ++ ys)
   in-left xs ys e = rw (member-map-append (λ (p : ℕ × A). p .0) d xs ys, e)
 
-pub dated-days : {A : Type 0} (f : ℕ → A) (ds : List ℕ) → dated (map {B = ℕ × A} (λ d. (d, f d)) ds) ≡ ds
+pub dated-days : {A : Type 0} (f : ℕ → A) (ds : List ℕ) → daysOf (map {B = ℕ × A} (λ d. (d, f d)) ds) ≡ ds
 dated-days f [] = refl
 dated-days f (d ∷ ds) = ap (λ l. d ∷ l) (dated-days f ds)
 
 module _ {A O : Type 0} (m : Method A O) (law : Lawful m) (h : History A) where
-  dated-seen : dated (seen m h) ≡ keep (held h) (m .relevant)
+  dated-seen : daysOf (seen m h) ≡ keep (held h) (m .relevant)
   unfolding seen
   dated-seen = dated-days (h .day) (keep (held h) (m .relevant))
 

@@ -12,9 +12,9 @@ use Rattle.lists.proofs.Bools.{either, clash}
 use Rattle.calendar.specs.declared.Group.{Group}
 use Rattle.method.specs.declared.Request.{Request}
 use Rattle.method.specs.Table.{Table, Day, History, history}
-use Rattle.method.specs.Method.{Method, short, few, chose, dated, window, chosen, reach, wholeReach, isShort, outcome}
+use Rattle.method.specs.Method.{Method, short, few, chose, daysOf, window, chosen, reach, wholeReach, isShort, outcome}
 use Rattle.method.specs.Adjustment.{Baseline}
-use Rattle.method.specs.HighXofY.{highXofY}
+use Rattle.method.specs.Requested.{methodOf}
 use Rattle.method.specs.Verdict.{Reply, refused, answered, number, requestRefusals, closing, methodology}
 use Rattle.method.specs.Demands.{isMargin, isSettled, reported, NoneEarlier}
 use Rattle.method.proofs.Replies.{earlier-cases, plain, hidden-other}
@@ -32,7 +32,7 @@ closing-reach m h =
   where
     ending : Bool → Bool → Option Baseline → Reply
     ending s f o =
-        closing (cond s (short (wholeReach m)) (cond f (few (length (window m h)) (reach m h)) (chose (dated (chosen m h)) (reach m h) o)))
+        closing (cond s (short (wholeReach m)) (cond f (few (length (window m h)) (reach m h)) (chose (daysOf (chosen m h)) (reach m h) o)))
 
     go : (s f : Bool) (o : Option Baseline) → isSettled (ending s f o) ≡ true → reported (ending s f o) ≡ reach m h
     go true f o e = absurd (clash e refl)
@@ -41,13 +41,13 @@ closing-reach m h =
     go false false (some b) e = refl
 
 module _ (group : ℕ → Group) (t : Table) (r : Request) (room : ℕ) where
-  pub settled-early : isSettled (methodology group t r room) ≡ true → NoneEarlier t r room
+  pub settled-early : isSettled (methodology group (history t) r room) ≡ true → NoneEarlier t r room
   unfolding requestRefusals
   settled-early e =
       ⊎-elim (λ a. absurd (clash e (hidden-other group t r room isSettled (unfold all in refl) a))) (λ n. n) (earlier-cases t r room)
 
-  pub settled-reach : isSettled (methodology group t r room) ≡ true → reported (methodology group t r room) ≡ reach (highXofY group r) (history t)
-  settled-reach e = rw q (closing-reach (highXofY group r) (history t) (rw q at e))
+  pub settled-reach : isSettled (methodology group (history t) r room) ≡ true → reported (methodology group (history t) r room) ≡ reach (methodOf group r) (history t)
+  settled-reach e = rw q (closing-reach (methodOf group r) (history t) (rw q at e))
     where
-      q : methodology group t r room ≡ closing (outcome (highXofY group r) (history t))
+      q : methodology group (history t) r room ≡ closing (outcome (methodOf group r) (history t))
       q = plain group t r room (settled-early e)

@@ -6,7 +6,7 @@ use mathlib.Core.List.{List, [], _∷_, map}
 use lib.ListN.{length}
 use lib.Dec.{eqb}
 use Rattle.lists.specs.Lists.{all, member}
-use Rattle.method.specs.HighXofY.{insertBy, sortBy}
+use Rattle.method.specs.Eligible.{insertBy, sortBy}
 
 -- `g` folds a list by a step `f`, and the order of two steps does not matter
 module _ {A C : Type 0} (before : A → A → Bool) (g : List A → C) (f : A → C → C)

@@ -13,7 +13,7 @@ use borrow.Author.Tests.{eq-eqb}
 use Rattle.lists.proofs.Bools.{clash}
 use Rattle.lists.proofs.Keep.{member-head}
 use Rattle.method.specs.Table.{History, held}
-use Rattle.method.specs.Method.{Method, Outcome, short, few, chose, dated, seen, eligibles, spares}
+use Rattle.method.specs.Method.{Method, Outcome, short, few, chose, daysOf, seen, eligibles, spares}
 use Rattle.method.specs.Method.{window, chosen, reach, wholeReach, isShort, outcome}
 use Rattle.method.specs.Lawful.{Lawful}
 use Rattle.method.proofs.Histories.{Extends, held-last, is-held}
@@ -34,7 +34,7 @@ module _ {A O : Type 0} (m : Method A O) (law : Lawful m) (h : History A) (holds
       go : (w : List (ℕ × A)) → window m h ≡ w → (0 < m .event) × (held h (m .event - 1) ≡ true)
       go [] q = absurd (clash (eq-eqb (m .taken 0) 0 (law .needs)) (rw q at e))
       go (p ∷ ps) q =
-          let s : In (p .0) (seen m h) = window-seen m law h (p .0) (rw q (member-head (p .0) (dated ps))) in
+          let s : In (p .0) (seen m h) = window-seen m law h (p .0) (rw q (member-head (p .0) (daysOf ps))) in
           let before = seen-before m law h (p .0) s in
           let first = seen-first m law h (p .0) s in
           (omega arith, is-held h (m .event - 1) (omega arith) (omega (arith, held-last h (m .event) holds)))
@@ -51,7 +51,7 @@ module _ {A O : Type 0} (m : Method A O) (law : Lawful m) (h : History A) (holds
       ending o = cond (isShort m h) (short (wholeReach m)) o
 
       enough : Bool → O → Outcome O
-      enough b o = cond b (few (length (window m h)) (reach m h)) (chose (dated (chosen m h)) (reach m h) o)
+      enough b o = cond b (few (length (window m h)) (reach m h)) (chose (daysOf (chosen m h)) (reach m h) o)
 
       go : (b : Bool) → eqb (m .taken (length (window m h))) 0 ≡ b
           → enough b (m .finish (chosen m h) (l .day (m .event - 1)) (l .day (m .event)))

@@ -18,7 +18,7 @@ use Rattle.dates.specs.Days.{lastDay}
 use Rattle.method.specs.declared.Request.{Request}
 use Rattle.method.specs.Table.{Table, heldDays, size, offset, dayOf, goodMark, goodReading, held, history, shaped}
 use Rattle.method.specs.Verdict.{wellFormed}
-use Rattle.method.specs.Demands.{Longer, Part, heldBefore, without, cutTo}
+use Rattle.method.specs.Demands.{Longer, CutFrom, heldBefore, without, cutTo}
 use Rattle.method.proofs.Histories.{Extends, held-first, held-last, is-held}
 
 -- the readings before the (k + j)-th day: those of `k` days, and those of the `j` days after them
@@ -154,7 +154,7 @@ module _ (t : Table) (r : Request) (well : wellFormed t ≡ true) (holds : held 
   unfolding without
   cut-before = omega (arith, held-first (history t) (r .event) holds)
 
-  pub cut-part : Part (cutTo t r k) t r
+  pub cut-part : CutFrom (cutTo t r k) t r
   unfolding without
   cut-part =
       record {

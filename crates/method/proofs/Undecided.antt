@@ -11,7 +11,9 @@ use Rattle.method.specs.declared.Request.{Request}
 use Rattle.method.specs.Table.{Table, heldDays, dayOf, held, history, present, goodMark}
 use Rattle.method.specs.Relevant.{relevantDays}
 use Rattle.method.specs.Method.{isShort}
-use Rattle.method.specs.HighXofY.{highXofY, complete, eligible, spare}
+use Rattle.method.specs.Eligible.{complete, eligible, spare}
+use Rattle.method.specs.Rules.{methodBy}
+use Rattle.method.specs.Requested.{methodOf}
 use Rattle.method.specs.Verdict.{wellFormed}
 use Rattle.method.specs.Demands.{LongerFormed, windowDays, Parted}
 use Rattle.method.proofs.Short.{short-day}
@@ -34,18 +36,18 @@ module _ (k : ℕ) (t : Table) (room : k ≤ t .first) (d : ℕ) (since : t .fir
   put-unspare = rw (padded-readings k 2 t room d since below present refl, padded-mark k 2 t room d since below)
 
 module _ (group : ℕ → Group) (t : Table) (r : Request) (well : wellFormed t ≡ true) (holds : held (history t) (r .event) ≡ true)
-    (short : isShort (highXofY group r) (history t) ≡ true) where
+    (short : isShort (methodOf group r) (history t) ≡ true) where
   -- a relevant day before the first
   k : ℕ
-  k = short-day (highXofY group r) (history t) short .0
+  k = short-day (methodOf group r) (history t) short .0
 
   k-relevant : member k (relevantDays group r) ≡ true
-  unfolding k highXofY
-  k-relevant = short-day (highXofY group r) (history t) short .1
+  unfolding k methodOf methodBy
+  k-relevant = short-day (methodOf group r) (history t) short .1
 
   k-before : k < t .first
   unfolding k
-  k-before = short-day (highXofY group r) (history t) short .2
+  k-before = short-day (methodOf group r) (history t) short .2
 
   gap : ℕ
   gap = t .first - k
@@ -66,9 +68,9 @@ module _ (group : ℕ → Group) (t : Table) (r : Request) (well : wellFormed t 
   filled-days mark = omega (arith, padded-days gap mark t room, k-before)
 
   windows : (d : ℕ) × (member d (windowDays group (filled 0) r) ≡ true) × (member d (windowDays group (filled 2) r) ≡ false)
-  unfolding highXofY filled padded gap
+  unfolding methodOf methodBy filled padded gap
   windows =
-      apart (highXofY group r) (lawful group r) (history t) (history (filled 0)) (history (filled 2))
+      apart (methodOf group r) (lawful group r) (history t) (history (filled 0)) (history (filled 2))
       (longer-extends (padded-longer gap 0 t room)) (longer-extends (padded-longer gap 2 t room)) holds short
       (put-eligible gap t room) (put-ineligible gap t room) (put-unspare gap t room) k k-relevant k-before (omega (arith, k-before))
 

@@ -1,5 +1,5 @@
 -- 01, "Adjustment and baseline".
-use Prim.Native.Nat.{ℕ, zero, suc, _+_, _-_, _*_, _/_, _%_}
+use Prim.Native.Nat.{ℕ, zero, suc, _+_, _-_, _*_, _/_}
 use mathlib.Core.Bool.{Bool, cond, _&&_}
 use mathlib.Core.List.{List, [], _∷_, _++_, map}
 use mathlib.Core.Option.{Option, none, some}
@@ -9,6 +9,7 @@ use lib.Dec.{leb, eqb}
 use Rattle.lists.specs.Lists.{all, sumOf}
 use Rattle.method.specs.declared.Request.{Request}
 use Rattle.method.specs.Table.{Day, present}
+use Rattle.method.specs.Ruler.{against}
 
 -- "a two-day ruler where day D-1 is 0 to 95 and day D is 96 to 191": the readings along it
 abbrev pub ruler : Day → Day → List ℕ
@@ -38,15 +39,15 @@ places zero t = []
 places (suc k) t = t ∷ places k (suc t)
 
 -- "For a ruler quarter t let S(t) be the sum, over the N chosen days, of the reading at quarter t mod 96."
-unfoldable pub S : List (ℕ × Day) → ℕ → ℕ
-S chosen t = sumOf (map (λ (p : ℕ × Day). getD (p .1 .readings) (t % 96) 0) chosen)
+unfoldable pub S : ℕ → List (ℕ × Day) → ℕ → ℕ
+S event chosen t = sumOf (map (λ (p : ℕ × Day). getD (p .1 .readings) (against event t) 0) chosen)
 
 -- "A is the sum of the twelve readings of the adjustment window, B the sum of S over it."
 unfoldable pub A : List ℕ → ℕ → ℕ
 A readings end = sumOf (twelve readings end)
 
-unfoldable pub B : List (ℕ × Day) → ℕ → ℕ
-B chosen end = sumOf (map (S chosen) (places 12 (end - 12)))
+unfoldable pub B : ℕ → List (ℕ × Day) → ℕ → ℕ
+B event chosen end = sumOf (map (S event chosen) (places 12 (end - 12)))
 
 -- "The adjustment is (N·A - B)/(12N), possibly negative.": its numerator
 abbrev pub adjustment : ℕ → ℕ → ℕ → ℤ
@@ -71,14 +72,14 @@ baselineAt r n chosen adj =
     record {
       denominator = 12 * n;
       adjusted = adj;
-      numerators = map (λ t. unfloored (S chosen t) adj) (places (r .e - r .s) (r .s));
+      numerators = map (λ t. unfloored (S (r .event) chosen t) adj) (places (r .e - r .s) (r .s));
     }
 
 -- none where there is no adjustment window
 unfoldable pub baseline : Request → ℕ → List (ℕ × Day) → Day → Day → Option Baseline
 baseline r n chosen yesterday today =
     let end = adjustmentEnd r (ruler yesterday today) in
-    cond (eqb end 0) none (some (baselineAt r n chosen (adjustment n (A (ruler yesterday today) end) (B chosen end))))
+    cond (eqb end 0) none (some (baselineAt r n chosen (adjustment n (A (ruler yesterday today) end) (B (r .event) chosen end))))
 
 -- "Rounded kW is the nearest whole number, halves up"
 abbrev pub rounded : ℕ → ℕ → ℕ

@@ -12,9 +12,10 @@ use Rattle.calendar.specs.declared.Group.the-variants.{Saturday, HolidayGroup}
 use Rattle.method.specs.declared.Request.{Request}
 use Rattle.method.specs.declared.Refusal.the-variants.{MarginTooShort}
 use Rattle.method.specs.Table.{Table, Day, history}
-use Rattle.method.specs.Method.{reach, dated}
+use Rattle.method.specs.Method.{reach, daysOf}
 use Rattle.method.specs.Adjustment.{S, places, adjustment, unfloored, floored, rounded}
-use Rattle.method.specs.HighXofY.{highXofY, higher, sortBy, eventSum}
+use Rattle.method.specs.Eligible.{higher, sortBy, eventSum}
+use Rattle.method.specs.Requested.{methodOf}
 use Rattle.method.specs.Verdict.{refused, answered, verdict}
 use Rattle.method.specs.Demands.{windowDays}
 
@@ -52,7 +53,7 @@ marked first last events =
     }
 
 abbrev pub reachOf : Table → Request → ℕ
-reachOf t r = reach (highXofY group r) (history t)
+reachOf t r = reach (methodOf group r) (history t)
 
 -- a day with these four readings from 15:00 and one load else
 abbrev pub from15 : ℕ → List ℕ → Day
@@ -75,7 +76,7 @@ table5 =
 
 -- the numbers of Table 5's days, and Table 6's days: the five highest
 abbrev pub dayNames : List (ℕ × Day) → List ℕ
-dayNames days = map (λ d. 100 - d) (dated days)
+dayNames days = map (λ d. 100 - d) (daysOf days)
 
 abbrev pub table6 : List (ℕ × Day)
 table6 = take 5 (sortBy (higher (at15 0 100)) table5)
@@ -126,7 +127,7 @@ pub record Checks : Type 0 where
       27500 ∷ 27100 ∷ 25400 ∷ 24200 ∷ 23600 ∷ 22800 ∷ 23700 ∷ 22400 ∷ 20200 ∷ 21500 ∷ []
   pub table-5-days : dayNames table6 ≡ 1 ∷ 2 ∷ 3 ∷ 4 ∷ 7 ∷ []
   -- "quarter sums 30500, 36300, 32900, 28200 over 5: the averages of Table 6."
-  pub table-6-sums : map (S table6) (places 4 152) ≡ 30500 ∷ 36300 ∷ 32900 ∷ 28200 ∷ []
+  pub table-6-sums : map (S 100 table6) (places 4 152) ≡ 30500 ∷ 36300 ∷ 32900 ∷ 28200 ∷ []
   pub table-6-averages : map (λ q. 5 * q) (6100 ∷ 7260 ∷ 6580 ∷ 5640 ∷ []) ≡ 30500 ∷ 36300 ∷ 32900 ∷ 28200 ∷ []
   -- "N 2, S 2507, A 15132, B 30000: numerator 30348."
   pub numerator-30348 : floored (unfloored 2507 (adjustment 2 15132 30000)) ≡ 30348

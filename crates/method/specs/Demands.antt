@@ -12,8 +12,8 @@ use Rattle.method.specs.declared.Request.{Request}
 use Rattle.method.specs.declared.Refusal.{Refusal}
 use Rattle.method.specs.declared.Refusal.the-variants.{MarginTooShort}
 use Rattle.method.specs.Table.{Table, heldDays, offset, dayOf, held, history}
-use Rattle.method.specs.Method.{window, wholeReach, reach, dated}
-use Rattle.method.specs.HighXofY.{highXofY}
+use Rattle.method.specs.Method.{window, wholeReach, reach, daysOf}
+use Rattle.method.specs.Requested.{methodOf}
 use Rattle.method.specs.Verdict.{Reply, refused, answered, number, carries, requestRefusals, methodology, wellFormed}
 
 -- 01: "A longer history adds days before F, after the last, or both; it agrees with the extract when each of the extract's days has the
@@ -29,7 +29,7 @@ pub record LongerFormed (l t : Table) : Type 0 where
   pub longer : Longer l t
 
 -- `p` is a well-formed part of `t` that holds the event day
-pub record Part (p t : Table) (r : Request) : Type 0 where
+pub record CutFrom (p t : Table) (r : Request) : Type 0 where
   pub formed : wellFormed p ≡ true
   pub longer : Longer t p
   pub holds : held (history p) (r .event) ≡ true
@@ -47,7 +47,7 @@ cutTo t r k = without (heldBefore t r - k) t
 
 -- the days of the baseline window of a table for a request
 abbrev pub windowDays : (ℕ → Group) → Table → Request → List ℕ
-windowDays group t r = dated (window (highXofY group r) (history t))
+windowDays group t r = daysOf (window (methodOf group r) (history t))
 
 -- two longer well-formed histories agree with `t` and have different baseline windows: other days, or the same in another order
 pub record Undecided (group : ℕ → Group) (t : Table) (r : Request) : Type 0 where
@@ -83,34 +83,34 @@ reported (answered a) = a .reach
 
 -- no refusal before 8 applies
 abbrev pub NoneEarlier : Table → Request → ℕ → Type 0
-NoneEarlier t r room = any (λ (p : Bool × Refusal). p .0) (requestRefusals t r room) ≡ false
+NoneEarlier t r room = any (λ (p : Bool × Refusal). p .0) (requestRefusals (history t) r room) ≡ false
 
 -- Demand 3 at a well-formed table of any length that holds the event day
 pub record Demand3 (group : ℕ → Group) (t : Table) (r : Request) (room : ℕ) : Type 0 where
   -- "Where an event over a well-formed extract gets an answer, 'too few days' or 'no adjustment window', every longer well-formed history
   -- that agrees with the extract, for the same portfolio and request, gets the same by the methodology, all numbers included."
-  pub stable : isMargin (methodology group t r room) ≡ false
-      → (l : Table) → LongerFormed l t → methodology group l r room ≡ methodology group t r room
+  pub stable : isMargin (methodology group (history t) r room) ≡ false
+      → (l : Table) → LongerFormed l t → methodology group (history l) r room ≡ methodology group (history t) r room
   -- "'Margin too short' is given, once no earlier refusal applies, exactly when two longer well-formed histories agree with the extract and
   -- have different baseline windows for that request.": any two give it, and where it is given two strictly longer ones are shown
-  pub given-when : NoneEarlier t r room → Undecided group t r → isMargin (methodology group t r room) ≡ true
-  pub only-when : NoneEarlier t r room → isMargin (methodology group t r room) ≡ true → Parted group t r
+  pub given-when : NoneEarlier t r room → Undecided group t r → isMargin (methodology group (history t) r room) ≡ true
+  pub only-when : NoneEarlier t r room → isMargin (methodology group (history t) r room) ≡ true → Parted group t r
   -- it carries D minus the oldest relevant day, at most 45, and with that many days before the event it is never given
-  pub carried : isMargin (methodology group t r room) ≡ true
-      → methodology group t r room ≡ refused (MarginTooShort (wholeReach (highXofY group r)))
-  pub at-most : wholeReach (highXofY group r) ≤ 45
-  pub enough : wholeReach (highXofY group r) ≤ heldBefore t r → isMargin (methodology group t r room) ≡ false
+  pub carried : isMargin (methodology group (history t) r room) ≡ true
+      → methodology group (history t) r room ≡ refused (MarginTooShort (wholeReach (methodOf group r)))
+  pub at-most : wholeReach (methodOf group r) ≤ 45
+  pub enough : wholeReach (methodOf group r) ≤ heldBefore t r → isMargin (methodology group (history t) r room) ≡ false
   -- nor is it where the table starts at P or earlier
-  pub since : t .first ≤ r .participation → isMargin (methodology group t r room) ≡ false
+  pub since : t .first ≤ r .participation → isMargin (methodology group (history t) r room) ≡ false
   -- "The reported reach is the fewest days before the event that give this result.": a part of the table with so many days before the event
   -- gets the same reply, a part with fewer gets "margin too short", and there are parts with any number of days up to the reach
-  pub reports : isSettled (methodology group t r room) ≡ true
-      → reported (methodology group t r room) ≡ reach (highXofY group r) (history t)
-  pub same : isMargin (methodology group t r room) ≡ false
-      → (p : Table) → Part p t r → reach (highXofY group r) (history t) ≤ heldBefore p r
-      → methodology group p r room ≡ methodology group t r room
+  pub reports : isSettled (methodology group (history t) r room) ≡ true
+      → reported (methodology group (history t) r room) ≡ reach (methodOf group r) (history t)
+  pub same : isMargin (methodology group (history t) r room) ≡ false
+      → (p : Table) → CutFrom p t r → reach (methodOf group r) (history t) ≤ heldBefore p r
+      → methodology group (history p) r room ≡ methodology group (history t) r room
   pub fewer : NoneEarlier t r room
-      → (p : Table) → Part p t r → heldBefore p r < reach (highXofY group r) (history t)
-      → isMargin (methodology group p r room) ≡ true
-  pub attained : NoneEarlier t r room → isMargin (methodology group t r room) ≡ false
-      → (k : ℕ) → k ≤ reach (highXofY group r) (history t) → (p : Table) × Part p t r × (heldBefore p r ≡ k)
+      → (p : Table) → CutFrom p t r → heldBefore p r < reach (methodOf group r) (history t)
+      → isMargin (methodology group (history p) r room) ≡ true
+  pub attained : NoneEarlier t r room → isMargin (methodology group (history t) r room) ≡ false
+      → (k : ℕ) → k ≤ reach (methodOf group r) (history t) → (p : Table) × CutFrom p t r × (heldBefore p r ≡ k)

@@ -11,15 +11,15 @@ use Rattle.method.specs.declared.Refusal.{Refusal}
 use Rattle.method.specs.declared.Refusal.the-variants.{BadFile, NoEvent, BadTable, BadMark, BadReading, BadRequest, NotHeld}
 use Rattle.method.specs.declared.Refusal.the-variants.{NotYetParticipating, NoRoom, MarginTooShort, TooFew, NoAdjustmentWindow}
 use Rattle.method.specs.Table.{Table, Day, eventBit, outageBit, present, goodReading, missing, history, isExtract, dayPart}
-use Rattle.method.specs.Method.{chosen, dated}
+use Rattle.method.specs.Method.{chosen, daysOf}
 use Rattle.method.specs.Adjustment.{adjustmentEnd, places, S, A, B, rounded}
-use Rattle.method.specs.HighXofY.{highXofY}
+use Rattle.method.specs.Requested.{methodOf}
 use Rattle.method.specs.Verdict.{Reply, refused, answered, number, carries, goodRequest, verdict, written}
 use Rattle.method.specs.Demands.{windowDays}
 use Rattle.method.specs.Checks.{_January_, _February_, _April_, _May_, _August_, at15, marked}
 
 abbrev pub chosenOf : Table → Request → List ℕ
-chosenOf t r = dated (chosen (highXofY group r) (history t))
+chosenOf t r = daysOf (chosen (methodOf group r) (history t))
 
 abbrev pub notified : ℕ → Request
 notified n = record { participation = 0; event = 1; s = 152; e = 156; n = n }
@@ -93,10 +93,10 @@ pub record Edges : Type 0 where
   pub s-missing : adjustmentEnd (notified 11) (set (replicate 192 1000) 151 missing) ≡ 151
   pub none-left : adjustmentEnd (notified 11) (replicate 11 1000 ++ replicate 181 missing) ≡ 0
   -- "the reading at quarter t mod 96": day D-1's quarters on the ruler, and day D's; A and B over quarters 88 to 99, from one day to the other
-  pub s-yesterday : S counting 95 ≡ 95
-  pub s-today : S counting 97 ≡ 1
+  pub s-yesterday : S 1 counting 95 ≡ 95
+  pub s-today : S 1 counting 97 ≡ 1
   pub a-across : A (places 192 0) 100 ≡ 1122
-  pub b-across : B counting 100 ≡ 738
+  pub b-across : B 1 counting 100 ≡ 738
   -- "halves up": 11, 12, 35 and 36 over 24
   pub halves-up : map (λ k. rounded k 24) (11 ∷ 12 ∷ 35 ∷ 36 ∷ []) ≡ 0 ∷ 1 ∷ 1 ∷ 2 ∷ []
   -- "Reading 10,000,000 taken; 10,000,001 refused."; "4,294,967,295 means missing"; "zero is a reading"

@@ -4,7 +4,7 @@ use mathlib.Core.Bool.{true}
 use mathlib.Core.List.{List, [], _∷_}
 use Prim.Native.Nat.{ℕ, _<_}
 use Rattle.lists.specs.Lists.{member}
-use Rattle.method.specs.Method.{Method, dated}
+use Rattle.method.specs.Method.{Method, daysOf}
 
 -- each number is above all that follow it
 pub data Falling : List ℕ → Type 0 where
@@ -17,6 +17,6 @@ pub record Lawful {A O : Type 0} (m : Method A O) : Type 0 where
   pub before : (d : ℕ) → member d (m .relevant) ≡ true → d < m .event
   -- a shortage is filled to fewer than Y days, from its spares alone
   pub fills : m .fill < m .most
-  pub only : (days : List (ℕ × A)) (d : ℕ) → member d (dated (m .order days)) ≡ true → member d (dated days) ≡ true
+  pub only : (days : List (ℕ × A)) (d : ℕ) → member d (daysOf (m .order days)) ≡ true → member d (daysOf days) ≡ true
   -- of no days none is chosen
   pub needs : m .taken 0 ≡ 0

@@ -1,8 +1,12 @@
 pub mod Table
+pub mod Ruler
 pub mod Relevant
 pub mod Method
 pub mod Adjustment
+pub mod Eligible
+pub mod Rules
 pub mod HighXofY
+pub mod Requested
 pub mod Verdict
 pub mod Lawful
 pub mod Demands

@@ -3,7 +3,7 @@
 use Prim.Native.Nat.{ℕ, _-_}
 use mathlib.Core.Bool.{Bool, cond, _&&_}
 use mathlib.Core.List.{List, _++_, map}
-use lib.ListN.{length, take}
+use lib.ListN.{length, take, drop}
 use lib.Dec.{ltb, eqb}
 use Rattle.lists.specs.Lists.{keep, any, leastOf}
 use Rattle.method.specs.Table.{History, held}
@@ -21,14 +21,16 @@ pub record Method (A O : Type 0) : Type 0 where
   pub spare : A → Bool
   pub order : List (ℕ × A) → List (ℕ × A)
   pub fill : ℕ
-  -- the order of the window, and how many are chosen of a window of so many days: none is "too few"
+  -- the order of the window; of a window of so many days how many ranks are passed over, and how many of the next are chosen: none is "too
+  -- few"
   pub rank : List (ℕ × A) → List (ℕ × A)
+  pub passed : ℕ → ℕ
   pub taken : ℕ → ℕ
   -- what comes of the chosen days in rank order, of D-1 and of D
   pub finish : List (ℕ × A) → A → A → O
 
-abbrev pub dated : {A : Type 0} → List (ℕ × A) → List ℕ
-dated {A} days = map (λ (p : ℕ × A). p .0) days
+abbrev pub daysOf : {A : Type 0} → List (ℕ × A) → List ℕ
+daysOf {A} days = map (λ (p : ℕ × A). p .0) days
 
 -- "D minus the oldest relevant day, or 0 if none is relevant"
 unfoldable pub wholeReach : {A O : Type 0} → Method A O → ℕ
@@ -50,13 +52,13 @@ module _ {A O : Type 0} (m : Method A O) (h : History A) where
   unfoldable pub window : List (ℕ × A)
   window = take (m .most) eligibles ++ take (m .fill - length eligibles) spares
 
-  -- "The window is then ranked by that order and the first N are chosen, listed in rank order."
+  -- "The window is then ranked by that order and the first N are chosen, listed in rank order.": the first after those passed over
   unfoldable pub chosen : List (ℕ × A)
-  chosen = take (m .taken (length window)) (m .rank window)
+  chosen = take (m .taken (length window)) (drop (m .passed (length window)) (m .rank window))
 
   -- "Reach: if the window holds Y days, D minus its oldest; otherwise D minus the oldest relevant day, or 0 if none is relevant."
   unfoldable pub reach : ℕ
-  reach = cond (eqb (length window) (m .most)) (m .event - leastOf (m .event) (dated window)) (wholeReach m)
+  reach = cond (eqb (length window) (m .most)) (m .event - leastOf (m .event) (daysOf window)) (wholeReach m)
 
   -- "margin too short: eligible held days below Y and a relevant day before F"
   unfoldable pub isShort : Bool
@@ -73,4 +75,4 @@ unfoldable pub outcome : {A O : Type 0} → Method A O → History A → Outcome
 outcome m h =
     cond (isShort m h) (short (wholeReach m))
     (cond (eqb (m .taken (length (window m h))) 0) (few (length (window m h)) (reach m h))
-    (chose (dated (chosen m h)) (reach m h) (m .finish (chosen m h) (h .day (m .event - 1)) (h .day (m .event)))))
+    (chose (daysOf (chosen m h)) (reach m h) (m .finish (chosen m h) (h .day (m .event - 1)) (h .day (m .event)))))

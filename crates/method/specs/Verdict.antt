@@ -13,10 +13,11 @@ use Rattle.method.specs.declared.Request.{Request}
 use Rattle.method.specs.declared.Refusal.{Refusal}
 use Rattle.method.specs.declared.Refusal.the-variants.{BadFile, NoEvent, BadTable, BadMark, BadReading, BadRequest, NotHeld}
 use Rattle.method.specs.declared.Refusal.the-variants.{NotYetParticipating, NoRoom, MarginTooShort, TooFew, NoAdjustmentWindow}
-use Rattle.method.specs.Table.{Table, goodMark, goodReading, held, history, shaped, isExtract}
+use Rattle.method.specs.Table.{Table, Day, History, goodMark, goodReading, held, history, shaped, isExtract}
+use Rattle.method.specs.Ruler.{rulerStart, rulerEnd}
 use Rattle.method.specs.Method.{Outcome, short, few, chose, outcome}
 use Rattle.method.specs.Adjustment.{Baseline, floored}
-use Rattle.method.specs.HighXofY.{highXofY}
+use Rattle.method.specs.Requested.{methodOf}
 
 -- the paper's number of a refusal, and the numbers that it carries
 abbrev pub number : Refusal → ℕ
@@ -69,13 +70,14 @@ tableRefusals t =
 -- "P above 36,524; s outside 96..191; e outside s+1..192; n above s": none of these
 unfoldable pub goodRequest : Request → Bool
 goodRequest r =
-    leb (r .participation) lastDay && (leb 96 (r .s) && leb (r .s) 191) && (leb (r .s + 1) (r .e) && leb (r .e) 192) && leb (r .n) (r .s)
+    leb (r .participation) lastDay && (leb (rulerStart (r .event)) (r .s) && ltb (r .s) (rulerEnd (r .event))) &&
+    (leb (r .s + 1) (r .e) && leb (r .e) (rulerEnd (r .event))) && leb (r .n) (r .s)
 
--- 4 to 7, where `room` is the output's length
-unfoldable pub requestRefusals : Table → Request → ℕ → List (Bool × Refusal)
-requestRefusals t r room =
+-- 4 to 7 over a history, where `room` is the output's length
+unfoldable pub requestRefusals : History Day → Request → ℕ → List (Bool × Refusal)
+requestRefusals h r room =
     (not (goodRequest r), BadRequest) ∷
-    (not (held (history t) (r .event)), NotHeld) ∷
+    (not (held h (r .event)), NotHeld) ∷
     (ltb (r .event) (r .participation), NotYetParticipating) ∷
     (ltb room (r .e - r .s), NoRoom) ∷ []
 
@@ -100,12 +102,12 @@ firstOf [] reply = reply
 firstOf (t ∷ ts) reply = let later = firstOf ts reply in cond (t .0) (refused (t .1)) later
 
 -- what the methodology gives over a well-formed history of any length
-unfoldable pub methodology : (ℕ → Group) → Table → Request → ℕ → Reply
-methodology group t r room = firstOf (requestRefusals t r room) (closing (outcome (highXofY group r) (history t)))
+unfoldable pub methodology : (ℕ → Group) → History Day → Request → ℕ → Reply
+methodology group h r room = firstOf (requestRefusals h r room) (closing (outcome (methodOf group r) h))
 
 -- the verdict over a lent table
 unfoldable pub verdict : (ℕ → Group) → Table → Request → ℕ → Reply
-verdict group t r room = firstOf (tableRefusals t) (methodology group t r room)
+verdict group t r room = firstOf (tableRefusals t) (methodology group (history t) r room)
 
 -- "Refused, every lent buffer keeps its bytes. Answered, the first e-s outputs are written and the rest kept."
 unfoldable pub written : Reply → List ℕ → List ℕ

@@ -1,6 +1,15 @@
 // The methodology as document 01 fixes it: definitions and theorems, no code. The types that definitions and code share are
 // declared here.
 
+// How many quarters a day has.
+pub const QUARTERS: usize = 96;
+
+// How far back a day may lie.
+pub const LOOK_BACK: u32 = 45;
+
+// 01: "4,294,967,295 means missing"
+pub const MISSING: u32 = 4294967295;
+
 // What is asked: participation start P, event day D, and the places s, e and n on the two-day ruler.
 pub struct Request {
     pub participation: u32,

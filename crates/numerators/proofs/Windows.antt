@@ -16,7 +16,7 @@ use Rattle.lists.specs.Lists.{all, sumOf}
 use Rattle.lists.proofs.All.{all-append, all-take, all-drop}
 use Rattle.lists.proofs.Sums.{part-most}
 use Rattle.method.specs.Adjustment.{places, A, adjustment, unfloored, floored}
-use Rattle.rooms.specs.Rooms.{partAt}
+use Rattle.rooms.specs.Rooms.{readingsAt}
 use Rattle.places.proofs.Places.{length-over, at-place, over-same}
 use Rattle.quarters.specs.Quarters.{quarterSum}
 use Rattle.quarters.proofs.Adding.{sum-more}
@@ -45,8 +45,8 @@ pub ruler-most : (ys ts : List ℕ) (end : ℕ) → all small ys ≡ true → al
 ruler-most ys ts end h k = twelve-most (ys ++ ts) end (rw (all-append small ys ts, h, k))
 
 -- a rule of all readings is one of a part
-pub part-all : (p : ℕ → Bool) (readings : List ℕ) (at : ℕ) → all p readings ≡ true → all p (partAt readings at) ≡ true
-unfolding partAt
+pub part-all : (p : ℕ → Bool) (readings : List ℕ) (at : ℕ) → all p readings ≡ true → all p (readingsAt readings at) ≡ true
+unfolding readingsAt
 part-all p readings at h = go (leb (at + 96) (length readings))
   where
     go : (b : Bool) → all p (cond b (take 96 (drop at readings)) []) ≡ true
@@ -58,7 +58,7 @@ unfolding windowSums sumOf
 windows-most readings [] end h = omega arith
 windows-most readings (a ∷ at) end h =
     let p = part-all small readings a h in
-    omega (arith, ruler-most (partAt readings a) (partAt readings a) end p p, windows-most readings at end h, mul-suc 51539607540 (length at))
+    omega (arith, ruler-most (readingsAt readings a) (readingsAt readings a) end p p, windows-most readings at end h, mul-suc 51539607540 (length at))
 
 pub windows-few : (readings at : List ℕ) (end k : ℕ) → all small readings ≡ true → k ≤ 5 → windowSums readings (take k at) end ≤ 257698037700
 windows-few readings at end k h few = omega (arith, windows-most readings (take k at) end h, length-take k at)
@@ -66,10 +66,10 @@ windows-few readings at end k h few = omega (arith, windows-most readings (take 
 -- ---- one day more
 module _ (readings at : List ℕ) (end : ℕ) where
   pub windows-next : (total k x : ℕ) {day : List ℕ} → k < length at → total ≡ windowSums readings (take k at) end
-      → day ≡ partAt readings (getD at k 0) → x ≡ A (day ++ day) end → total + x ≡ windowSums readings (take (k + 1) at) end
+      → day ≡ readingsAt readings (getD at k 0) → x ≡ A (day ++ day) end → total + x ≡ windowSums readings (take (k + 1) at) end
   unfolding windowSums
   windows-next total k x h e o f =
-      let m = sum-more (λ a. A (partAt readings a ++ partAt readings a) end) at k h in
+      let m = sum-more (λ a. A (readingsAt readings a ++ readingsAt readings a) end) at k h in
       rw (add-one k) (omega (arith, m, e, rw o at f))
 
 -- ---- the whole of it

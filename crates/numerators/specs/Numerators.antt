@@ -7,13 +7,13 @@ use lib.IntN.{ℤ}
 use Rattle.lists.specs.Lists.{sumOf}
 use Rattle.method.specs.declared.Request.{Request}
 use Rattle.method.specs.Adjustment.{A, places, adjustment, unfloored, floored}
-use Rattle.rooms.specs.Rooms.{partAt}
+use Rattle.rooms.specs.Rooms.{readingsAt}
 use Rattle.quarters.specs.Quarters.{quarterSum}
 use Rattle.numerators.specs.declared.Places.{Places}
 
 -- B: the sum, over days, of the twelve readings that end at a place of the ruler that has the day twice
 unfoldable pub windowSums : List ℕ → List ℕ → ℕ → ℕ
-windowSums readings at end = sumOf (map (λ a. A (partAt readings a ++ partAt readings a) end) at)
+windowSums readings at end = sumOf (map (λ a. A (readingsAt readings a ++ readingsAt readings a) end) at)
 
 -- the places of chosen days, by where the days before an event start: entry i is the i-th day before it
 abbrev pub placedOf : Request → List ℕ → List ℕ → ℕ → ℕ → Places

@@ -78,7 +78,7 @@ fn sum_windows(readings: &[u32], at: [u32; 5], count: usize, end: u32) -> u64
     let mut total: u64 = 0;
     let mut k = 0;
     while k < count {
-        let day = rooms::part_at(readings, at[k]);
+        let day = rooms::readings_at(readings, at[k]);
         total += window::window_sum(end, day, day);
         k += 1;
     }

@@ -13,7 +13,7 @@ use Rattle.lists.specs.Lists.{sumOf}
 use Rattle.lists.proofs.Bools.{lt-or-le}
 use Rattle.lists.proofs.Parts.{getD-append-past}
 use Rattle.method.specs.Adjustment.{places}
-use Rattle.rooms.specs.Rooms.{partAt}
+use Rattle.rooms.specs.Rooms.{readingsAt}
 use Rattle.places.proofs.Places.{length-over, at-place, over-same}
 use Rattle.quarters.specs.Quarters.{quarterSum}
 
@@ -36,7 +36,7 @@ module _ (readings at : List ℕ) (start n : ℕ) where
   added-begin e = record { size = ap length e ∙ length-over (λ q. 0) n 0; done = e }
 
   module _ {sums : List ℕ} {k : ℕ} (w : Added sums k) where
-    pub added-next : {next day : List ℕ} → k < length at → day ≡ partAt readings (getD at k 0)
+    pub added-next : {next day : List ℕ} → k < length at → day ≡ readingsAt readings (getD at k 0)
         → next ≡ map (λ q. (getD sums q 0 + getD day (start + q) 0) % 2 ^ 32) (places (length sums) 0) → Added next (k + 1)
     unfolding quarterSum
     added-next {next} {day} h p f =
@@ -46,11 +46,11 @@ module _ (readings at : List ℕ) (start n : ℕ) where
         }
       where
         each : (q : ℕ) → 0 ≤ q → q < 0 + n
-            → (getD sums q 0 + getD day (start + q) 0) % 2 ^ 32 ≡ sumOf (map (λ a. getD (partAt readings a) (start + q) 0) (take (k + 1) at)) % 2 ^ 32
+            → (getD sums q 0 + getD day (start + q) 0) % 2 ^ 32 ≡ sumOf (map (λ a. getD (readingsAt readings a) (start + q) 0) (take (k + 1) at)) % 2 ^ 32
         each q a b =
             let i : q < n = omega arith in
             let z : 0 + q ≡ q = omega arith in
-            let m = sum-more (λ a. getD (partAt readings a) (start + q) 0) at k h in
+            let m = sum-more (λ a. getD (readingsAt readings a) (start + q) 0) at k h in
             let here = ap (λ l. getD l q 0) (w .done) ∙ at-place (λ q. quarterSum readings (take k at) (start + q) % 2 ^ 32) 0 n 0 q i in
             let day-is = ap (λ l. getD l (start + q) 0) p in
             rw (add-one k) (omega (arith, m, day-is, rw z at here))

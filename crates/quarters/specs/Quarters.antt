@@ -3,8 +3,8 @@ use Prim.Native.Nat.{ℕ}
 use mathlib.Core.List.{List, map}
 use lib.ListN.{getD}
 use Rattle.lists.specs.Lists.{sumOf}
-use Rattle.rooms.specs.Rooms.{partAt}
+use Rattle.rooms.specs.Rooms.{readingsAt}
 
 -- S: the sum, over days, of the reading at a quarter of the day
 unfoldable pub quarterSum : List ℕ → List ℕ → ℕ → ℕ
-quarterSum readings at q = sumOf (map (λ a. getD (partAt readings a) q 0) at)
+quarterSum readings at q = sumOf (map (λ a. getD (readingsAt readings a) q 0) at)

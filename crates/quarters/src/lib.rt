@@ -50,7 +50,7 @@ pub fn sum_days(readings: &[u32], at: [u32; 5], count: usize, start: usize, sums
     let days = sizes::least(count, 5);
     let mut k = 0;
     while k < days {
-        let day = rooms::part_at(readings, at[k]);
+        let day = rooms::readings_at(readings, at[k]);
         add_day(sums, day, start);
         k += 1;
     }

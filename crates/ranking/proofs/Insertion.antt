@@ -9,7 +9,7 @@ use lib.ListN.{replicate}
 use lib.Dec.{leb}
 use borrow.Author.Tests.{lt-ltb, le-ltb, leb-true, le-leb}
 use Rattle.lists.specs.Lists.{all}
-use Rattle.method.specs.HighXofY.{insertBy}
+use Rattle.method.specs.Eligible.{insertBy}
 use Rattle.ranking.specs.Words.{insertDown}
 use Rattle.lists.proofs.Bools.{both, lt-or-le}
 

@@ -13,8 +13,8 @@ use borrow.Author.Tests.{leb-true, ltb-true, le-leb}
 use Rattle.lists.specs.Lists.{all}
 use Rattle.method.specs.declared.Request.{Request}
 use Rattle.method.specs.Table.{Day, goodReading}
-use Rattle.method.specs.Method.{dated}
-use Rattle.method.specs.HighXofY.{complete, eventSum, higher, sortBy}
+use Rattle.method.specs.Method.{daysOf}
+use Rattle.method.specs.Eligible.{complete, eventSum, higher, sortBy}
 use Rattle.ranking.specs.Words.{word, above, insertDown, sortDown, padded, pushed, insertAll}
 use Rattle.lists.proofs.All.{all-append, all-replicate, all-take}
 use Rattle.lists.proofs.Bools.{both, lt-or-le}
@@ -188,7 +188,7 @@ module _ (r : Request) where
   pub words-sorted : (l : List (ℕ × Day)) → all (lookedBack r) l ≡ true → map (word r) (sortBy (higher r) l) ≡ sortDown (map (word r) l)
   words-sorted = map-sorted (higher r) above (lookedBack r) (word r) higher-above
 
-  pub days-back : (l : List (ℕ × Day)) → all (lookedBack r) l ≡ true → map (dayOfWord r) (map (word r) l) ≡ dated l
+  pub days-back : (l : List (ℕ × Day)) → all (lookedBack r) l ≡ true → map (dayOfWord r) (map (word r) l) ≡ daysOf l
   unfolding all word
   days-back [] h = refl
   days-back (p ∷ l) h =
@@ -202,14 +202,14 @@ module _ (r : Request) where
   first-words k l h = ap (take k) (sym (words-sorted l h)) ∙ sym (map-take (word r) k (sortBy (higher r) l))
 
   pub first-days : (k : ℕ) (l : List (ℕ × Day)) → all (lookedBack r) l ≡ true
-      → map (dayOfWord r) (take k (sortDown (map (word r) l))) ≡ dated (take k (sortBy (higher r) l))
+      → map (dayOfWord r) (take k (sortDown (map (word r) l))) ≡ daysOf (take k (sortBy (higher r) l))
   first-days k l h =
       ap (map (dayOfWord r)) (first-words k l h)
       ∙ days-back (take k (sortBy (higher r) l)) (all-take (lookedBack r) k (sortBy (higher r) l) (all-sorted (higher r) (lookedBack r) l ∙ h))
 
   -- the first of the row of `n` words are the days that 01 ranks first
   pub first-of-row : (k n : ℕ) (l : List (ℕ × Day)) → all (lookedBack r) l ≡ true → k ≤ length l → k ≤ n
-      → map (dayOfWord r) (take k (padded n (sortDown (map (word r) l)))) ≡ dated (take k (sortBy (higher r) l))
+      → map (dayOfWord r) (take k (padded n (sortDown (map (word r) l)))) ≡ daysOf (take k (sortBy (higher r) l))
   first-of-row k n l h o t =
       let s : k ≤ length (sortDown (map (word r) l)) = omega (arith, length-sorted above (map (word r) l), length-map l (word r)) in
       ap (map (dayOfWord r)) (take-padded k n (sortDown (map (word r) l)) s t) ∙ first-days k l h

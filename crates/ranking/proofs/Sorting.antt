@@ -4,7 +4,7 @@ use mathlib.Core.Bool.{Bool, true, false, cond}
 use mathlib.Core.List.{List, [], _∷_, map}
 use Rattle.lists.specs.Lists.{all}
 use Rattle.lists.proofs.Bools.{both}
-use Rattle.method.specs.HighXofY.{insertBy, sortBy}
+use Rattle.method.specs.Eligible.{insertBy, sortBy}
 use Rattle.method.proofs.Sort.{all-sorted}
 
 -- where `f` keeps the tests of the days of which `p` holds

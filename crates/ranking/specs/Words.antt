@@ -6,7 +6,7 @@ use lib.ListN.{take, replicate}
 use lib.Dec.{ltb}
 use Rattle.method.specs.declared.Request.{Request}
 use Rattle.method.specs.Table.{Day}
-use Rattle.method.specs.HighXofY.{eventSum, insertBy, sortBy}
+use Rattle.method.specs.Eligible.{eventSum, insertBy, sortBy}
 
 -- 45 for D-1 down to 1 for D-45
 abbrev pub nearness : Request → ℕ → ℕ

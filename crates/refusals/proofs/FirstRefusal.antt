@@ -172,7 +172,7 @@ module _ (t : Table) (r : Request) (room : ℕ) where
     pub takesPart : r .participation ≤ r .event
     pub enough : r .e - r .s ≤ room
 
-  pub request-passed : tested (requestRefusals t r room) ≡ Passed → Fits
+  pub request-passed : tested (requestRefusals (history t) r room) ≡ Passed → Fits
   unfolding requestRefusals
   request-passed e =
       let a = passed-next _ _ _ e in
@@ -187,25 +187,25 @@ module _ (t : Table) (r : Request) (room : ℕ) where
       }
 
   -- the ways out of the code
-  pub bad-request : goodRequest r ≡ false → Failed BadRequest ≡ tested (requestRefusals t r room)
+  pub bad-request : goodRequest r ≡ false → Failed BadRequest ≡ tested (requestRefusals (history t) r room)
   unfolding requestRefusals tested
   bad-request e = rw e
 
   module _ (good : goodRequest r ≡ true) where
-    pub not-held : held (history t) (r .event) ≡ false → Failed NotHeld ≡ tested (requestRefusals t r room)
+    pub not-held : held (history t) (r .event) ≡ false → Failed NotHeld ≡ tested (requestRefusals (history t) r room)
     unfolding requestRefusals tested
     not-held e = rw (good, e)
 
     module _ (holds : held (history t) (r .event) ≡ true) where
-      pub not-yet : r .event < r .participation → Failed NotYetParticipating ≡ tested (requestRefusals t r room)
+      pub not-yet : r .event < r .participation → Failed NotYetParticipating ≡ tested (requestRefusals (history t) r room)
       unfolding requestRefusals tested
       not-yet h = rw (good, holds, lt-ltb (r .event) (r .participation) h)
 
       module _ (takesPart : r .participation ≤ r .event) where
-        pub no-room : room < r .e - r .s → Failed NoRoom ≡ tested (requestRefusals t r room)
+        pub no-room : room < r .e - r .s → Failed NoRoom ≡ tested (requestRefusals (history t) r room)
         unfolding requestRefusals tested
         no-room h = rw (good, holds, le-ltb (r .event) (r .participation) takesPart, lt-ltb room (r .e - r .s) h)
 
-        pub fits : r .e - r .s ≤ room → Passed ≡ tested (requestRefusals t r room)
+        pub fits : r .e - r .s ≤ room → Passed ≡ tested (requestRefusals (history t) r room)
         unfolding requestRefusals tested
         fits h = rw (good, holds, le-ltb (r .event) (r .participation) takesPart, le-ltb room (r .e - r .s) h)

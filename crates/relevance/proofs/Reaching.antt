@@ -14,7 +14,8 @@ use Rattle.calendar.specs.declared.Group.{Group}
 use Rattle.method.specs.declared.Request.{Request}
 use Rattle.method.specs.Relevant.{daysBefore, relevant, relevantDays}
 use Rattle.method.specs.Method.{wholeReach}
-use Rattle.method.specs.HighXofY.{highXofY}
+use Rattle.method.specs.Rules.{methodBy}
+use Rattle.method.specs.Requested.{methodOf}
 use Rattle.method.proofs.LookBack.{daysBefore-is, days-then, days-least, one-before}
 
 pub leastOf-snoc : (top : ℕ) (xs : List ℕ) (x : ℕ) → leastOf top (xs ++ (x ∷ [])) ≡ min (leastOf top xs) x
@@ -38,8 +39,8 @@ module _ (group : ℕ → Group) (r : Request) where
   unfoldable pub reachWithin : ℕ → ℕ
   reachWithin k = r .event - leastOf (r .event) (keep (relevant group r) (daysBefore k (r .event)))
 
-  pub reach-start : wholeReach (highXofY group r) ≡ reachWithin (min 45 (r .event))
-  unfolding wholeReach highXofY relevantDays reachWithin
+  pub reach-start : wholeReach (methodOf group r) ≡ reachWithin (min 45 (r .event))
+  unfolding wholeReach methodOf methodBy relevantDays reachWithin
   reach-start = rw (days-least 45 (r .event))
 
   last-day : (k : ℕ) → k < r .event → daysBefore (k + 1) (r .event) ≡ daysBefore k (r .event) ++ ((r .event - (k + 1)) ∷ [])
@@ -73,8 +74,8 @@ module _ (group : ℕ → Group) (r : Request) where
   reach-none = omega arith
 
   -- "Look-back: the 45 days"
-  pub reach-most : wholeReach (highXofY group r) ≤ 45
-  unfolding wholeReach highXofY relevantDays
+  pub reach-most : wholeReach (methodOf group r) ≤ 45
+  unfolding wholeReach methodOf methodBy relevantDays
   reach-most =
       omega (arith, leastOf-from (r .event) (keep (relevant group r) (daysBefore 45 (r .event))) (r .event - 45) (omega arith) within)
     where
@@ -83,8 +84,8 @@ module _ (group : ℕ → Group) (r : Request) where
 
   -- a relevant day lies before the first held day where the reach of all relevant days goes beyond the days held before the event
   pub short-of-reach : (first : ℕ) → first ≤ r .event
-      → any (λ d. ltb d first) (highXofY group r .relevant) ≡ ltb (r .event - first) (wholeReach (highXofY group r))
-  unfolding wholeReach highXofY
+      → any (λ d. ltb d first) (methodOf group r .relevant) ≡ ltb (r .event - first) (wholeReach (methodOf group r))
+  unfolding wholeReach methodOf methodBy
   short-of-reach first h =
       let least = leastOf (r .event) (relevantDays group r) in
       any-least (r .event) first (relevantDays group r) h ∙ below least (leastOf-top (r .event) (relevantDays group r))

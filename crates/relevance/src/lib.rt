@@ -4,7 +4,7 @@ ghost use mathlib.Core.Path.{_≡_};
 ghost use Rattle.calendar.specs.Holidays.{group as groupOf};
 ghost use Rattle.method.specs.Relevant.{groupNumber, sameGroup};
 ghost use Rattle.method.specs.Method.{wholeReach};
-ghost use Rattle.method.specs.HighXofY.{highXofY};
+ghost use Rattle.method.specs.Requested.{methodOf};
 ghost use Rattle.relevance.specs.Relevance.{relevantTo};
 use calendar::Group;
 use method::Request;
@@ -63,7 +63,7 @@ pub fn relevant(request: Request, group: Group, day: u32) -> bool
 
 // How far back the oldest relevant day lies; 0 where none is relevant. It is looked for from the farthest day on.
 pub fn whole_reach(request: Request) -> u32
-    ensures { λ r. ⌜ r ≡ wholeReach (highXofY groupOf request) ⌝ }
+    ensures { λ r. ⌜ r ≡ wholeReach (methodOf groupOf request) ⌝ }
 {
     let event = request.event;
     let group = calendar::group_of(event);

@@ -7,31 +7,31 @@ use native.Mathlib.Omega.{arith}
 use borrow.Author.Tests.{le-leb, lt-leb}
 use lib.Dec.{leb}
 use lib.ListN.{length, take, drop, length-take}
-use Rattle.rooms.specs.Rooms.{partAt, partStart, Part}
+use Rattle.rooms.specs.Rooms.{readingsAt, readingsStart, ReadingsAt}
 use Rattle.lists.proofs.Unique.{unique}
 
--- it has at most 96 readings
-pub part-few : (readings : List ℕ) (at : ℕ) → length (partAt readings at) ≤ 96
-unfolding partAt
-part-few readings at = go (leb (at + 96) (length readings))
+-- it has at most `size` readings
+pub part-few : (size : ℕ) (readings : List ℕ) (at : ℕ) → length (readingsAt size readings at) ≤ size
+unfolding readingsAt
+part-few size readings at = go (leb (at + size) (length readings))
   where
-    go : (b : Bool) → length (cond b (take 96 (drop at readings)) []) ≤ 96
+    go : (b : Bool) → length (cond b (take size (drop at readings)) []) ≤ size
     go true = rw length-take (omega arith)
     go false = omega arith
 
-module _ {readings : List ℕ} {at : ℕ} {whole : ℕ × ℕ} {part : List ℕ} {stands : ℕ × ℕ} (block : stands .0 ≡ whole .0) where
-  pub part-inside : at + 96 ≤ length readings → part ≡ take 96 (drop at readings) → stands .1 ≡ whole .1 + 4 * at → Part readings at whole part stands
-  unfolding partAt partStart
+module _ {size : ℕ} {readings : List ℕ} {at : ℕ} {whole : ℕ × ℕ} {part : List ℕ} {stands : ℕ × ℕ} (block : stands .0 ≡ whole .0) where
+  pub part-inside : at + size ≤ length readings → part ≡ take size (drop at readings) → stands .1 ≡ whole .1 + 4 * at → ReadingsAt size readings at whole part stands
+  unfolding readingsAt readingsStart
   part-inside h l b =
-      let e = le-leb (at + 96) (length readings) h in record { list = rw e l; block = block; byte = rw e b }
+      let e = le-leb (at + size) (length readings) h in record { list = rw e l; block = block; byte = rw e b }
 
-  pub part-past : length readings < at + 96 → part ≡ [] → stands .1 ≡ whole .1 → Part readings at whole part stands
-  unfolding partAt partStart
+  pub part-past : length readings < at + size → part ≡ [] → stands .1 ≡ whole .1 → ReadingsAt size readings at whole part stands
+  unfolding readingsAt readingsStart
   part-past h l b =
-      let e = lt-leb (at + 96) (length readings) h in record { list = rw e l; block = block; byte = rw e (omega arith) }
+      let e = lt-leb (at + size) (length readings) h in record { list = rw e l; block = block; byte = rw e (omega arith) }
 
 -- no two parts meet the contract
-pub part-unique : {readings : List ℕ} {at : ℕ} {whole : ℕ × ℕ} {part part′ : List ℕ} {stands stands′ : ℕ × ℕ} → Part readings at whole part stands
-    → Part readings at whole part′ stands′
+pub part-unique : {size : ℕ} {readings : List ℕ} {at : ℕ} {whole : ℕ × ℕ} {part part′ : List ℕ} {stands stands′ : ℕ × ℕ} → ReadingsAt size readings at whole part stands
+    → ReadingsAt size readings at whole part′ stands′
     → (part ≡ part′) × (stands .0 ≡ stands′ .0) × (stands .1 ≡ stands′ .1)
 part-unique p q = (unique (p .list) (q .list), unique (p .block) (q .block), unique (p .byte) (q .byte))

@@ -6,35 +6,36 @@ use mathlib.Core.List.{List, []}
 use lib.ListN.{length, getD, take, drop}
 use lib.Dec.{leb}
 use Rattle.method.specs.declared.Request.{Request}
-use Rattle.method.specs.Table.{Day, History}
+use Rattle.method.specs.Table.{size, Day, History}
 use Rattle.rooms.specs.declared.Directory.{Directory}
 
--- the 96 readings that start at a place; none where they run past the end
-unfoldable pub partAt : List ℕ → ℕ → List ℕ
-partAt readings at = cond (leb (at + 96) (length readings)) (take 96 (drop at readings)) []
+-- the `size` readings that start at a place; none where they run past the end
+unfoldable pub readingsAt : ℕ → List ℕ → ℕ → List ℕ
+readingsAt size readings at = cond (leb (at + size) (length readings)) (take size (drop at readings)) []
 
 -- where it starts; 0 where it is empty
-unfoldable pub partStart : List ℕ → ℕ → ℕ
-partStart readings at = cond (leb (at + 96) (length readings)) at 0
+unfoldable pub readingsStart : ℕ → List ℕ → ℕ → ℕ
+readingsStart size readings at = cond (leb (at + size) (length readings)) at 0
 
 -- `part` at the place `stands` is the part that starts at `at` of readings that stand at `whole`; a place is a block and a byte of it
-pub record Part (readings : List ℕ) (at : ℕ) (whole : ℕ × ℕ) (part : List ℕ) (stands : ℕ × ℕ) : Type 0 where
-  pub list : part ≡ partAt readings at
+pub record ReadingsAt (size : ℕ) (readings : List ℕ) (at : ℕ) (whole : ℕ × ℕ) (part : List ℕ) (stands : ℕ × ℕ) : Type 0 where
+  pub list : part ≡ readingsAt size readings at
   pub block : stands .0 ≡ whole .0
-  pub byte : stands .1 ≡ whole .1 + 4 * partStart readings at
+  pub byte : stands .1 ≡ whole .1 + 4 * readingsStart size readings at
 
 -- what is held of the day `i` days before the event
-unfoldable pub roomDay : Directory → List ℕ → ℕ → Day
-roomDay rooms readings i = record { mark = getD (rooms .marks) i 0; readings = partAt readings (getD (rooms .at) i 0) }
+unfoldable pub roomDay : ℕ → Directory → List ℕ → ℕ → Day
+roomDay event rooms readings i = record { mark = getD (rooms .marks) i 0; readings = readingsAt (size (event - i)) readings (getD (rooms .at) i 0) }
 
--- how many days before the event are held: at most 45, and none below day 0
+-- how many days are held, the event day among them: it and at most 45 before it, none below day 0
 unfoldable pub heldRooms : Request → Directory → ℕ
-heldRooms r rooms = min (rooms .held) (min 45 (r .event))
+heldRooms r rooms = min (rooms .held) (min 45 (r .event) + 1)
 
+-- the history that a directory is: consecutive days up to the event day
 unfoldable pub roomHistory : Request → Directory → List ℕ → History Day
 roomHistory r rooms readings =
     record {
-      first = r .event - heldRooms r rooms;
-      count = heldRooms r rooms + 1;
-      day = λ d. roomDay rooms readings (r .event - d);
+      first = r .event + 1 - heldRooms r rooms;
+      count = heldRooms r rooms;
+      day = λ d. roomDay (r .event) rooms readings (r .event - d);
     }

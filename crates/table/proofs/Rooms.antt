@@ -11,7 +11,7 @@ use Rattle.method.specs.Table.{Table, heldDays, offset, size, dayOf, held, hist
 use Rattle.method.specs.Adjustment.{places}
 use Rattle.method.proofs.Histories.{is-held, held-first, held-last}
 use Rattle.rooms.specs.declared.Directory.{Directory}
-use Rattle.rooms.specs.Rooms.{partAt, roomDay}
+use Rattle.rooms.specs.Rooms.{readingsAt, roomDay}
 use Rattle.places.proofs.Places.{filled, at-place}
 use Rattle.table.specs.Lent.{tableOf}
 use Rattle.table.specs.Directory.{entriesOf, directoryOf}
@@ -112,9 +112,9 @@ module _ (t : Table) (event : ℕ) (extract : isExtract t ≡ true) (holds : hel
             (event - i - t .first) 0
         mark = place (λ i. getD (t .marks) (event - i - t .first) 0)
 
-        part : partAt (t .readings) (offset (t .first) (event - i - t .first)) ≡ take 96 (drop (offset (t .first) (event - i - t .first)) (t .readings))
-        part = unfold partAt in rw (le-leb (offset (t .first) (event - i - t .first) + 96) (length (t .readings)) room-stands)
+        part : readingsAt (t .readings) (offset (t .first) (event - i - t .first)) ≡ take 96 (drop (offset (t .first) (event - i - t .first)) (t .readings))
+        part = unfold readingsAt in rw (le-leb (offset (t .first) (event - i - t .first) + 96) (length (t .readings)) room-stands)
 
-        readings : partAt (t .readings) (getD (map (λ i. cond (ltb i (entriesOf t event)) (offset (t .first) (event - i - t .first)) 0) (places 46 0)) i
+        readings : readingsAt (t .readings) (getD (map (λ i. cond (ltb i (entriesOf t event)) (offset (t .first) (event - i - t .first)) 0) (places 46 0)) i
             0) ≡ take 96 (drop (offset (t .first) (event - i - t .first)) (t .readings))
-        readings = ap (partAt (t .readings)) (place (λ i. offset (t .first) (event - i - t .first))) ∙ part
+        readings = ap (readingsAt (t .readings)) (place (λ i. offset (t .first) (event - i - t .first))) ∙ part

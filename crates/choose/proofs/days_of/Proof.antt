@@ -6,13 +6,13 @@ use native.Mathlib.Omega.{arith}
 use borrow.Author.Needs.{needs}
 use lib.ListN.{take, set}
 use Rattle.choose.specs.Choice.{inFive}
-use Rattle.choose.specs.Look.{dayOf}
+use Rattle.choose.specs.Look.{wordDay}
 use Rattle.choose.proofs.Five.{five-more}
 use Rattle.choose.proofs.days_of.Statement.{statement}
 use Rattle.choose.proofs.days_of.Tie as tie
 
 abbrev Inv-loop : tie.InvT-loop
-Inv-loop event count row days₀ i₀ days i = (i ≤ count) × (days ≡ inFive (map (dayOf event) (take i row)))
+Inv-loop event count row days₀ i₀ days i = (i ≤ count) × (days ≡ inFive (map (wordDay event) (take i row)))
 
 abbrev μ-loop : tie.MeasureT-loop
 μ-loop event count row days₀ i₀ days i = count - i
@@ -46,7 +46,7 @@ loop-again c =
     let l = c .before .before .loop in (
       omega arith,
       ap (λ (ds : List ℕ). set ds (l .i) (c .day-of .result)) (l .inv .1)
-          ∙ five-more (dayOf (c .before .before .before .args .event)) (c .before .before .before .args .t2) (l .i) (c .day-of .result) (omega arith) (omega arith) (c .day-of .ensures),
+          ∙ five-more (wordDay (c .before .before .before .args .event)) (c .before .before .before .args .t2) (l .i) (c .day-of .result) (omega arith) (omega arith) (c .day-of .ensures),
     )
 
 returns : tie.Need-returns Inv-loop μ-loop

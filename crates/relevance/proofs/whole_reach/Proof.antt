@@ -5,7 +5,7 @@ use native.Mathlib.Omega.{arith}
 use borrow.Author.Needs.{needs}
 use Rattle.calendar.specs.Holidays.{group as groupOf}
 use Rattle.method.specs.Method.{wholeReach}
-use Rattle.method.specs.HighXofY.{highXofY}
+use Rattle.method.specs.Requested.{methodOf}
 use Rattle.relevance.proofs.Relevance.{relevant-to}
 use Rattle.relevance.proofs.Reaching.{reachWithin, reach-start, reach-pass, reach-here, reach-none}
 use Rattle.relevance.proofs.whole_reach.Statement.{statement}
@@ -13,7 +13,7 @@ use Rattle.relevance.proofs.whole_reach.Tie as tie
 
 abbrev Inv-loop : tie.InvT-loop
 Inv-loop request event group back₀ back =
-    (back ≤ request .event) × (wholeReach (highXofY groupOf request) ≡ reachWithin groupOf request back)
+    (back ≤ request .event) × (wholeReach (methodOf groupOf request) ≡ reachWithin groupOf request back)
 
 abbrev μ-loop : tie.MeasureT-loop
 μ-loop request event group back₀ back = back

@@ -1,11 +1,11 @@
--- `rooms::part_at` meets its contract.
+-- `rooms::readings_at` meets its contract.
 use Prim.Native.Nat.{_+_, _-_}
 use mathlib.Core.Path.{_≡_, refl}
 use native.Mathlib.Omega.{arith}
 use borrow.Author.Needs.{needs}
 use Rattle.rooms.proofs.Parts.{part-inside, part-past}
-use Rattle.rooms.proofs.part_at.Statement.{statement}
-use Rattle.rooms.proofs.part_at.Tie as tie
+use Rattle.rooms.proofs.readings_at.Statement.{statement}
+use Rattle.rooms.proofs.readings_at.Tie as tie
 
 add-end : tie.Need-add-end
 add-end c = search needs
@@ -28,14 +28,14 @@ slice-aggregate-result c = search needs
 returns : tie.Need-returns
 returns c =
     let a = c .before .before .args in
-    let e : a .at + 96 - a .at ≡ 96 = omega arith in
+    let e : a .at + a .size - a .at ≡ a .size = omega arith in
     part-inside refl (c .before .if1 .taken) (rw e) (omega arith)
 
 returns-2 : tie.Need-returns-2
 returns-2 c = part-past refl (c .before .if1 .left) refl (omega arith)
 
-pub part-at-spec : {M : Type 1} → statement M
-part-at-spec =
+pub readings-at-spec : {M : Type 1} → statement M
+readings-at-spec =
     tie.close
     (tie.spec
     add-end
