@@ -1,2 +1,2 @@
 pub mod FirstRefusal
-pub mod Held
+pub mod Replies
