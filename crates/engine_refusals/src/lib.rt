@@ -23,7 +23,8 @@ fn is_good(request: Request) -> bool
     let e = request.e;
     let start = day_ruler::start(request.event);
     let end = day_ruler::end(request.event);
-    (((request.participation <= dates::LAST_DAY) & ((start <= s) & (s < end))) & ((s < e) & (e <= end)))
+    (((request.participation <= dates::LAST_DAY) & ((start <= s) & (s < end)))
+        & ((s < e) & (e <= end)))
         & (request.n <= s)
 }
 

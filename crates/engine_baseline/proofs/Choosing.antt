@@ -1,19 +1,19 @@
--- What the choice of days says: the outcome it stands for, and of chosen days that they are whole days of the history, N of them.
+-- What the choice of days says: the outcome it stands for, and of chosen days that they are whole days of the history.
 use Prim.Native.Nat.{ℕ, zero, suc, _-_, _≤_, _<_}
 use mathlib.Core.Path.{_≡_, refl, sym, ap, ap₂, _∙_}
-use mathlib.Core.Bool.{Bool, true, false, cond, not, _&&_, true≢false}
+use mathlib.Core.Bool.{Bool, true, false, cond, not, _&&_}
 use mathlib.Core.List.{List, [], _∷_, _++_, map}
+use mathlib.Core.Option.{Option}
 use native.Mathlib.Omega.{arith}
-use borrow.Author.Tests.{ltb-false}
-use lib.Dec.{ltb, eqb}
-use lib.ListN.{length, take, replicate, length-take, length-map}
+use lib.Dec.{eqb}
+use lib.ListN.{length, take, drop, replicate, length-map}
 use lib.Seq.{take-take, take-append-seam}
-use Rattle.lists.specs.Lists.{all, keep}
+use Rattle.lists.specs.Lists.{keep}
 use Rattle.lists.proofs.Bools.{both}
 use Rattle.calendar.specs.declared.Group.{Group}
 use Rattle.method.specs.declared.Request.{Request}
 use Rattle.method.specs.Table.{Day, History, held, eventBit, outageBit}
-use Rattle.method.specs.Adjustment.{baseline}
+use Rattle.method.specs.Adjustment.{Baseline, baseline}
 use Rattle.method.specs.Eligible.{higher, insertBy, sortBy, eligible, spare, complete}
 use Rattle.method.specs.HighXofY.{N}
 use Rattle.method.specs.Rules.{methodBy}
@@ -23,16 +23,13 @@ use Rattle.method.specs.Method.{reach, isShort}
 use Rattle.method.proofs.HighXofY.{lawful}
 use Rattle.method.proofs.Stable.{yesterday-held}
 use Rattle.method.specs.Verdict.{closing}
-use Rattle.method.proofs.Sort.{length-sorted}
-use Rattle.rooms.specs.declared.Directory.{Directory}
-use Rattle.rooms.specs.Rooms.{roomHistory}
 use Rattle.choose.specs.declared.Chosen.{Chosen}
 use Rattle.choose.specs.declared.Choosing.the-variants.{Short, Few, Days}
 use Rattle.choose.specs.declared.Choice.{Choice}
 use Rattle.choose.specs.Choice.{choiceOf, noDays, inFive}
-use Rattle.choose.proofs.WholeChoice.{chosen-few}
-use Rattle.baseline.specs.Ready.{isWhole, withDays, Fit, Ready, replyOf}
-use Rattle.baseline.proofs.Whole.{event-held}
+use Rattle.engine_baseline.specs.Engine.{withDays}
+use Rattle.engine_baseline.specs.Steps.{Fit, Ready, replyOf}
+use Rattle.engine_baseline.proofs.HighXofY.{order-is, finish-is, chosen-few, chosen-size}
 
 -- ---- a choice and its outcome
 module _ {A O : Type 0} (m : Method A O) (h : History A) where
@@ -92,7 +89,7 @@ module _ {A O : Type 0} (m : Method A O) (h : History A) where
 
 -- ---- a rule that holds of every element
 module _ {A : Type 0} (P : A → Type 0) where
-  abbrev Every : List A → Type 0
+  abbrev pub Every : List A → Type 0
   Every [] = Unit {0}
   Every (x ∷ xs) = P x × Every xs
 
@@ -100,6 +97,11 @@ module _ {A : Type 0} (P : A → Type 0) where
   every-take zero xs e = tt
   every-take (suc n) [] e = tt
   every-take (suc n) (x ∷ xs) e = (e .0, every-take n xs (e .1))
+
+  every-drop : (n : ℕ) (xs : List A) → Every xs → Every (drop n xs)
+  every-drop zero xs e = e
+  every-drop (suc n) [] e = tt
+  every-drop (suc n) (x ∷ xs) e = every-drop n xs (e .1)
 
   every-append : (xs ys : List A) → Every xs → Every ys → Every (xs ++ ys)
   every-append [] ys e f = f
@@ -131,15 +133,14 @@ every-keep P Q q f (x ∷ xs) e = go (q x) refl (every-keep P Q q f xs (e .1))
     go false t later = later
 
 -- ---- the chosen days of a history
-module _ (group : ℕ → Group) (r : Request) (h : History Day) where
-  abbrev method : Method Day (mathlib.Core.Option.Option Rattle.method.specs.Adjustment.Baseline)
-  method = methodOf group r
-
+module _ (h : History Day) where
+  -- a day with what is held of it
   abbrev Known : ℕ × Day → Type 0
   Known p = (p .1 ≡ h .day (p .0)) × (held h (p .0) ≡ true)
 
-  abbrev Whole : ℕ × Day → Type 0
-  Whole p = (p .1 ≡ h .day (p .0)) × (isWhole h (p .0) ≡ true)
+  -- and with no reading missing
+  abbrev pub Whole : ℕ × Day → Type 0
+  Whole p = Known p × (complete (p .1) ≡ true)
 
   known : (ds : List ℕ) → Every Known (map {B = ℕ × Day} (λ d. (d, h .day d)) (keep (held h) ds))
   unfolding keep
@@ -151,113 +152,96 @@ module _ (group : ℕ → Group) (r : Request) (h : History Day) where
       go true e later = ((refl, e), later)
       go false e later = later
 
-  whole-of : (q : Day → Bool) → ((d : Day) → q d ≡ true → complete d ≡ true) → (p : ℕ × Day) → Known p → q (p .1) ≡ true → Whole p
-  unfolding isWhole
-  whole-of q f p k e = (k .0, rw (k .1) (ap complete (sym (k .0)) ∙ f (p .1) e))
+  -- days with what is held of them, listed again
+  listed-again : (l : List (ℕ × Day)) → Every Whole l → withDays h (daysOf l) ≡ l
+  unfolding withDays
+  listed-again [] e = refl
+  listed-again (p ∷ ps) e = ap₂ (λ (x : Day) l. (p .0, x) ∷ l) (sym (e .0 .0 .0)) (listed-again ps (e .1))
 
   complete-first : (a b c : Bool) → ((a && b) && c) ≡ true → a ≡ true
   complete-first a b c e = both a b (both (a && b) c e .0) .0
 
-  seen-known : Every Known (seen method h)
+  eligible-whole : (p : ℕ × Day) → Known p → eligible (p .1) ≡ true → Whole p
+  unfolding eligible
+  eligible-whole p k e = (k, complete-first (complete (p .1)) (not (eventBit (p .1 .mark))) (not (outageBit (p .1 .mark))) e)
+
+  spare-whole : (p : ℕ × Day) → Known p → spare (p .1) ≡ true → Whole p
+  unfolding spare
+  spare-whole p k e = (k, complete-first (complete (p .1)) (eventBit (p .1 .mark)) (not (outageBit (p .1 .mark))) e)
+
+module _ (group : ℕ → Group) (r : Request) (h : History Day) where
+  abbrev method : Method Day (Option Baseline)
+  method = methodOf group r
+
+  seen-known : Every (Known h) (seen method h)
   unfolding seen
-  seen-known = known (method .relevant)
+  seen-known = known h (method .relevant)
 
-  eligibles-whole : Every Whole (eligibles method h)
+  eligibles-whole : Every (Whole h) (eligibles method h)
   unfolding eligibles methodOf methodBy
-  eligibles-whole =
-      every-keep Known Whole (λ (p : ℕ × Day). eligible (p .1))
-      (whole-of eligible (λ d e. complete-first (complete d) (not (eventBit (d .mark))) (not (outageBit (d .mark))) (unfold eligible in e)))
-      (seen method h) seen-known
+  eligibles-whole = every-keep (Known h) (Whole h) (λ (p : ℕ × Day). eligible (p .1)) (eligible-whole h) (seen method h) seen-known
 
-  spares-whole : Every Whole (spares method h)
-  unfolding spares methodOf methodBy
+  kept-whole : Every (Whole h) (keep (λ (p : ℕ × Day). method .spare (p .1)) (seen method h))
+  unfolding methodOf methodBy
+  kept-whole = every-keep (Known h) (Whole h) (λ (p : ℕ × Day). spare (p .1)) (spare-whole h) (seen method h) seen-known
+
+  spares-whole : Every (Whole h) (spares method h)
+  unfolding spares
   spares-whole =
-      every-sorted Whole (higher r) (keep (λ (p : ℕ × Day). spare (p .1)) (seen method h))
-      (every-keep Known Whole (λ (p : ℕ × Day). spare (p .1))
-      (whole-of spare (λ d e. complete-first (complete d) (eventBit (d .mark)) (not (outageBit (d .mark))) (unfold spare in e)))
-      (seen method h) seen-known)
+      rw (order-is group r (keep (λ (p : ℕ × Day). method .spare (p .1)) (seen method h)))
+      (every-sorted (Whole h) (higher r) (keep (λ (p : ℕ × Day). method .spare (p .1)) (seen method h)) kept-whole)
 
-  window-whole : Every Whole (window method h)
+  window-whole : Every (Whole h) (window method h)
   unfolding window
   window-whole =
-      every-append Whole (take (method .most) (eligibles method h)) (take (method .fill - length (eligibles method h)) (spares method h))
-      (every-take Whole (method .most) (eligibles method h) eligibles-whole)
-      (every-take Whole (method .fill - length (eligibles method h)) (spares method h) spares-whole)
+      every-append (Whole h) (take (method .most) (eligibles method h)) (take (method .fill - length (eligibles method h)) (spares method h))
+      (every-take (Whole h) (method .most) (eligibles method h) eligibles-whole)
+      (every-take (Whole h) (method .fill - length (eligibles method h)) (spares method h) spares-whole)
 
-  chosen-whole : Every Whole (chosen method h)
+  pub chosen-whole : Every (Whole h) (chosen method h)
   unfolding chosen methodOf methodBy
   chosen-whole =
-      every-take Whole (method .taken (length (window method h))) (sortBy (higher r) (window method h))
-      (every-sorted Whole (higher r) (window method h) window-whole)
+      every-take (Whole h) (method .taken (length (window method h))) (drop (method .passed (length (window method h))) (sortBy (higher r) (window method h)))
+      (every-drop (Whole h) (method .passed (length (window method h))) (sortBy (higher r) (window method h))
+      (every-sorted (Whole h) (higher r) (window method h) window-whole))
 
-  days-whole : (l : List (ℕ × Day)) → Every Whole l → (all (isWhole h) (daysOf l) ≡ true) × (withDays h (daysOf l) ≡ l)
-  unfolding all withDays
-  days-whole [] e = (refl, refl)
-  days-whole (p ∷ ps) e =
-      let w = days-whole ps (e .1) in
-      (rw (e .0 .1) (w .0), ap₂ (λ (x : Day) l. (p .0, x) ∷ l) (sym (e .0 .0)) (w .1))
-
-  -- N days are chosen of a window that is not too small
-  module _ (enough : eqb (method .taken (length (window method h))) 0 ≡ false) where
-    abbrev n : ℕ
-    n = N (group (r .event))
-
-    window-enough : ltb (length (window method h)) n ≡ false
-    unfolding methodOf methodBy
-    window-enough = go (ltb (length (window method h)) n) refl
-      where
-        go : (b : Bool) → ltb (length (window method h)) n ≡ b → ltb (length (window method h)) n ≡ false
-        go true e = absurd (true≢false (rw e at enough))
-        go false e = e
-
-    pub chosen-size : length (chosen method h) ≡ n
-    unfolding chosen methodOf methodBy
-    chosen-size =
-        rw (window-enough, length-take, length-sorted (higher r) (window method h))
-        (omega (arith, ltb-false (length (window method h)) n window-enough))
-
-    -- the event is not on day 0
-    pub some-before : held h (r .event) ≡ true → 0 < r .event
-    unfolding methodOf methodBy
-    some-before holds = yesterday-held method (lawful group r) h holds enough .0
+  -- the chosen days are those that the history holds
+  pub chosen-again : withDays h (daysOf (chosen method h)) ≡ chosen method h
+  chosen-again = listed-again h (chosen method h) chosen-whole
 
 -- days in five places are as many as there are
 five-take : (l : List ℕ) → length l ≤ 5 → take (length l) (inFive l) ≡ l
 five-take l h = take-take (length l) 5 (l ++ replicate 5 0) h ∙ take-append-seam l (replicate 5 0)
 
 -- what `finish` asks, and its reply
-module _ (group : ℕ → Group) (r : Request) (rooms : Directory) (readings : List ℕ) (room : ℕ) (fit : Fit r rooms readings room) (c : Choice)
-    (x : Chose (methodOf group r) (roomHistory r rooms readings) c) where
-  abbrev h : History Day
-  h = roomHistory r rooms readings
-
+module _ (group : ℕ → Group) (r : Request) (h : History Day) (room : ℕ) (fit : Fit r h room) (c : Choice) (x : Chose (methodOf group r) h c) where
   abbrev ch : List (ℕ × Day)
   ch = chosen (methodOf group r) h
-
-  few-days : length (daysOf ch) ≤ 5
-  few-days = omega (arith, length-map ch (λ (p : ℕ × Day). p .0), chosen-size group r h (x .taken), chosen-few (group (r .event)))
 
   same-count : length (daysOf ch) ≡ length ch
   same-count = length-map ch (λ (p : ℕ × Day). p .0)
 
   listed : take (c .chosen .count) (c .chosen .days) ≡ daysOf ch
-  listed = rw (x .chosen, ← same-count) (five-take (daysOf ch) few-days)
+  listed = rw (x .chosen, ← same-count) (five-take (daysOf ch) (omega (arith, same-count, chosen-few group r h)))
 
-  pub ready : Ready r rooms readings room (c .chosen)
+  -- the event is not on day 0
+  some-before : 0 < r .event
+  unfolding methodOf methodBy
+  some-before = yesterday-held (methodOf group r) (lawful group r) h (fit .holds) (x .taken) .0
+
+  pub ready : Ready r room (c .chosen)
   ready =
       record {
-        fit = fit;
-        some = some-before group r h (x .taken) (event-held r rooms readings);
-        few = rw (x .chosen) (omega (arith, few-days, same-count));
+        request = fit .request;
+        enough = fit .enough;
+        some = some-before;
+        few = rw (x .chosen) (chosen-few group r h);
         five = rw listed (rw (x .chosen));
-        whole = rw listed (days-whole group r h ch (chosen-whole group r h) .0);
       }
 
   pub reply-is : replyOf r h (c .chosen) ≡ closing (outcome (methodOf group r) h)
   unfolding methodOf methodBy
-  reply-is =
-      ap closing ((λ i. chose (listed i) (reaches i) (baseline r (counted i) (same i) (h .day (r .event - 1)) (h .day (r .event)))) ∙
-      sym (x .outcome))
+  reply-is = ap closing (same ∙ sym (x .outcome))
     where
       reaches : c .chosen .reach ≡ reach (methodOf group r) h
       reaches = ap (λ (k : Chosen). k .reach) (x .chosen)
@@ -265,5 +249,12 @@ module _ (group : ℕ → Group) (r : Request) (rooms : Directory) (readings : L
       counted : c .chosen .count ≡ N (group (r .event))
       counted = ap (λ (k : Chosen). k .count) (x .chosen) ∙ chosen-size group r h (x .taken)
 
-      same : withDays h (take (c .chosen .count) (c .chosen .days)) ≡ ch
-      same = ap (withDays h) listed ∙ days-whole group r h ch (chosen-whole group r h) .1
+      days : withDays h (take (c .chosen .count) (c .chosen .days)) ≡ ch
+      days = ap (withDays h) listed ∙ chosen-again group r h
+
+      same : chose (take (c .chosen .count) (c .chosen .days)) (c .chosen .reach)
+          (baseline r (c .chosen .count) (withDays h (take (c .chosen .count) (c .chosen .days))) (h .day (r .event - 1)) (h .day (r .event)))
+          ≡ chose (daysOf ch) (reach (methodOf group r) h) (methodOf group r .finish ch (h .day (r .event - 1)) (h .day (r .event)))
+      same =
+          (λ i. chose (listed i) (reaches i) (baseline r (counted i) (days i) (h .day (r .event - 1)) (h .day (r .event)))) ∙
+          ap (chose (daysOf ch) (reach (methodOf group r) h)) (sym (finish-is group r ch (h .day (r .event - 1)) (h .day (r .event))))

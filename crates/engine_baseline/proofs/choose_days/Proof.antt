@@ -1,15 +1,16 @@
--- `baseline::choose_days` meets its contract: the choice is known at `d`.
+-- `engine_baseline::choose_days` meets its contract: the choice is known at `d`.
 use mathlib.Core.Path.{ap}
 use borrow.Author.Needs.{needs}
 use lib.ListN.{length}
 use Rattle.calendar.specs.Holidays.{group}
-use Rattle.method.specs.HighXofY.{highXofY}
+use Rattle.method.specs.Requested.{methodOf}
 use Rattle.method.specs.Verdict.{closing}
 use Rattle.rooms.specs.Rooms.{roomHistory}
-use Rattle.baseline.proofs.Choosing.{short-is, few-is, days-is, ready, reply-is}
-use Rattle.baseline.proofs.Steps.{refuses}
-use Rattle.baseline.proofs.choose_days.Statement.{statement}
-use Rattle.baseline.proofs.choose_days.Tie as tie
+use Rattle.answer.proofs.Laws.{refuses}
+use Rattle.engine_baseline.proofs.Choosing.{short-is, few-is, days-is, ready, reply-is}
+use Rattle.engine_baseline.proofs.Steps.{words-refused}
+use Rattle.engine_baseline.proofs.choose_days.Statement.{statement}
+use Rattle.engine_baseline.proofs.choose_days.Tie as tie
 
 choose-requires : tie.Need-choose-requires
 choose-requires c κs = search needs
@@ -34,9 +35,9 @@ finish-requires c κs =
     let d = c .before .before .before .before in
     let s = d .before .before .before in
     let a = s .args in
-    let m = highXofY group (a .request) in
+    let m = methodOf group (a .request) in
     let h = roomHistory (a .request) (a .rooms) (a .readings .now) in
-    ready group (a .request) (a .rooms) (a .readings .now) (length (a .out .now)) (s .pre) (d .choose .result)
+    ready group (a .request) h (length (a .out .now)) (s .pre) (d .choose .result)
     (days-is m h (d .choose .ensures) (c .before .before .enum-told .given .1))
 
 returns : tie.Need-returns
@@ -45,9 +46,10 @@ returns c =
     let d = c .before .before .before .before in
     let s = d .before .before .before in
     let a = s .args in
-    let m = highXofY group (a .request) in
+    let m = methodOf group (a .request) in
     let h = roomHistory (a .request) (a .rooms) (a .readings .now) in
-    refuses (a .out .now) (c .refuse .ensures) (ap closing (short-is m h (d .choose .ensures) (c .before .before .choosing .given .1)))
+    refuses (a .out .now) (c .refuse .ensures)
+    (words-refused (a .request) h (ap closing (short-is m h (d .choose .ensures) (c .before .before .choosing .given .1))))
 
 returns-2 : tie.Need-returns-2
 unfolding closing
@@ -55,9 +57,10 @@ returns-2 c =
     let d = c .before .before .before .before in
     let s = d .before .before .before in
     let a = s .args in
-    let m = highXofY group (a .request) in
+    let m = methodOf group (a .request) in
     let h = roomHistory (a .request) (a .rooms) (a .readings .now) in
-    refuses (a .out .now) (c .refuse2 .ensures) (ap closing (few-is m h (d .choose .ensures) (c .before .before .choosing2 .given .1)))
+    refuses (a .out .now) (c .refuse2 .ensures)
+    (words-refused (a .request) h (ap closing (few-is m h (d .choose .ensures) (c .before .before .choosing2 .given .1))))
 
 same-length : tie.Need-same-length
 same-length c = search needs
@@ -67,11 +70,10 @@ returns-3 c =
     let d = c .before .before .before .before .before .before .before in
     let s = d .before .before .before in
     let a = s .args in
-    let m = highXofY group (a .request) in
+    let m = methodOf group (a .request) in
     let h = roomHistory (a .request) (a .rooms) (a .readings .now) in
     let days = days-is m h (d .choose .ensures) (c .before .before .before .before .before .enum-told .given .1) in
-    rw (reply-is group (a .request) (a .rooms) (a .readings .now) (length (a .out .now)) (s .pre) (d .choose .result) days) at
-    (c .before .before .finish .ensures)
+    rw (reply-is group (a .request) h (length (a .out .now)) (s .pre) (d .choose .result) days) at (c .before .before .finish .ensures)
 
 pub choose-days-spec : {M : Type 1} → statement M
 choose-days-spec =
