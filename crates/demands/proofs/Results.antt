@@ -16,7 +16,7 @@ use Rattle.method.specs.declared.Refusal.the-variants.{NotYetParticipating, NoR
 use Rattle.method.specs.Table.{Table}
 use Rattle.method.specs.Verdict.{Reply, Answer as Numbers, refused, answered, number, firstOf, verdict, written}
 use Rattle.method.specs.Demands.{isMargin, isSettled, reported as reportedIn}
-use Rattle.refusals.proofs.FirstRefusal.{first-append}
+use Rattle.engine_refusals.proofs.FirstRefusal.{first-append}
 use Rattle.record.specs.Reader.{requestAt}
 use Rattle.record.proofs.Back.{reading-length}
 use Rattle.answer.specs.declared.Given.the-variants.{Answered, Refused}
