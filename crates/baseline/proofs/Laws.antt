@@ -24,6 +24,10 @@ module _ (group : ℕ → Group) (t : Table) (r : Request) (room : ℕ) {a : Ans
   pub sound : Sound r room a
   sound = sound-over group (history t) r room (past .1)
 
-  -- "The answer holds the numerators, never above 1,200,000,000"
-  pub never-above : all (λ x. leb x 1200000000) (a .numerators) ≡ true
-  never-above = numerators-most (history t) (good-days t (table-passed t (past .0))) group r room (past .1)
+  numbers-most : all (λ x. leb x 1200000000) (a .numerators) ≡ true
+  numbers-most = numerators-most (history t) (good-days t (table-passed t (past .0))) group r room (past .1)
+
+-- "The answer holds the numerators, never above 1,200,000,000"
+pub never-above : (group : ℕ → Group) (t : Table) (r : Request) (room : ℕ) (a : Answer) → verdict group t r room ≡ answered a
+    → all (λ x. leb x 1200000000) (a .numerators) ≡ true
+never-above group t r room a e = numbers-most group t r room e

@@ -13,13 +13,12 @@ use Rattle.method.specs.Table.{Table}
 use Rattle.method.specs.Verdict.{Reply, refused, answered, verdict, written}
 use Rattle.answer.specs.declared.Given.the-variants.{Answered, Refused as RefusedGiven}
 use Rattle.answer.specs.declared.Answer.{Answer}
-use Rattle.answer.specs.Answer.{answerOf}
-use Rattle.baseline.specs.Ready.{Answers}
+use Rattle.answer.specs.Answer.{answerOf, Answers}
 use Rattle.record.specs.Layout.{readingBytes}
 use Rattle.record.proofs.Back.{reading-length}
 use Rattle.filling.specs.Told.{toldFirst}
 use Rattle.bytewise.specs.Bytewise.{bytesWritten, FileAnswers}
-use Rattle.baseline.proofs.Answered.{sound}
+use Rattle.baseline.proofs.Laws.{sound}
 use Rattle.bytewise.proofs.Rooms.{room-same}
 
 -- ---- refused: the bytes are kept

@@ -23,7 +23,7 @@ use Rattle.method.specs.Verdict.{written}
 use Rattle.method.proofs.Replies.{other, none-early}
 use Rattle.answer.specs.declared.Answer.{Answer}
 use Rattle.answer.specs.Answer.{answerOf}
-use Rattle.baseline.proofs.Laws.{answers-unique}
+use Rattle.answer.proofs.Laws.{answers-unique}
 use Rattle.bytewise.specs.Bytewise.{bytesWritten}
 use Rattle.bytewise.proofs.Laws.{file-answers-unique}
 use Rattle.bytewise.proofs.Rooms.{room-enough}

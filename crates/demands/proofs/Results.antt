@@ -21,8 +21,7 @@ use Rattle.record.specs.Reader.{requestAt}
 use Rattle.record.proofs.Back.{reading-length}
 use Rattle.answer.specs.declared.Given.the-variants.{Answered, Refused}
 use Rattle.answer.specs.declared.Answer.{Answer}
-use Rattle.answer.specs.Answer.{answerOf}
-use Rattle.baseline.specs.Ready.{Answers}
+use Rattle.answer.specs.Answer.{answerOf, Answers}
 use Rattle.bytewise.specs.Bytewise.{FileAnswers, bytesWritten}
 use Rattle.bytewise.proofs.Laws.{below-four}
 use Rattle.entry.specs.Entry.{fileReply}

@@ -19,7 +19,7 @@ use Rattle.method.specs.Rules.{methodBy}
 use Rattle.method.specs.HighXofY.{highXofY}
 use Rattle.method.specs.Requested.{rulesOf, methodOf}
 use Rattle.method.specs.Verdict.{Reply, refused, answered, tableRefusals, goodRequest, requestRefusals, closing, firstOf, methodology, verdict}
-use Rattle.baseline.proofs.Laws.{numerators-are}
+use Rattle.engine_baseline.proofs.Laws.{numerators-are}
 use Rattle.record.specs.declared.EventAt.the-variants.{Event, NoEvent as NoneThere}
 use Rattle.record.specs.declared.Read.the-variants.{File, Refused}
 use Rattle.record.specs.Reader.{isPF, goodEnd, eventsIn, shapeIn, readFile, tableIn, requestAt, eventAtPlace}

@@ -13,9 +13,9 @@ use Rattle.method.specs.Verdict.{Answer as Numbers, Reply, refused, answered, w
 use Rattle.choose.specs.Choice.{inFive}
 use Rattle.answer.specs.declared.Given.the-variants.{Answered, Refused}
 use Rattle.answer.specs.declared.Answer.{Answer}
-use Rattle.answer.specs.Answer.{answerOf}
-use Rattle.baseline.specs.Ready.{Answers}
-use Rattle.baseline.proofs.Answered.{Sound, sound}
+use Rattle.answer.specs.Answer.{answerOf, Answers}
+use Rattle.engine_baseline.proofs.Answered.{Sound}
+use Rattle.baseline.proofs.Laws.{sound}
 use Rattle.lines.specs.Lines.{lineText, linesText}
 use Rattle.lines.specs.Listing.{refusalLine, eventLines, repliedLines, eventText}
 use Rattle.event_lines.specs.Answered.{answerLines}

@@ -12,8 +12,7 @@ use Rattle.calendar.specs.Holidays.{group}
 use Rattle.method.specs.Verdict.{verdict}
 use Rattle.method.proofs.Tables.{offset-is}
 use Rattle.numerators.proofs.Windows.{small}
-use Rattle.baseline.proofs.Laws.{never-above}
-use Rattle.baseline.proofs.Answered.{sound}
+use Rattle.baseline.proofs.Laws.{sound, never-above}
 use Rattle.record.specs.Layout.{Below, Fits}
 use Rattle.record.specs.Laws.{StopsAt}
 use Rattle.record.specs.declared.Shape.{Shape}

@@ -21,7 +21,7 @@ use Rattle.method.specs.declared.Refusal.the-variants.{NotYetParticipating, NoR
 use Rattle.method.specs.Adjustment.{rounded}
 use Rattle.method.specs.Verdict.{Answer, Reply, refused, answered, number, carries}
 use Rattle.numerators.proofs.Windows.{small}
-use Rattle.baseline.proofs.Answered.{Sound}
+use Rattle.engine_baseline.proofs.Answered.{Sound}
 use Rattle.record.specs.declared.Shape.{Shape}
 use Rattle.lines.specs.Lines.{Field, Line, newline, spaced, lineText, linesText}
 use Rattle.lines.specs.Listing.{headerLine, refusedLine, eventLine, quarterLine, quarterLines, refusalLine, eventLines}
