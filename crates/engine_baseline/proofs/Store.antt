@@ -1,23 +1,27 @@
 -- A store whose rooms agree with its history gets of the engine what the methodology gives over that history.
-use Prim.Native.Nat.{ℕ, _+_, _-_, _≤_, _<_, min}
+use Prim.Native.Nat.{ℕ}
 use mathlib.Core.Path.{_≡_, refl, sym, ap, _∙_}
-use mathlib.Core.Bool.{Bool, true, false, cond}
+use mathlib.Core.Bool.{true, false}
 use mathlib.Core.List.{List}
 use mathlib.Core.Logic.{⊎-elim}
-use native.Mathlib.Omega.{arith}
-use Rattle.lists.specs.Lists.{all}
+use mathlib.Core.Option.{Option}
 use Rattle.lists.proofs.Bools.{bool-cases}
 use Rattle.calendar.specs.declared.Group.{Group}
 use Rattle.method.specs.declared.Request.{Request}
-use Rattle.method.specs.Table.{Day, History, held, goodReading}
-use Rattle.method.specs.Verdict.{requestRefusals, firstOf, methodology}
-use Rattle.method.proofs.Histories.{is-held, held-first, held-last}
+use Rattle.method.specs.Table.{Day, History, held}
+use Rattle.method.specs.Adjustment.{Baseline}
+use Rattle.method.specs.Method.{Method, chosen}
+use Rattle.method.specs.Requested.{methodOf}
+use Rattle.method.specs.Verdict.{Answer, Reply, refused, answered, requestRefusals, firstOf, methodology}
+use Rattle.method.proofs.Stable.{window-of-seen}
 use Rattle.rooms.specs.declared.Directory.{Directory}
-use Rattle.rooms.specs.Rooms.{heldRooms, roomDay, roomHistory}
+use Rattle.rooms.specs.Rooms.{roomHistory}
 use Rattle.rooms.specs.Agree.{Agree}
-use Rattle.choose.proofs.Rooms.{rooms-held, rooms-outcome}
-use Rattle.engine_baseline.specs.Engine.{inWords, overRooms}
+use Rattle.choose.proofs.Rooms.{rooms-held, rooms-seen, rooms-outcome}
+use Rattle.engine_baseline.specs.Engine.{withDays, inWords, overRooms}
 use Rattle.engine_baseline.specs.Store.{GoodDays, Store}
+use Rattle.engine_baseline.proofs.Choosing.{chosen-again}
+use Rattle.engine_baseline.proofs.Answered.{fits, days-are}
 use Rattle.engine_baseline.proofs.Exact.{exact}
 
 module _ {r : Request} {rooms : Directory} {readings : List ℕ} {h : History Day} (agree : Agree r rooms readings h) where
@@ -31,49 +35,40 @@ module _ {r : Request} {rooms : Directory} {readings : List ℕ} {h : History Da
       none : held h (r .event) ≡ false → methodology group shown r room ≡ methodology group h r room
       none e = let f : held shown (r .event) ≡ false = rooms-held group agree ∙ e in rw (f, e)
 
-  -- a held room is of a day that the history holds
-  record Room (d : ℕ) : Type 0 where
-    inside : r .event - d < rooms .held
-    back : r .event - (r .event - d) ≡ d
-    holds : held h d ≡ true
+  -- the chosen days hold the same
+  module _ (group : ℕ → Group) (room : ℕ) {a : Answer} (e : methodology group h r room ≡ answered a) where
+    abbrev how : Method Day (Option Baseline)
+    how = methodOf group r
 
-  room : (d : ℕ) → held shown d ≡ true → Room d
-  unfolding roomHistory heldRooms
-  room d e =
-      record {
-        inside = omega (arith, a, b);
-        back = omega (arith, a, b);
-        holds = ⊎-elim some none (bool-cases (held h (r .event)));
-      }
+    same-chosen : chosen how shown ≡ chosen how h
+    unfolding chosen
+    same-chosen = rw (window-of-seen how h shown (rooms-seen group agree (fits group h r room e .holds)))
+
+    same-days : withDays shown (a .days) ≡ withDays h (a .days)
+    same-days =
+        ap (withDays shown) (days-are group shown r room (agrees group room ∙ e)) ∙ chosen-again group r shown ∙ same-chosen ∙
+        sym (ap (withDays h) (days-are group h r room e) ∙ chosen-again group r h)
+
+    words-answered : inWords r shown (answered a) ≡ inWords r h (answered a)
+    unfolding inWords
+    words-answered = rw same-days
+
+  pub words : (group : ℕ → Group) (room : ℕ) → overRooms group r rooms readings room ≡ inWords r h (methodology group h r room)
+  unfolding overRooms
+  words group room = ap (inWords r shown) (agrees group room) ∙ go (methodology group h r room) refl
     where
-      a : r .event + 1 - min (rooms .held) (min 45 (r .event) + 1) ≤ d
-      a = held-first shown d e
-
-      b : d < r .event + 1 - min (rooms .held) (min 45 (r .event) + 1) + min (rooms .held) (min 45 (r .event) + 1)
-      b = held-last shown d e
-
-      some : held h (r .event) ≡ true → held h d ≡ true
-      some f =
-          is-held h d (omega (arith, a, b, rw f at (agree .width), held-first h (r .event) f))
-          (omega (arith, a, b, held-last h (r .event) f))
-
-      none : held h (r .event) ≡ false → held h d ≡ true
-      none f = absurd (omega (arith, a, b, rw f at (agree .width)))
-
-  good-rooms : GoodDays h → GoodDays shown
-  unfolding roomHistory
-  good-rooms good d e =
-      let k = room d e in
-      rw (agree .days (r .event - d) (k .inside), k .back) (good d (k .holds))
+      go : (x : Reply) → methodology group h r room ≡ x → inWords r shown x ≡ inWords r h x
+      go (refused w) e = unfold inWords in refl
+      go (answered a) e = words-answered group room e
 
   pub serves : GoodDays h → (group : ℕ → Group) (room : ℕ) → overRooms group r rooms readings room ≡ methodology group h r room
-  unfolding overRooms
-  serves good group room = exact shown (good-rooms good) group r room ∙ agrees group room
+  serves good group room = words group room ∙ exact h good group r room
 
 pub store : (group : ℕ → Group) (r : Request) (room : ℕ) → Store group r room
 store group r room =
     record {
       exact = λ h good. exact h good group r room;
       agrees = λ agree. agrees agree group room;
+      words = λ agree. words agree group room;
       serves = λ agree good. serves agree good group room;
     }

@@ -23,6 +23,8 @@ pub record Store (group : ℕ → Group) (r : Request) (room : ℕ) : Type 0 whe
   -- rooms that agree with a history are one for the methodology, whether the event day is held or not
   pub agrees : {rooms : Directory} {readings : List ℕ} {h : History Day} → Agree r rooms readings h
       → methodology group (roomHistory r rooms readings) r room ≡ methodology group h r room
-  -- so over them the engine gives what the methodology gives over the history
+  -- so over them the engine gives what the methodology gives over the history, in words where its readings may be any
+  pub words : {rooms : Directory} {readings : List ℕ} {h : History Day} → Agree r rooms readings h
+      → overRooms group r rooms readings room ≡ inWords r h (methodology group h r room)
   pub serves : {rooms : Directory} {readings : List ℕ} {h : History Day} → Agree r rooms readings h → GoodDays h
       → overRooms group r rooms readings room ≡ methodology group h r room
