@@ -20,6 +20,10 @@ heldDays t = length (t .marks)
 unfoldable pub size : ℕ → ℕ
 size d = 96
 
+-- the most readings that a day has
+abbrev pub mostQuarters : ℕ
+mostQuarters = 96
+
 -- how many readings stand before the k-th day of a table that starts at `first`
 unfoldable pub offset : ℕ → ℕ → ℕ
 offset first zero = 0

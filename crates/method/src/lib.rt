@@ -1,6 +1,9 @@
 // The methodology as document 01 fixes it: definitions and theorems, no code. The types that definitions and code share are
 // declared here.
 
+// The quarters of a day.
+pub const QUARTERS: usize = 96;
+
 // What is asked: participation start P, event day D, and the places s, e and n on the two-day ruler.
 pub struct Request {
     pub participation: u32,
