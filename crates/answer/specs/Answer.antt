@@ -1,8 +1,10 @@
--- What the call gives back for the verdict over its table.
-use mathlib.Core.List.{[]}
+-- What a call gives back for its reply.
+use Prim.Native.Nat.{ℕ}
+use mathlib.Core.Path.{_≡_}
+use mathlib.Core.List.{List, []}
 use lib.ListN.{length}
 use lib.IntN.{pos}
-use Rattle.method.specs.Verdict.{Reply, refused, answered}
+use Rattle.method.specs.Verdict.{Reply, refused, answered, written}
 use Rattle.choose.specs.Choice.{inFive}
 use Rattle.answer.specs.declared.Given.the-variants.{Answered, Refused}
 use Rattle.answer.specs.declared.Answer.{Answer}
@@ -17,3 +19,8 @@ answerOf (answered a) =
       denominator = a .denominator;
       adjustment = a .adjusted;
     }
+
+-- the answer and the output of a reply
+pub record Answers (reply : Reply) (given : Answer) (before after : List ℕ) : Type 0 where
+  pub answer : given ≡ answerOf reply
+  pub output : after ≡ written reply before

@@ -1,6 +1,2 @@
-pub mod Rooms
-pub mod Whole
-pub mod Choosing
-pub mod Steps
+pub mod Tables
 pub mod Laws
-pub mod Answered

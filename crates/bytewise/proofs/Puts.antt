@@ -9,17 +9,16 @@ use lib.Seq.{take-at}
 use Rattle.calendar.specs.Holidays.{group}
 use Rattle.method.specs.declared.Request.{Request}
 use Rattle.method.specs.declared.Refusal.{Refusal}
-use Rattle.method.specs.Table.{Table}
+use Rattle.method.specs.Table.{Table, mostQuarters}
 use Rattle.method.specs.Verdict.{Reply, refused, answered, verdict, written}
 use Rattle.answer.specs.declared.Given.the-variants.{Answered, Refused as RefusedGiven}
 use Rattle.answer.specs.declared.Answer.{Answer}
-use Rattle.answer.specs.Answer.{answerOf}
-use Rattle.baseline.specs.Ready.{Answers}
+use Rattle.answer.specs.Answer.{answerOf, Answers}
 use Rattle.record.specs.Layout.{readingBytes}
 use Rattle.record.proofs.Back.{reading-length}
 use Rattle.filling.specs.Told.{toldFirst}
 use Rattle.bytewise.specs.Bytewise.{bytesWritten, FileAnswers}
-use Rattle.baseline.proofs.Answered.{sound}
+use Rattle.baseline.proofs.Laws.{sound}
 use Rattle.bytewise.proofs.Rooms.{room-same}
 
 -- ---- refused: the bytes are kept
@@ -29,7 +28,7 @@ unfolding bytesWritten
 refuses out e f = record { answer = e ∙ ap answerOf (sym f); output = rw f }
 
 -- ---- the baseline over a table
-module _ (t : Table) (r : Request) (out : List ℕ) {given : Answer} (before : List ℕ) {after : List ℕ} (room : length before ≡ min (length out / 4) 96)
+module _ (t : Table) (r : Request) (out : List ℕ) {given : Answer} (before : List ℕ) {after : List ℕ} (room : length before ≡ min (length out / 4) mostQuarters)
     (q : Answers (verdict group t r (length before)) given before after) where
   same : verdict group t r (length before) ≡ verdict group t r (length out / 4)
   same = ap (verdict group t r) room ∙ room-same r group t (length out / 4)

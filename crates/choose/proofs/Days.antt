@@ -17,7 +17,7 @@ use Rattle.method.specs.Method.{seen}
 use Rattle.method.specs.Rules.{methodBy}
 use Rattle.method.specs.Requested.{methodOf}
 use Rattle.method.proofs.LookBack.{daysBefore-is, none-before, days-then, one-before}
-use Rattle.method.proofs.Histories.{is-held, held-last}
+use Rattle.method.proofs.Histories.{is-held}
 use Rattle.ranking.proofs.Rank.{lookedBack}
 use Rattle.choose.specs.Look.{nearest, ifRelevant}
 
@@ -53,7 +53,7 @@ module _ (group : ℕ → Group) (r : Request) (day : ℕ → Day) where
   unfolding nearest keep daysBefore
   nearest-none = refl
 
--- what a history that holds the event sees: of the days before it those from its first day on
+-- what a history that goes up to the event sees: of the days before it those from its first day on
 module _ (group : ℕ → Group) (r : Request) (h : History Day) where
   before-first : (d : ℕ) → d < h .first → held h d ≡ false
   unfolding held
@@ -90,10 +90,9 @@ module _ (group : ℕ → Group) (r : Request) (h : History Day) where
           (go (relevant group r d) (keep (relevant group r) (daysBefore k d)) (keep (relevant group r) (daysBefore (min k (d - h .first)) d))
           (is-held h d b (omega arith)) later)
 
-  pub seen-nearest : held h (r .event) ≡ true → seen (methodOf group r) h ≡ nearest group r (h .day) (min 45 (r .event - h .first))
+  pub seen-nearest : r .event ≤ h .first + h .count → seen (methodOf group r) h ≡ nearest group r (h .day) (min 45 (r .event - h .first))
   unfolding seen nearest methodOf methodBy relevantDays
-  seen-nearest t =
-      ap (map {B = ℕ × Day} (λ d. (d, h .day d))) (held-days 45 (r .event) (omega (arith, held-last h (r .event) t)))
+  seen-nearest o = ap (map {B = ℕ × Day} (λ d. (d, h .day d))) (held-days 45 (r .event) o)
 
 module _ {A : Type 0} (q : A → Bool) where
   pub all-keep : (p : A → Bool) (l : List A) → all q l ≡ true → all q (keep p l) ≡ true

@@ -9,10 +9,14 @@ use borrow.Author.Tests.{le-leb}
 use Rattle.lists.proofs.All.{all-of, all-take, all-drop}
 use Rattle.lists.proofs.Sums.{sum-most}
 use Rattle.method.specs.declared.Request.{Request}
+use Rattle.method.specs.Table.{size, mostQuarters, missing}
+use Rattle.method.specs.Ruler.{against}
 use Rattle.method.specs.Eligible.{eligible, spare, eventSum}
+use Rattle.method.proofs.Tables.{size-is}
 use Rattle.ranking.specs.Words.{word}
 use Rattle.rooms.specs.declared.Directory.{Directory}
 use Rattle.rooms.specs.Rooms.{readingsAt, roomDay}
+use Rattle.rooms.proofs.Parts.{part-few}
 use Rattle.judging.specs.declared.Judged.{Judged}
 use Rattle.judging.specs.declared.Judged.the-variants.{Eligible, Spare, Neither}
 use Rattle.judging.specs.Judging.{room, wordAt, judgedAt}
@@ -20,19 +24,23 @@ use Rattle.choose.specs.Look.{roomsOf, judged}
 
 -- the room of the day so far back
 pub room-back : (r : Request) (rooms : Directory) (readings : List ℕ) (back : ℕ) → back ≤ r .event
-    → room (getD (rooms .marks) back 0) (readingsAt readings (getD (rooms .at) back 0)) ≡ roomsOf r rooms readings (r .event - back)
+    → room (getD (rooms .marks) back 0) (readingsAt (size (r .event - back)) readings (getD (rooms .at) back 0)) ≡ roomsOf r rooms readings (r .event - back)
 unfolding roomDay
 room-back r rooms readings back h = let e : r .event - (r .event - back) ≡ back = omega arith in rw e
 
-module _ (r : Request) (back mark : ℕ) (part : List ℕ) (some : 1 ≤ back) (most : back ≤ 45) (within : back ≤ r .event) (few : length part ≤ 96)
+-- it has no more readings than a day
+pub part-most : (readings : List ℕ) (at d : ℕ) {k : ℕ} → k ≡ size d → length (readingsAt k readings at) ≤ mostQuarters
+part-most readings at d {k} e = omega (arith, part-few k readings at, size-is d)
+
+module _ (r : Request) (back mark : ℕ) (part : List ℕ) (some : 1 ≤ back) (most : back ≤ 45) (within : back ≤ r .event) (few : length part ≤ mostQuarters)
     (small : (i : ℕ) → getD part i 0 < 2 ^ 32) where
-  sum-few : eventSum r (room mark part) ≤ 4294967295 * 96
+  sum-few : eventSum r (room mark part) ≤ missing * mostQuarters
   unfolding eventSum
   sum-few =
-      let each = all-of (λ x. leb x 4294967295) 0 part (λ i. le-leb (getD part i 0) 4294967295 (omega (arith, small i))) in
-      let l : length (take (r .e - r .s) (drop (r .s - 96) part)) ≤ 96 = rw (length-take, length-drop) (omega arith) in
-      sum-most 4294967295 (take (r .e - r .s) (drop (r .s - 96) part)) 96 l
-      (all-take (λ x. leb x 4294967295) (r .e - r .s) (drop (r .s - 96) part) (all-drop (λ x. leb x 4294967295) (r .s - 96) part each))
+      let each = all-of (λ x. leb x missing) 0 part (λ i. le-leb (getD part i 0) missing (omega (arith, small i))) in
+      let l : length (take (r .e - r .s) (drop (against (r .event) (r .s)) part)) ≤ mostQuarters = rw (length-take, length-drop) (omega arith) in
+      sum-most missing (take (r .e - r .s) (drop (against (r .event) (r .s)) part)) mostQuarters l
+      (all-take (λ x. leb x missing) (r .e - r .s) (drop (against (r .event) (r .s)) part) (all-drop (λ x. leb x missing) (against (r .event) (r .s)) part each))
 
   same-word : wordAt r back (room mark part) ≡ word r (r .event - back, room mark part)
   unfolding wordAt word

@@ -1,9 +1,11 @@
 -- A directory whose rooms say of the days before an event what a history holds gives the same choice and the same outcome.
-use Prim.Native.Nat.{ℕ, _-_, _≤_, _<_, min}
+use Prim.Native.Nat.{ℕ, _+_, _-_, _≤_, _<_, min}
 use mathlib.Core.Path.{_≡_, sym, ap, _∙_}
-use mathlib.Core.Bool.{true, _&&_}
+use mathlib.Core.Bool.{Bool, true, false, cond, _&&_}
 use mathlib.Core.List.{List}
+use mathlib.Core.Logic.{⊎-elim}
 use native.Mathlib.Omega.{arith}
+use borrow.Author.Tests.{lt-leb}
 use lib.ListN.{length}
 use lib.Dec.{ltb}
 use Rattle.lists.specs.Lists.{keep, any, member}
@@ -16,17 +18,18 @@ use Rattle.method.specs.Method.{Method, seen, eligibles, window, chosen, reach,
 use Rattle.method.specs.Rules.{methodBy}
 use Rattle.method.specs.Requested.{methodOf}
 use Rattle.method.proofs.LookBack.{daysBefore-is}
-use Rattle.method.proofs.Histories.{held-first}
+use Rattle.method.proofs.Histories.{held-first, held-last, is-held}
 use Rattle.method.proofs.Stable.{window-of-seen, outcome-same}
 use Rattle.method.proofs.HighXofY.{lawful}
-use Rattle.lists.proofs.Bools.{same-test}
+use Rattle.lists.proofs.Bools.{bool-cases, same-test}
 use Rattle.rooms.specs.declared.Directory.{Directory}
-use Rattle.rooms.specs.Rooms.{heldRooms, roomDay, roomHistory}
+use Rattle.rooms.specs.Rooms.{heldRooms, roomHistory}
+use Rattle.rooms.specs.Agree.{Agree}
 use Rattle.choose.specs.Choice.{choiceOf}
 use Rattle.choose.specs.Look.{nearest, roomsOf}
 use Rattle.choose.proofs.Days.{seen-nearest}
 use Rattle.relevance.proofs.Reaching.{short-of-reach, reach-most}
-use Rattle.choose.proofs.WholeChoice.{seen-rooms}
+use Rattle.choose.proofs.WholeChoice.{roomsBefore, before-first, not-after, seen-rooms}
 
 -- two histories that show the same days, and both or neither of which begins after a relevant day
 module _ {A O : Type 0} (m : Method A O) (h l : History A) (sees : seen m h ≡ seen m l)
@@ -64,57 +67,77 @@ module _ (group : ℕ → Group) (r : Request) where
           let o : r .event - d ≤ k = omega arith in
           ap (λ (x : Day). (d, x)) (rw e at (same (r .event - d) o))
 
--- the rooms of the days before the event, and of its own, say what a history that holds it holds
-pub record Agree (r : Request) (rooms : Directory) (readings : List ℕ) (h : History Day) : Type 0 where
-  pub holds : held h (r .event) ≡ true
-  pub width : rooms .held ≡ min 45 (r .event - h .first)
-  pub days : (i : ℕ) → i ≤ rooms .held → h .day (r .event - i) ≡ roomDay rooms readings i
+module _ (r : Request) (rooms : Directory) (readings : List ℕ) where
+  holds-event : 0 < rooms .held → held (roomHistory r rooms readings) (r .event) ≡ true
+  unfolding roomHistory heldRooms
+  holds-event some = is-held (roomHistory r rooms readings) (r .event) (omega arith) (omega arith)
+
+  holds-nothing : rooms .held ≡ 0 → held (roomHistory r rooms readings) (r .event) ≡ false
+  unfolding held roomHistory heldRooms
+  holds-nothing e = let o : r .event < r .event + 1 - min (rooms .held) (min 45 (r .event) + 1) = omega arith in rw (lt-leb (r .event + 1 - min (rooms .held) (min 45 (r .event) + 1)) (r .event) o)
+
+width-before : (r : Request) (rooms : Directory) (first : ℕ) → first ≤ r .event → rooms .held ≡ min 46 (r .event + 1 - first)
+    → roomsBefore r rooms ≡ min 45 (r .event - first)
+unfolding roomsBefore heldRooms
+width-before r rooms first o e = rw e (least (r .event) first o)
+  where
+    least : (event first : ℕ) → first ≤ event → min (min 46 (event + 1 - first)) (min 45 event + 1) - 1 ≡ min 45 (event - first)
+    least event first o =
+        let k : event + 1 - first ≡ event - first + 1 = omega arith in
+        rw k (omega arith)
 
 module _ (group : ℕ → Group) {r : Request} {rooms : Directory} {readings : List ℕ} {h : History Day} (agree : Agree r rooms readings h) where
-  width-is : heldRooms r rooms ≡ min 45 (r .event - h .first)
-  unfolding heldRooms
-  width-is = omega (arith, agree .width)
-
-  same-day : (i : ℕ) → i ≤ rooms .held → i ≤ r .event → roomHistory r rooms readings .day (r .event - i) ≡ h .day (r .event - i)
-  unfolding roomHistory
-  same-day i o w = let e : r .event - (r .event - i) ≡ i = omega arith in rw e (sym (agree .days i o))
-
-  pub rooms-seen : seen (methodOf group r) (roomHistory r rooms readings) ≡ seen (methodOf group r) h
-  rooms-seen =
-      seen-rooms group r rooms readings ∙ ap (nearest group r (roomsOf r rooms readings)) width-is
-      ∙ nearest-same group r (roomsOf r rooms readings) (h .day) (min 45 (r .event - h .first)) same
-      ∙ sym (seen-nearest group r h (agree .holds))
+  -- the event day is held in the rooms where it is in the history
+  pub rooms-held : held (roomHistory r rooms readings) (r .event) ≡ held h (r .event)
+  rooms-held = ⊎-elim (λ e. some e ∙ sym e) (λ e. none e ∙ sym e) (bool-cases (held h (r .event)))
     where
-      same : (i : ℕ) → i ≤ min 45 (r .event - h .first) → roomsOf r rooms readings (r .event - i) ≡ h .day (r .event - i)
-      same i o =
-          let e : r .event - (r .event - i) ≡ i = omega arith in
-          rw e (sym (agree .days i (omega (arith, agree .width))))
+      some : held h (r .event) ≡ true → held (roomHistory r rooms readings) (r .event) ≡ true
+      some e = holds-event r rooms readings (omega (arith, rw e at (agree .width), held-first h (r .event) e))
 
-  rooms-begin : any (λ d. ltb d (roomHistory r rooms readings .first)) (methodOf group r .relevant) ≡ any (λ d. ltb d (h .first)) (methodOf group r .relevant)
-  unfolding roomHistory
-  rooms-begin =
-      short-of-reach group r (r .event - heldRooms r rooms) (omega arith)
-      ∙ rw width-is (below (wholeReach (methodOf group r)) (reach-most group r))
-      ∙ sym (short-of-reach group r (h .first) (held-first h (r .event) (agree .holds)))
-    where
-      below : (far : ℕ) → far ≤ 45 → ltb (r .event - (r .event - min 45 (r .event - h .first))) far ≡ ltb (r .event - h .first) far
-      below far o =
-          let e : r .event - (r .event - min 45 (r .event - h .first)) ≡ min 45 (r .event - h .first) = omega arith in
-          rw e (same-test (min 45 (r .event - h .first)) far (r .event - h .first) far (omega arith) (omega arith))
+      none : held h (r .event) ≡ false → held (roomHistory r rooms readings) (r .event) ≡ false
+      none e = holds-nothing r rooms readings (rw e at (agree .width))
 
-  pub rooms-choice : choiceOf (methodOf group r) (roomHistory r rooms readings) ≡ choiceOf (methodOf group r) h
-  rooms-choice = same-choice (methodOf group r) (roomHistory r rooms readings) h rooms-seen rooms-begin
+  module _ (holds : held h (r .event) ≡ true) where
+    width-is : rooms .held ≡ min 46 (r .event + 1 - h .first)
+    width-is = rw holds at (agree .width)
 
-  pub rooms-outcome : outcome (methodOf group r) (roomHistory r rooms readings) ≡ outcome (methodOf group r) h
-  unfolding methodOf methodBy
-  rooms-outcome =
-      outcome-same (methodOf group r) (lawful group r) h (agree .holds) (roomHistory r rooms readings)
-      (same-short (methodOf group r) (roomHistory r rooms readings) h rooms-seen rooms-begin)
-      (same-window (methodOf group r) (roomHistory r rooms readings) h rooms-seen rooms-begin)
-      (λ days some e. rw (yesterday some e, today))
-    where
-      today : roomHistory r rooms readings .day (r .event) ≡ h .day (r .event)
-      today = let e : r .event - 0 ≡ r .event = omega arith in rw e at (same-day 0 (omega arith) (omega arith))
+    before-is : roomsBefore r rooms ≡ min 45 (r .event - h .first)
+    before-is = width-before r rooms (h .first) (held-first h (r .event) holds) width-is
 
-      yesterday : 0 < r .event → held h (r .event - 1) ≡ true → roomHistory r rooms readings .day (r .event - 1) ≡ h .day (r .event - 1)
-      yesterday some e = same-day 1 (omega (arith, agree .width, held-first h (r .event - 1) e)) (omega arith)
+    same-day : (i : ℕ) → i ≤ r .event - h .first → i ≤ 45 → roomsOf r rooms readings (r .event - i) ≡ h .day (r .event - i)
+    same-day i o w =
+        let e : r .event - (r .event - i) ≡ i = omega arith in
+        rw e (agree .days i (omega (arith, width-is, held-first h (r .event) holds)))
+
+    pub rooms-seen : seen (methodOf group r) (roomHistory r rooms readings) ≡ seen (methodOf group r) h
+    rooms-seen =
+        seen-rooms group r rooms readings ∙ ap (nearest group r (roomsOf r rooms readings)) before-is
+        ∙ nearest-same group r (roomsOf r rooms readings) (h .day) (min 45 (r .event - h .first)) (λ i o. same-day i (omega arith) (omega arith))
+        ∙ sym (seen-nearest group r h (omega (arith, held-last h (r .event) holds)))
+
+    rooms-begin : any (λ d. ltb d (roomHistory r rooms readings .first)) (methodOf group r .relevant) ≡ any (λ d. ltb d (h .first)) (methodOf group r .relevant)
+    rooms-begin =
+        short-of-reach group r (roomHistory r rooms readings .first) (not-after r rooms readings)
+        ∙ rw (before-first r rooms readings, before-is)
+        (within (wholeReach (methodOf group r)) (reach-most group r))
+        ∙ sym (short-of-reach group r (h .first) (omega (arith, held-first h (r .event) holds)))
+      where
+        within : (far : ℕ) → far ≤ 45 → ltb (min 45 (r .event - h .first)) far ≡ ltb (r .event - h .first) far
+        within far o = same-test (min 45 (r .event - h .first)) far (r .event - h .first) far (omega arith) (omega arith)
+
+    pub rooms-choice : choiceOf (methodOf group r) (roomHistory r rooms readings) ≡ choiceOf (methodOf group r) h
+    rooms-choice = same-choice (methodOf group r) (roomHistory r rooms readings) h rooms-seen rooms-begin
+
+    pub rooms-outcome : outcome (methodOf group r) (roomHistory r rooms readings) ≡ outcome (methodOf group r) h
+    unfolding methodOf methodBy
+    rooms-outcome =
+        outcome-same (methodOf group r) (lawful group r) h holds (roomHistory r rooms readings)
+        (same-short (methodOf group r) (roomHistory r rooms readings) h rooms-seen rooms-begin)
+        (same-window (methodOf group r) (roomHistory r rooms readings) h rooms-seen rooms-begin)
+        (λ days some e. rw (yesterday some e, today))
+      where
+        today : roomHistory r rooms readings .day (r .event) ≡ h .day (r .event)
+        today = unfold roomHistory in let e : r .event - 0 ≡ r .event = omega arith in rw e at (same-day 0 (omega arith) (omega arith))
+
+        yesterday : 0 < r .event → held h (r .event - 1) ≡ true → roomHistory r rooms readings .day (r .event - 1) ≡ h .day (r .event - 1)
+        yesterday some e = unfold roomHistory in same-day 1 (omega (arith, held-first h (r .event - 1) e)) (omega arith)

@@ -15,16 +15,15 @@ use Rattle.lists.proofs.Bools.{lt-or-le}
 use Rattle.calendar.specs.declared.Group.{Group}
 use Rattle.calendar.specs.declared.Group.the-variants.{Weekday, Saturday, HolidayGroup}
 use Rattle.method.specs.declared.Request.{Request}
-use Rattle.method.specs.Table.{Day, History, held}
+use Rattle.method.specs.Table.{Day, History}
 use Rattle.method.specs.Method.{Method, daysOf, wholeReach, seen, eligibles, spares, window, chosen, reach, isShort}
 use Rattle.method.specs.Eligible.{eligible, spare, higher, sortBy}
 use Rattle.method.specs.HighXofY.{Y, N, highXofY}
 use Rattle.method.specs.Rules.{methodBy}
-use Rattle.method.specs.Requested.{methodOf}
+use Rattle.method.specs.Requested.{rulesOf, methodOf}
 use Rattle.method.proofs.HighXofY.{lawful}
 use Rattle.method.proofs.Window.{window-full, full-size, size-below}
 use Rattle.method.proofs.Short.{full-enough}
-use Rattle.method.proofs.Histories.{is-held}
 use Rattle.ranking.specs.Words.{insertAll}
 use Rattle.method.proofs.Sort.{length-sorted, all-sorted}
 use Rattle.ranking.proofs.Rank.{lookedBack, first-of-row, window-ranked}
@@ -96,17 +95,17 @@ module _ {A O : Type 0} (m : Method A O) (h : History A) where
 module _ (group : ℕ → Group) (r : Request) (h : History Day) (w : List (ℕ × Day)) (is : window (methodOf group r) h ≡ w) where
   -- too few days in the window
   few-taken : length w < N (group (r .event)) → eqb (methodOf group r .taken (length (window (methodOf group r) h))) 0 ≡ true
-  unfolding methodOf methodBy
+  unfolding methodOf methodBy rulesOf highXofY
   few-taken o = rw (is, lt-ltb (length w) (N (group (r .event))) o)
 
   module _ (o : N (group (r .event)) ≤ length w) where
     all-taken : methodOf group r .taken (length (window (methodOf group r) h)) ≡ N (group (r .event))
-    unfolding methodOf methodBy
+    unfolding methodOf methodBy rulesOf highXofY
     all-taken = rw (is, le-ltb (length w) (N (group (r .event))) o)
 
     chosen-is : chosen (methodOf group r) h ≡ take (N (group (r .event))) (sortBy (higher r) w)
     unfolding chosen
-    chosen-is = rw (all-taken, is) (unfold highXofY in refl)
+    chosen-is = rw (all-taken, is) (unfold methodOf methodBy rulesOf highXofY in refl)
 
     -- the row of the window gives the choice
     ranked-is : {row : List ℕ} {far : ℕ} → isShort (methodOf group r) h ≡ false → all (lookedBack r) w ≡ true → row ≡ rowOf r w
@@ -131,7 +130,7 @@ module _ (group : ℕ → Group) (r : Request) (h : History Day) (days : List (�
   eligibles-are = ap (keep (λ (p : ℕ × Day). eligible (p .1))) sees
 
   spares-are : spares (methodOf group r) h ≡ sortBy (higher r) (spareOf days)
-  unfolding spares methodOf methodBy spareOf
+  unfolding spares methodOf methodBy rulesOf highXofY spareOf
   spares-are = ap (λ (l : List (ℕ × Day)). sortBy (higher r) (keep (λ (p : ℕ × Day). spare (p .1)) l)) sees
 
   eligible-back : all (lookedBack r) (eligibleOf days) ≡ true
@@ -145,18 +144,18 @@ module _ (group : ℕ → Group) (r : Request) (h : History Day) (days : List (�
   -- the eligible days fill the window
   module _ (full : Y (group (r .event)) ≤ found .count) where
     many : methodOf group r .most ≤ length (eligibles (methodOf group r) h)
-    unfolding methodOf methodBy
+    unfolding methodOf methodBy rulesOf highXofY
     many = rw eligibles-are (omega (arith, q .count))
 
     full-window : window (methodOf group r) h ≡ take (Y (group (r .event))) (eligibleOf days)
-    unfolding methodOf methodBy
+    unfolding methodOf methodBy rulesOf highXofY
     full-window = window-full (methodOf group r) (lawful group r) h many ∙ ap (take (Y (group (r .event)))) eligibles-are
 
     full-reach : found .oldest ≡ reach (methodOf group r) h
     unfolding reach
     full-reach =
         rw (full-size (methodOf group r) (lawful group r) h many, eq-eqb (methodOf group r .most) (methodOf group r .most) refl, full-window)
-        (unfold highXofY in q .oldest)
+        (unfold methodOf methodBy rulesOf highXofY in q .oldest)
 
     full-choice : ranked (r .event) (found .eligible) (N (group (r .event))) (found .oldest) ≡ choiceOf (methodOf group r) h
     full-choice =
@@ -167,7 +166,7 @@ module _ (group : ℕ → Group) (r : Request) (h : History Day) (days : List (�
         (q .row) full-reach
 
   -- they do not
-  module _ (less : found .count < Y (group (r .event))) (before : h .first ≤ r .event) where
+  module _ (less : found .count < Y (group (r .event))) (before : h .first ≤ r .event + 1) where
     fewer : length (eligibleOf days) < Y (group (r .event))
     fewer = omega (arith, q .count)
 
@@ -178,7 +177,7 @@ module _ (group : ℕ → Group) (r : Request) (h : History Day) (days : List (�
     few-window = eligibleOf days ++ take (N (group (r .event)) - length (eligibleOf days)) (sortBy (higher r) (spareOf days))
 
     window-is : window (methodOf group r) h ≡ few-window
-    unfolding window methodOf methodBy few-window
+    unfolding window methodOf methodBy rulesOf highXofY few-window
     window-is =
         (λ i. take (Y (group (r .event))) (eligibles-are i) ++ take (N (group (r .event)) - length (eligibles-are i)) (spares-are i))
         ∙ ap (λ (l : List (ℕ × Day)). l ++ take (N (group (r .event)) - length (eligibleOf days)) (sortBy (higher r) (spareOf days)))
@@ -203,7 +202,7 @@ module _ (group : ℕ → Group) (r : Request) (h : History Day) (days : List (�
         (omega (arith, chosen-few (group (r .event)))))
 
     few-eligible : length (eligibles (methodOf group r) h) < methodOf group r .most
-    unfolding methodOf methodBy
+    unfolding methodOf methodBy rulesOf highXofY
     few-eligible = rw eligibles-are fewer
 
     reach-is : reach (methodOf group r) h ≡ wholeReach (methodOf group r)
@@ -244,41 +243,52 @@ module _ (group : ℕ → Group) (r : Request) (h : History Day) (days : List (�
 
 -- Over a directory
 
-pub held-is : (r : Request) (rooms : Directory) {a b : ℕ} → a ≡ min 45 (r .event) → b ≡ min (rooms .held) a → b ≡ heldRooms r rooms
-unfolding heldRooms
-held-is r rooms e f = rw e at f
+-- how many days are held before the event
+unfoldable pub roomsBefore : Request → Directory → ℕ
+roomsBefore r rooms = heldRooms r rooms - 1
 
-module _ (group : ℕ → Group) (r : Request) (rooms : Directory) (readings : List ℕ) where
-  within-45 : heldRooms r rooms ≤ 45
-  unfolding heldRooms
+pub before-is : (r : Request) (rooms : Directory) {a b k : ℕ} → a ≡ rooms .held - 1 → b ≡ min 45 (r .event) → k ≡ min a b → k ≡ roomsBefore r rooms
+unfolding roomsBefore heldRooms
+before-is r rooms e f g = omega arith
+
+module _ (r : Request) (rooms : Directory) (readings : List ℕ) where
+  within-45 : roomsBefore r rooms ≤ 45
+  unfolding roomsBefore heldRooms
   within-45 = omega arith
 
-  within-event : heldRooms r rooms ≤ r .event
+  within-event : heldRooms r rooms ≤ r .event + 1
   unfolding heldRooms
   within-event = omega arith
 
-  pub holds-event : held (roomHistory r rooms readings) (r .event) ≡ true
-  unfolding roomHistory
-  holds-event = is-held (roomHistory r rooms readings) (r .event) (omega arith) (omega (arith, within-event))
+  pub before-first : r .event - roomHistory r rooms readings .first ≡ roomsBefore r rooms
+  unfolding roomHistory roomsBefore
+  before-first = omega (arith, within-event)
 
-  pub seen-rooms : seen (methodOf group r) (roomHistory r rooms readings) ≡ nearest group r (roomsOf r rooms readings) (heldRooms r rooms)
+  up-to-event : r .event ≤ roomHistory r rooms readings .first + roomHistory r rooms readings .count
+  unfolding roomHistory
+  up-to-event = omega arith
+
+  pub not-after : roomHistory r rooms readings .first ≤ r .event + 1
+  unfolding roomHistory
+  not-after = omega arith
+
+module _ (group : ℕ → Group) (r : Request) (rooms : Directory) (readings : List ℕ) where
+  pub seen-rooms : seen (methodOf group r) (roomHistory r rooms readings) ≡ nearest group r (roomsOf r rooms readings) (roomsBefore r rooms)
   unfolding roomHistory
   seen-rooms =
-      let e : min 45 (r .event - (r .event - heldRooms r rooms)) ≡ heldRooms r rooms = omega (arith, within-45, within-event) in
-      seen-nearest group r (roomHistory r rooms readings) holds-event ∙ ap (nearest group r (roomsOf r rooms readings)) e
+      let e : min 45 (r .event - roomHistory r rooms readings .first) ≡ roomsBefore r rooms = omega (arith, within-45 r rooms readings, before-first r rooms readings) in
+      seen-nearest group r (roomHistory r rooms readings) (up-to-event r rooms readings) ∙ ap (nearest group r (roomsOf r rooms readings)) e
 
-  module _ (found : Found) (q : Enough r (Y (group (r .event))) (nearest group r (roomsOf r rooms readings) (heldRooms r rooms)) found) where
+  module _ (found : Found) (q : Enough r (Y (group (r .event))) (nearest group r (roomsOf r rooms readings) (roomsBefore r rooms)) found) where
     pub choose-full : Y (group (r .event)) ≤ found .count
         → ranked (r .event) (found .eligible) (N (group (r .event))) (found .oldest) ≡ choiceOf (methodOf group r) (roomHistory r rooms readings)
     choose-full =
-        full-choice group r (roomHistory r rooms readings) (nearest group r (roomsOf r rooms readings) (heldRooms r rooms)) found seen-rooms
-        (nearest-back group r (roomsOf r rooms readings) (heldRooms r rooms) within-45) q
+        full-choice group r (roomHistory r rooms readings) (nearest group r (roomsOf r rooms readings) (roomsBefore r rooms)) found seen-rooms
+        (nearest-back group r (roomsOf r rooms readings) (roomsBefore r rooms) (within-45 r rooms readings)) q
 
     pub choose-few : found .count < Y (group (r .event))
-        → amongFew r (N (group (r .event))) found (heldRooms r rooms) (wholeReach (methodOf group r)) ≡ choiceOf (methodOf group r) (roomHistory r rooms readings)
-    unfolding roomHistory
+        → amongFew r (N (group (r .event))) found (roomsBefore r rooms) (wholeReach (methodOf group r)) ≡ choiceOf (methodOf group r) (roomHistory r rooms readings)
     choose-few less =
-        let e : heldRooms r rooms ≡ r .event - (r .event - heldRooms r rooms) = omega (arith, within-event) in
-        ap (λ (n : ℕ). amongFew r (N (group (r .event))) found n (wholeReach (methodOf group r))) e
-        ∙ few-choice group r (roomHistory r rooms readings) (nearest group r (roomsOf r rooms readings) (heldRooms r rooms)) found seen-rooms
-        (nearest-back group r (roomsOf r rooms readings) (heldRooms r rooms) within-45) q less (omega arith)
+        ap (λ (n : ℕ). amongFew r (N (group (r .event))) found n (wholeReach (methodOf group r))) (sym (before-first r rooms readings))
+        ∙ few-choice group r (roomHistory r rooms readings) (nearest group r (roomsOf r rooms readings) (roomsBefore r rooms)) found seen-rooms
+        (nearest-back group r (roomsOf r rooms readings) (roomsBefore r rooms) (within-45 r rooms readings)) q less (not-after r rooms readings)

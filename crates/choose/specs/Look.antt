@@ -24,7 +24,7 @@ use Rattle.choose.specs.Choice.{inFive, noDays}
 
 -- what is held of a day, in the rooms of a directory
 abbrev pub roomsOf : Request → Directory → List ℕ → ℕ → Day
-roomsOf r rooms readings d = roomDay rooms readings (r .event - d)
+roomsOf r rooms readings d = roomDay (r .event) rooms readings (r .event - d)
 
 -- what a dated day is, with its word
 unfoldable pub judged : Request → ℕ × Day → Judged
@@ -96,7 +96,7 @@ ranked event row count reach =
 
 -- the choice where the eligible days do not fill the window
 unfoldable pub amongFew : Request → ℕ → Found → ℕ → ℕ → Choice
-amongFew r least found held reach =
-    cond (ltb held reach) (noDays (Short reach))
+amongFew r least found before reach =
+    cond (ltb before reach) (noDays (Short reach))
     (cond (ltb (found .count + found .spares) least) (noDays (Few (found .count + found .spares) reach))
     (ranked (r .event) (insertAll (take (least - found .count) (found .spare)) (found .eligible)) least reach))

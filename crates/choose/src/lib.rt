@@ -5,6 +5,7 @@ ghost use mathlib.Core.List.{map};
 ghost use Prim.Native.Nat.{_-_, _%_, _≤_, _<_};
 ghost use lib.ListN.{length, take};
 ghost use Rattle.calendar.specs.Holidays.{group as groupOf};
+ghost use Rattle.method.specs.Table.{mostQuarters};
 ghost use Rattle.method.specs.Method.{wholeReach};
 ghost use Rattle.method.specs.HighXofY.{Y, N};
 ghost use Rattle.method.specs.Requested.{methodOf};
@@ -48,9 +49,6 @@ struct Found {
     spares: u32,
 }
 
-// How far back a day may lie.
-const LOOK_BACK: u32 = 45;
-
 // Y: how many eligible days fill the window.
 fn most(group: Group) -> u32
     ensures { λ r. ⌜ r ≡ Y group ⌝ }
@@ -82,7 +80,7 @@ fn with_day(
     part: &[u32],
     found: Found,
 ) -> Found
-    requires { ⌜ (group ≡ groupOf (request .event)) × Further request back found × (length (now part) ≤ 96) ⌝ }
+    requires { ⌜ (group ≡ groupOf (request .event)) × Further request back found × (length (now part) ≤ mostQuarters) ⌝ }
     ensures { λ r. ⌜ Adds request back (ifRelevant groupOf request (request .event - back, room mark (now (part .entry)))) found r ⌝ }
 {
     if relevance::relevant(request, group, request.event - back) {
@@ -110,10 +108,10 @@ fn with_day(
     }
 }
 
-// The look back over the held days, nearest first. It ends at the day that fills the window.
-fn look(request: Request, group: Group, rooms: Directory, readings: &[u32], held: u32) -> Found
-    requires { ⌜ (group ≡ groupOf (request .event)) × (held ≤ 45) × (held ≤ request .event) ⌝ }
-    ensures { λ r. ⌜ Enough request (Y group) (nearest groupOf request (roomsOf request rooms (now (readings .entry))) held) r ⌝ }
+// The look back over the days held before the event, nearest first. It ends at the day that fills the window.
+fn look(request: Request, group: Group, rooms: Directory, readings: &[u32], before: u32) -> Found
+    requires { ⌜ (group ≡ groupOf (request .event)) × (before ≤ 45) × (before ≤ request .event) ⌝ }
+    ensures { λ r. ⌜ Enough request (Y group) (nearest groupOf request (roomsOf request rooms (now (readings .entry))) before) r ⌝ }
 {
     let wanted = most(group);
     let mut found = Found {
@@ -124,13 +122,14 @@ fn look(request: Request, group: Group, rooms: Directory, readings: &[u32], held
         spares: 0,
     };
     let mut back = 0;
-    while back < held {
+    while back < before {
         if found.count == wanted {
             return found;
         }
         back += 1;
         let place = back as usize;
-        let part = rooms::readings_at(readings, rooms.at[place]);
+        let size = day_ruler::size(request.event - back);
+        let part = rooms::readings_at(readings, rooms.at[place], size);
         let next = with_day(request, group, back, rooms.marks[place], part, found);
         found = next;
     }
@@ -188,12 +187,12 @@ fn first_of(event: u32, row: [u64; 10], count: u32, reach: u32) -> Choice
 }
 
 // The choice where the eligible days do not fill the window: spare days are put in up to N, and the reach is that of all relevant days.
-fn choose_among_few(request: Request, group: Group, found: Found, held: u32) -> Choice
+fn choose_among_few(request: Request, group: Group, found: Found, before: u32) -> Choice
     requires { ⌜ (found .count < 10) × (found .spares ≤ 45) ⌝ }
-    ensures { λ r. ⌜ r ≡ amongFew request (N group) found held (wholeReach (methodOf groupOf request)) ⌝ }
+    ensures { λ r. ⌜ r ≡ amongFew request (N group) found before (wholeReach (methodOf groupOf request)) ⌝ }
 {
     let reach = relevance::whole_reach(request);
-    if held < reach {
+    if before < reach {
         return refused(Choosing::Short(reach));
     }
     let wanted = fill(group);
@@ -213,10 +212,13 @@ pub fn choose(request: Request, rooms: Directory, readings: &[u32]) -> Choice
 {
     let event = request.event;
     let group = calendar::group_of(event);
-    let held = counts::least(rooms.held, counts::least(LOOK_BACK, event));
-    let found = look(request, group, rooms, readings, held);
+    let before = counts::least(
+        counts::minus(rooms.held, 1),
+        counts::least(method::LOOK_BACK, event),
+    );
+    let found = look(request, group, rooms, readings, before);
     if found.count < most(group) {
-        choose_among_few(request, group, found, held)
+        choose_among_few(request, group, found, before)
     } else {
         let eligible = found.eligible;
         first_of(event, eligible, fill(group), found.oldest)

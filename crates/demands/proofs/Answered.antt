@@ -15,9 +15,9 @@ use Rattle.method.specs.declared.Refusal.{Refusal}
 use Rattle.method.specs.Table.{Table}
 use Rattle.method.specs.Method.{daysOf, chosen}
 use Rattle.method.specs.Eligible.{higher}
-use Rattle.method.specs.HighXofY.{N}
+use Rattle.method.specs.HighXofY.{N, highXofY}
 use Rattle.method.specs.Rules.{methodBy}
-use Rattle.method.specs.Requested.{methodOf}
+use Rattle.method.specs.Requested.{rulesOf, methodOf}
 use Rattle.method.proofs.Sort.{length-sorted}
 use Rattle.places.proofs.Places.{length-places}
 use Rattle.demands.specs.Calls.{Call, overTable, ofFile, extract, request, perQuarter, room}
@@ -39,7 +39,7 @@ window-enough c size e = window-least (extract c) (request c) (none-after (earli
 
 -- and N days are chosen
 count-chosen : (t : Table) (r : Request) → NOf r ≤ length (windowOf t r) → length (daysOf (chosenOf t r)) ≡ NOf r
-unfolding chosen methodOf methodBy
+unfolding chosen methodOf methodBy rulesOf highXofY
 count-chosen t r e =
     rw (length-map, length-take, length-sorted (higher r) (windowOf t r), le-ltb (length (windowOf t r)) (NOf r) e) (omega arith)
 

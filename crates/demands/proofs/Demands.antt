@@ -25,8 +25,8 @@ use Rattle.method.proofs.NoPart.{no-part}
 use Rattle.answer.specs.declared.Given.the-variants.{Answered, Refused}
 use Rattle.answer.specs.declared.Answer.{Answer}
 use Rattle.answer.specs.Answer.{answerOf}
-use Rattle.baseline.proofs.Laws.{one-outcome, never-above}
-use Rattle.baseline.proofs.Answered.{sound}
+use Rattle.engine_refusals.proofs.Replies.{one-outcome}
+use Rattle.baseline.proofs.Laws.{sound, never-above}
 use Rattle.demands.specs.Calls.{Call, extract, request, stand, room, Gets, result, reported}
 use Rattle.demands.specs.Rows.{earlier, rows, applies, answerOver, numeratorsOf}
 use Rattle.demands.specs.Demands.{quarters, Demand1, Demand2, Settled, Demand3, NoPart, Demands}

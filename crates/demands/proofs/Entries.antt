@@ -15,7 +15,7 @@ use Rattle.method.specs.declared.Request.{Request}
 use Rattle.method.specs.declared.Refusal.{Refusal}
 use Rattle.method.specs.declared.Refusal.the-variants.{BadFile, NoEvent, BadTable, BadMark, BadReading, BadRequest, NotHeld}
 use Rattle.method.specs.declared.Refusal.the-variants.{NotYetParticipating, NoRoom, MarginTooShort, TooFew, NoAdjustmentWindow}
-use Rattle.method.specs.Table.{Table, held, history}
+use Rattle.method.specs.Table.{Table, mostQuarters, held, history}
 use Rattle.method.specs.Method.{outcome}
 use Rattle.method.specs.Requested.{methodOf}
 use Rattle.method.specs.Verdict.{Reply, refused, answered, number, goodRequest, tableRefusals, requestRefusals, closing, firstOf, methodology, verdict}
@@ -23,14 +23,14 @@ use Rattle.method.specs.Verdict.{written}
 use Rattle.method.proofs.Replies.{other, none-early}
 use Rattle.answer.specs.declared.Answer.{Answer}
 use Rattle.answer.specs.Answer.{answerOf}
-use Rattle.baseline.proofs.Laws.{answers-unique}
+use Rattle.answer.proofs.Laws.{answers-unique}
 use Rattle.bytewise.specs.Bytewise.{bytesWritten}
 use Rattle.bytewise.proofs.Laws.{file-answers-unique}
 use Rattle.bytewise.proofs.Rooms.{room-enough}
 use Rattle.entry.specs.Entry.{fileReply}
 use Rattle.telling.specs.Names.{byName, refusalRow, rowFrom}
 use Rattle.telling.specs.Telling.{answerRow, toldBy}
-use Rattle.host.specs.Host.{FileCall, TableCall}
+use Rattle.host.specs.Host.{mostBytes, FileCall, TableCall}
 use Rattle.demands.specs.Calls.{Call, overTable, ofFile, extract, request, room, result}
 use Rattle.demands.specs.Rows.{fileRows}
 use Rattle.demands.specs.Demands.{Demands}
@@ -125,30 +125,30 @@ module _ (t : Table) (r : Request) where
       same-after (tableRefusals t) (methodology group (history t) r n) (firstOf asked last)
       (same-after asked (cond (ltb n (r .e - r .s)) (refused NoRoom) last) last (but-seven (ltb n (r .e - r .s)) last)) differs
 
-  not-seven : numberIn (verdict group t r 96) ≡ 7 → ⊥
-  not-seven e = room-enough r group t (seven (verdict group t r 96) e)
+  not-seven : numberIn (verdict group t r mostQuarters) ≡ 7 → ⊥
+  not-seven e = room-enough r group t (seven (verdict group t r mostQuarters) e)
 
   -- and so with room for a day's quarters
-  room-for-any : (n : ℕ) → (numberIn (verdict group t r n) ≡ 7 → ⊥) → verdict group t r n ≡ verdict group t r 96
-  room-for-any n differs = any-room n differs ∙ sym (any-room 96 not-seven)
+  room-for-any : (n : ℕ) → (numberIn (verdict group t r n) ≡ 7 → ⊥) → verdict group t r n ≡ verdict group t r mostQuarters
+  room-for-any n differs = any-room n differs ∙ sym (any-room mostQuarters not-seven)
 
 -- the reply of a call with room for any event
 module _ (c : Call) where
   roomy : Reply
-  roomy = firstOf (fileRows c) (verdict group (extract c) (request c) 96)
+  roomy = firstOf (fileRows c) (verdict group (extract c) (request c) mostQuarters)
 
   same-reply : (out : List ℕ) → (numberIn (replyOf c out) ≡ 7 → ⊥) → replyOf c out ≡ roomy
   unfolding roomy
   same-reply out differs =
       over-extract c out ∙
-      same-after (fileRows c) (verdict group (extract c) (request c) (room c out)) (verdict group (extract c) (request c) 96)
+      same-after (fileRows c) (verdict group (extract c) (request c) (room c out)) (verdict group (extract c) (request c) mostQuarters)
       (room-for-any (extract c) (request c) (room c out)) (rw (over-extract c out) at differs)
 
   never : numberIn roomy ≡ 7 → ⊥
   unfolding roomy
   never e =
-      let n = passes isSeven (fileRows c) (verdict group (extract c) (request c) 96) (file-other c) (eq-eqb (numberIn roomy) 7 e) in
-      not-seven (extract c) (request c) (rw (none-early (fileRows c) (verdict group (extract c) (request c) 96) n) at e)
+      let n = passes isSeven (fileRows c) (verdict group (extract c) (request c) mostQuarters) (file-other c) (eq-eqb (numberIn roomy) 7 e) in
+      not-seven (extract c) (request c) (rw (none-early (fileRows c) (verdict group (extract c) (request c) mostQuarters) n) at e)
 
   tells : (name : ℕ) {told : ℤ} → told ≡ toldBy (answerOf roomy) name → Tells c name told
   tells name e =
@@ -159,14 +159,14 @@ module _ (c : Call) where
         never-seven = λ z k. never (told-number roomy (sym (rw z at e) ∙ k));
       }
 
-pub table-tells : (t : Table) (r : Request) (name : ℕ) {told : ℤ} → told ≡ toldBy (answerOf (verdict group t r 96)) name → Tells (overTable t r) name told
+pub table-tells : (t : Table) (r : Request) (name : ℕ) {told : ℤ} → told ≡ toldBy (answerOf (verdict group t r mostQuarters)) name → Tells (overTable t r) name told
 unfolding roomy fileRows firstOf
 table-tells t r name e = tells (overTable t r) name e
 
-pub file-tells : (file : List ℕ) (place name : ℕ) {told : ℤ} → told ≡ toldBy (answerOf (fileReply file place 384)) name
+pub file-tells : (file : List ℕ) (place name : ℕ) {told : ℤ} → told ≡ toldBy (answerOf (fileReply file place mostBytes)) name
     → Tells (ofFile file place) name told
 unfolding roomy
-file-tells file place name e = tells (ofFile file place) name (e ∙ ap (λ (x : Reply). toldBy (answerOf x) name) (file-rows file place 384))
+file-tells file place name e = tells (ofFile file place) name (e ∙ ap (λ (x : Reply). toldBy (answerOf x) name) (file-rows file place mostBytes))
 
 -- ---- one result: no two differing results meet a contract
 pub demands-unique : (c : Call) {a a′ : Answer} {out after after′ : List ℕ} → Demands c a out after → Demands c a′ out after′
@@ -192,21 +192,21 @@ roomy-call : (c : Call) → Roomy c
 unfolding roomy fileRows firstOf
 roomy-call (overTable t r) =
     record {
-      answer = answerOf (verdict group t r 96);
-      out = replicate 96 0;
-      after = written (verdict group t r 96) (replicate 96 0);
+      answer = answerOf (verdict group t r mostQuarters);
+      out = replicate mostQuarters 0;
+      after = written (verdict group t r mostQuarters) (replicate mostQuarters 0);
       meets = demands (overTable t r) _ _ _ (record { answer = refl; output = refl });
-      differs = λ e. never (overTable t r) (sym (result-is (verdict group t r 96)) ∙ e);
+      differs = λ e. never (overTable t r) (sym (result-is (verdict group t r mostQuarters)) ∙ e);
     }
 roomy-call (ofFile file place) =
     record {
-      answer = answerOf (fileReply file place 384);
-      out = replicate 384 0;
-      after = bytesWritten (fileReply file place 384) (replicate 384 0);
+      answer = answerOf (fileReply file place mostBytes);
+      out = replicate mostBytes 0;
+      after = bytesWritten (fileReply file place mostBytes) (replicate mostBytes 0);
       meets = demands (ofFile file place) _ _ _ (record { answer = refl; output = refl });
       differs = λ e.
           never (ofFile file place)
-          (sym (ap numberIn (file-rows file place 384)) ∙ sym (result-is (fileReply file place 384)) ∙ e);
+          (sym (ap numberIn (file-rows file place mostBytes)) ∙ sym (result-is (fileReply file place mostBytes)) ∙ e);
     }
 
 pub tells-unique : (c : Call) (name : ℕ) {x y : ℤ} → Tells c name x → Tells c name y → x ≡ y

@@ -9,7 +9,7 @@ use Rattle.lists.specs.Lists.{any}
 use Rattle.lists.proofs.Bools.{bool-cases, or-none-left, or-none-right}
 use Rattle.method.specs.declared.Refusal.{Refusal}
 use Rattle.method.specs.Verdict.{Reply, Answer, refused, answered, firstOf}
-use Rattle.baseline.proofs.Laws.{never-both}
+use Rattle.engine_refusals.proofs.Replies.{never-both}
 use Rattle.demands.specs.Rows.{applies, FirstIn}
 
 pub first-in : (rs : List (Bool × Refusal)) (x : Answer) (w : Refusal) → firstOf rs (answered x) ≡ refused w → FirstIn rs w

@@ -16,7 +16,7 @@ use Rattle.method.specs.Demands.{NoneEarlier}
 use Rattle.method.proofs.Replies.{test, other, none-early, early-other}
 use Rattle.method.proofs.Extract.{none-of-table}
 use Rattle.method.proofs.NoPart.{known}
-use Rattle.refusals.proofs.FirstRefusal.{first-append}
+use Rattle.engine_refusals.proofs.FirstRefusal.{first-append}
 use Rattle.demands.specs.Calls.{Call, overTable, ofFile, extract, request, perQuarter, room}
 use Rattle.demands.specs.Rows.{fileRows, tableRows, requestRows, dayRows, earlier, rows, applies, answerOver}
 use Rattle.demands.proofs.Rows.{table-rows, request-rows}

@@ -16,13 +16,12 @@ use Rattle.method.specs.declared.Refusal.the-variants.{NotYetParticipating, NoR
 use Rattle.method.specs.Table.{Table}
 use Rattle.method.specs.Verdict.{Reply, Answer as Numbers, refused, answered, number, firstOf, verdict, written}
 use Rattle.method.specs.Demands.{isMargin, isSettled, reported as reportedIn}
-use Rattle.refusals.proofs.FirstRefusal.{first-append}
+use Rattle.engine_refusals.proofs.FirstRefusal.{first-append}
 use Rattle.record.specs.Reader.{requestAt}
 use Rattle.record.proofs.Back.{reading-length}
 use Rattle.answer.specs.declared.Given.the-variants.{Answered, Refused}
 use Rattle.answer.specs.declared.Answer.{Answer}
-use Rattle.answer.specs.Answer.{answerOf}
-use Rattle.baseline.specs.Ready.{Answers}
+use Rattle.answer.specs.Answer.{answerOf, Answers}
 use Rattle.bytewise.specs.Bytewise.{FileAnswers, bytesWritten}
 use Rattle.bytewise.proofs.Laws.{below-four}
 use Rattle.entry.specs.Entry.{fileReply}

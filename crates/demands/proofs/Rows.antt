@@ -11,14 +11,15 @@ use Rattle.calendar.specs.Holidays.{group}
 use Rattle.method.specs.declared.Request.{Request}
 use Rattle.method.specs.declared.Refusal.the-variants.{BadFile, NoEvent}
 use Rattle.method.specs.declared.Refusal.the-variants.{MarginTooShort, TooFew, NoAdjustmentWindow}
-use Rattle.method.specs.Table.{Table, heldDays, history, shaped, isExtract, goodMark, goodReading, missing}
+use Rattle.method.specs.Table.{Table, heldDays, offset, history, shaped, isExtract, goodMark, goodReading, missing}
+use Rattle.method.specs.Ruler.{rulerStart, rulerEnd}
 use Rattle.method.specs.Method.{short, few, chose, daysOf, wholeReach, isShort, outcome}
 use Rattle.method.specs.Adjustment.{Baseline, floored, adjustment, baselineAt, baseline}
 use Rattle.method.specs.Rules.{methodBy}
-use Rattle.method.specs.Requested.{methodOf}
+use Rattle.method.specs.HighXofY.{highXofY}
+use Rattle.method.specs.Requested.{rulesOf, methodOf}
 use Rattle.method.specs.Verdict.{Reply, refused, answered, tableRefusals, goodRequest, requestRefusals, closing, firstOf, methodology, verdict}
-use Rattle.method.proofs.Tables.{offset-is}
-use Rattle.baseline.proofs.Laws.{numerators-are}
+use Rattle.engine_baseline.proofs.Laws.{numerators-are}
 use Rattle.record.specs.declared.EventAt.the-variants.{Event, NoEvent as NoneThere}
 use Rattle.record.specs.declared.Read.the-variants.{File, Refused}
 use Rattle.record.specs.Reader.{isPF, goodEnd, eventsIn, shapeIn, readFile, tableIn, requestAt, eventAtPlace}
@@ -30,12 +31,13 @@ use Rattle.demands.proofs.Tests.{below-not, from-not, and-not, or-not, 
 
 -- 1
 bad-table : (t : Table)
-    → (eqb (heldDays t) 0 || ltb 128 (heldDays t) || not (eqb (length (t .readings)) (96 * heldDays t)) || ltb 36524 (t .first + heldDays t - 1))
+    → (eqb (heldDays t) 0 || ltb 128 (heldDays t) || not (eqb (length (t .readings)) (offset (t .first) (heldDays t))) ||
+    ltb lastDay (t .first + heldDays t - 1))
     ≡ not (isExtract t)
 unfolding isExtract shaped
 bad-table t =
-    rw (below-not 128 (heldDays t), below-not 36524 (t .first + heldDays t - 1), offset-is (t .first) (heldDays t))
-    (none-of-four (eqb (heldDays t) 0) (leb (heldDays t) 128) (eqb (length (t .readings)) (96 * heldDays t)) (leb (t .first + heldDays t - 1) lastDay))
+    rw (below-not 128 (heldDays t), below-not lastDay (t .first + heldDays t - 1))
+    (none-of-four (eqb (heldDays t) 0) (leb (heldDays t) 128) (eqb (length (t .readings)) (offset (t .first) (heldDays t))) (leb (t .first + heldDays t - 1) lastDay))
 
 -- 3
 bad-reading : (x : ℕ) → (ltb 10000000 x && not (eqb x missing)) ≡ not (goodReading x)
@@ -52,16 +54,17 @@ table-rows t =
 
 -- 4
 bad-request : (r : Request)
-    → (ltb 36524 (r .participation) || (ltb (r .s) 96 || ltb 191 (r .s)) || (ltb (r .e) (r .s + 1) || ltb 192 (r .e)) || ltb (r .s) (r .n))
+    → (ltb lastDay (r .participation) || (ltb (r .s) (rulerStart (r .event)) || leb (rulerEnd (r .event)) (r .s)) ||
+    (ltb (r .e) (r .s + 1) || ltb (rulerEnd (r .event)) (r .e)) || ltb (r .s) (r .n))
     ≡ not (goodRequest r)
 unfolding goodRequest
 bad-request r =
     rw (
-      below-not 36524 (r .participation),
-      below-not (r .s) 96,
-      below-not 191 (r .s),
+      below-not lastDay (r .participation),
+      below-not (r .s) (rulerStart (r .event)),
+      from-not (rulerEnd (r .event)) (r .s),
       below-not (r .e) (r .s + 1),
-      below-not 192 (r .e),
+      below-not (rulerEnd (r .event)) (r .e),
       below-not (r .s) (r .n),
     )
     (simp and-not)
@@ -98,7 +101,7 @@ unfolding worked answerOver numeratorsOf baselineAt
 worked-is t r = rw (numerators-are r (NOf r) (chosenOf t r) (AOf t r) (BOf t r))
 
 day-rows : (t : Table) (r : Request) → closing (outcome (methodOf group r) (history t)) ≡ firstOf (dayRows t r) (answered (answerOver t r))
-unfolding outcome methodOf methodBy baseline isShort wholeReach dayRows worked
+unfolding outcome methodOf methodBy rulesOf highXofY baseline isShort wholeReach dayRows worked
 day-rows t r =
     closing-rows (isShort (methodOf group r) (history t)) (eqb (cond (ltb (length (windowOf t r)) (NOf r)) 0 (NOf r)) 0) (eqb (endOf t r) 0)
     (wholeReach (methodOf group r)) (length (windowOf t r)) (reachOf t r) (reachOf t r) (daysOf (chosenOf t r)) (worked t r) ∙

@@ -10,7 +10,7 @@ use Rattle.record.specs.Reader.{tableIn, requestAt}
 use Rattle.answer.specs.declared.Given.{Given}
 use Rattle.answer.specs.declared.Given.the-variants.{Answered, Refused}
 use Rattle.answer.specs.declared.Answer.{Answer}
-use Rattle.baseline.specs.Ready.{Answers}
+use Rattle.answer.specs.Answer.{Answers}
 use Rattle.bytewise.specs.Bytewise.{FileAnswers}
 use Rattle.telling.specs.Telling.{numberOf}
 

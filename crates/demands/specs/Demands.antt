@@ -67,7 +67,7 @@ module _ (c : Call) (a : Answer) (out after : List ℕ) where
   pub record Demand3 : Type 0 where
     -- "Where an event over a well-formed extract gets an answer, 'too few days' or 'no adjustment window', every longer well-formed history
     -- that agrees with the extract, for the same portfolio and request, gets the same by the methodology, all numbers included."
-    pub stable : Settled a → (l : Table) → LongerFormed l (extract c) → Gets c (methodology group l (request c) (room c out)) a out after
+    pub stable : Settled a → (l : Table) → LongerFormed l (extract c) → Gets c (methodology group (history l) (request c) (room c out)) a out after
     -- "'Margin too short' is given, once no earlier refusal applies, exactly when two longer well-formed histories agree with the extract and
     -- have different baseline windows for that request.": and two strictly longer ones, with a day in one window alone, are shown
     pub exactly : any applies (earlier c (length out)) ≡ false → (result a ≡ 8) ↔ Undecided group (extract c) (request c)

@@ -6,12 +6,14 @@ use mathlib.Core.List.{List, [], _∷_, _++_, map}
 use lib.ListN.{length, getD, take}
 use lib.Dec.{leb, ltb, eqb}
 use Rattle.lists.specs.Lists.{any, leading, leastOf}
+use Rattle.dates.specs.Days.{lastDay}
 use Rattle.calendar.specs.Holidays.{group}
 use Rattle.method.specs.declared.Request.{Request}
 use Rattle.method.specs.declared.Refusal.{Refusal}
 use Rattle.method.specs.declared.Refusal.the-variants.{BadFile, NoEvent, BadTable, BadMark, BadReading, BadRequest, NotHeld}
 use Rattle.method.specs.declared.Refusal.the-variants.{NotYetParticipating, NoRoom, MarginTooShort, TooFew, NoAdjustmentWindow}
-use Rattle.method.specs.Table.{Table, Day, heldDays, dayOf, held, history, goodMark, goodReading, missing}
+use Rattle.method.specs.Table.{Table, Day, heldDays, offset, dayOf, held, history, goodMark, goodReading, missing}
+use Rattle.method.specs.Ruler.{rulerStart, rulerEnd}
 use Rattle.method.specs.Relevant.{relevantDays}
 use Rattle.method.specs.Method.{eligibles, window, chosen, reach, daysOf}
 use Rattle.method.specs.Adjustment.{ruler, adjustmentEnd, places, S, A, B, adjustment}
@@ -42,7 +44,7 @@ module _ (t : Table) (r : Request) where
   AOf = A rulerOf endOf
 
   abbrev pub BOf : ℕ
-  BOf = B chosenOf endOf
+  BOf = B (r .event) chosenOf endOf
 
 -- Y and N of a request
 abbrev pub YOf : Request → ℕ
@@ -53,7 +55,7 @@ NOf r = N (group (r .event))
 
 -- "The baseline at event quarter t is max(0, 12·S(t) + N·A - B)/(12N)": the numerators, where `-` stops at 0
 unfoldable pub numeratorsOf : Table → Request → List ℕ
-numeratorsOf t r = map (λ q. 12 * S (chosenOf t r) q + NOf r * AOf t r - BOf t r) (places (r .e - r .s) (r .s))
+numeratorsOf t r = map (λ q. 12 * S (r .event) (chosenOf t r) q + NOf r * AOf t r - BOf t r) (places (r .e - r .s) (r .s))
 
 -- what is answered
 unfoldable pub answerOver : Table → Request → Answer
@@ -79,8 +81,8 @@ unfoldable pub tableRows : Table → List (Bool × Refusal)
 tableRows t =
     -- 1: "h is 0 or above 128, readings not 96·h, or F+h-1 above 36,524"
     (
-      eqb (heldDays t) 0 || ltb 128 (heldDays t) || not (eqb (length (t .readings)) (96 * heldDays t)) ||
-          ltb 36524 (t .first + heldDays t - 1),
+      eqb (heldDays t) 0 || ltb 128 (heldDays t) || not (eqb (length (t .readings)) (offset (t .first) (heldDays t))) ||
+          ltb lastDay (t .first + heldDays t - 1),
       BadTable,
     ) ∷
     -- 2: "a mark with another bit", "day place of the first"
@@ -93,7 +95,8 @@ unfoldable pub requestRows : Table → Request → ℕ → ℕ → List (Bool ×
 requestRows t r w size =
     -- 4: "P above 36,524; s outside 96..191; e outside s+1..192; n above s"
     (
-      ltb 36524 (r .participation) || (ltb (r .s) 96 || ltb 191 (r .s)) || (ltb (r .e) (r .s + 1) || ltb 192 (r .e)) || ltb (r .s) (r .n),
+      ltb lastDay (r .participation) || (ltb (r .s) (rulerStart (r .event)) || leb (rulerEnd (r .event)) (r .s)) ||
+          (ltb (r .e) (r .s + 1) || ltb (rulerEnd (r .event)) (r .e)) || ltb (r .s) (r .n),
       BadRequest,
     ) ∷
     -- 5: "D not held"

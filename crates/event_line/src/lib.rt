@@ -15,7 +15,7 @@ use method::Request;
 use numbers::counts;
 
 // The longest that each line gets.
-const EVENT_ROOM: usize = 162;
+pub const EVENT_ROOM: usize = 162;
 
 const REFUSAL_ROOM: usize = 100;
 

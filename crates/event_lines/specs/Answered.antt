@@ -3,6 +3,7 @@ use Prim.Native.Nat.{ℕ, _-_, min}
 use mathlib.Core.List.{List, _∷_}
 use lib.ListN.{take}
 use Rattle.method.specs.declared.Request.{Request}
+use Rattle.method.specs.Table.{mostQuarters}
 use Rattle.answer.specs.declared.Answer.{Answer}
 use Rattle.lines.specs.Lines.{Line}
 use Rattle.lines.specs.Listing.{eventLine, quarterLines}
@@ -11,4 +12,4 @@ use Rattle.lines.specs.Listing.{eventLine, quarterLines}
 abbrev pub answerLines : Request → Answer → List ℕ → List Line
 answerLines r a numerators =
     eventLine r (take (a .chosen .count) (a .chosen .days)) (a .chosen .reach) (a .denominator) (a .adjustment) ∷
-    quarterLines (a .denominator) (r .s) (take (min (r .e - r .s) 96) numerators)
+    quarterLines (a .denominator) (r .s) (take (min (r .e - r .s) mostQuarters) numerators)

@@ -12,7 +12,7 @@ use answer::Given;
 use method::Request;
 
 // The room that the lines are given: those of any event fit.
-const ROOM: usize = 3330;
+const ROOM: usize = event_line::EVENT_ROOM + quarter_lines::QUARTERS_ROOM;
 
 // The lines of an answer, with the numerators of the event's quarters.
 fn put_answer(out: &mut [u8], request: Request, answer: Answer, numerators: &[u32]) -> usize
@@ -30,14 +30,14 @@ fn put_answer(out: &mut [u8], request: Request, answer: Answer, numerators: &[u3
     quarter_lines::put_quarters(out, next, request, answer.denominator, numerators)
 }
 
-// The lines of an event, at the start of the buffer: what the verdict over a table comes to, with room for a day's 96 quarters.
+// The lines of an event, at the start of the buffer: what the verdict over a table comes to, with room for a day's quarters.
 pub fn event(first: u32, marks: &[u8], readings: &[u32], request: Request, out: &mut [u8]) -> usize
     ensures { λ r. ⌜ PutsWithin linesRoom (now (out .entry)) 0 (eventText (tableOf first (now (marks .entry)) (now (readings .entry))) request) r (now (out .exit)) ⌝ }
 {
     if out.len() < ROOM {
         return 0;
     }
-    let mut numerators = [0u32; 96];
+    let mut numerators = [0u32; method::QUARTERS];
     let answer = baseline::baseline(first, marks, readings, request, &mut numerators);
     let given = answer.given;
     match given {

@@ -5,8 +5,7 @@ use mathlib.Core.List.{List}
 use lib.IntN.{ℤ}
 use Rattle.method.specs.Verdict.{Reply}
 use Rattle.answer.specs.declared.Answer.{Answer}
-use Rattle.answer.specs.Answer.{answerOf}
-use Rattle.baseline.specs.Ready.{Answers}
+use Rattle.answer.specs.Answer.{answerOf, Answers}
 use Rattle.bytewise.specs.Bytewise.{FileAnswers}
 use Rattle.telling.specs.Telling.{numberOf, toldBy}
 use Rattle.listing.specs.declared.Listed.{Listed}

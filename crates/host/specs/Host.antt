@@ -1,11 +1,12 @@
 -- What the C entries that are lent an output give back, and leave in it.
-use Prim.Native.Nat.{ℕ}
+use Prim.Native.Nat.{ℕ, _*_}
 use mathlib.Core.Path.{_≡_}
 use mathlib.Core.List.{List}
 use lib.ListN.{length}
 use lib.IntN.{ℤ}
 use Rattle.filling.specs.Told.{toldFirst}
 use Rattle.method.specs.declared.Request.{Request}
+use Rattle.method.specs.Table.{mostQuarters}
 use Rattle.method.specs.Verdict.{Reply, written}
 use Rattle.answer.specs.Answer.{answerOf}
 use Rattle.bytewise.specs.Bytewise.{bytesWritten}
@@ -13,6 +14,10 @@ use Rattle.lines.specs.Listing.{listing}
 use Rattle.listing.specs.Lists.{listedIn}
 use Rattle.telling.specs.Telling.{numberOf}
 use Rattle.showing.specs.Showing.{listedTold}
+
+-- room for the numerators of any event, four bytes each
+abbrev pub mostBytes : ℕ
+mostBytes = 4 * mostQuarters
 
 abbrev pub requestOf : ℕ → ℕ → ℕ → ℕ → ℕ → Request
 requestOf participation event s e n = record { participation = participation; event = event; s = s; e = e; n = n }

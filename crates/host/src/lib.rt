@@ -2,6 +2,7 @@
 ghost use mathlib.Core.Path.{_≡_};
 ghost use lib.ListN.{length};
 ghost use Rattle.calendar.specs.Holidays.{group};
+ghost use Rattle.method.specs.Table.{mostQuarters};
 ghost use Rattle.method.specs.Verdict.{verdict};
 ghost use Rattle.table.specs.Lent.{tableOf};
 ghost use Rattle.table.specs.Part.{partPlace};
@@ -10,13 +11,11 @@ ghost use Rattle.answer.specs.Answer.{answerOf};
 ghost use Rattle.entry.specs.Entry.{fileReply};
 ghost use Rattle.telling.specs.Telling.{toldBy};
 ghost use Rattle.showing.specs.Showing.{fileTold, eventTold, placeTold};
-ghost use Rattle.host.specs.Host.{requestOf, TableCall, FileCall, ListingCall};
+ghost use Rattle.host.specs.Host.{mostBytes, requestOf, TableCall, FileCall, ListingCall};
 use method::Request;
 
-// An event has at most 96 quarters: room for the numerators of any.
-const MOST_QUARTERS: usize = 96;
-
-const MOST_BYTES: usize = 384;
+// Room for the numerators of any event, four bytes each.
+const MOST_BYTES: usize = 4 * method::QUARTERS;
 
 // The baseline of an event of a record file: 0 or the refusal number, and the numerators into `out`, four bytes each, the lowest first.
 #[no_mangle]
@@ -31,7 +30,7 @@ pub extern "C" fn hp_baseline(file: &[u8], place: usize, out: &mut [u8]) -> u32
 // What that result tells by name, with room for any event.
 #[no_mangle]
 pub extern "C" fn hp_told(file: &[u8], place: usize, name: u32) -> i64
-    ensures { λ r. ⌜ r ≡ toldBy (answerOf (fileReply (now (file .entry)) place 384)) name ⌝ }
+    ensures { λ r. ⌜ r ≡ toldBy (answerOf (fileReply (now (file .entry)) place mostBytes)) name ⌝ }
 {
     let mut out = [0u8; MOST_BYTES];
     let file_answer = entry::file_baseline(file, place, &mut out);
@@ -84,10 +83,10 @@ pub extern "C" fn hp_told_table(
     n: u32,
     name: u32,
 ) -> i64
-    ensures { λ r. ⌜ r ≡ toldBy (answerOf (verdict group (tableOf first (now (marks .entry)) (now (readings .entry))) (requestOf participation event s e n) 96)) name ⌝ }
+    ensures { λ r. ⌜ r ≡ toldBy (answerOf (verdict group (tableOf first (now (marks .entry)) (now (readings .entry))) (requestOf participation event s e n) mostQuarters)) name ⌝ }
 {
     let request = request_of(participation, event, s, e, n);
-    let mut out = [0u32; MOST_QUARTERS];
+    let mut out = [0u32; method::QUARTERS];
     let answer = baseline::baseline(first, marks, readings, request, &mut out);
     telling::tell(answer, name)
 }

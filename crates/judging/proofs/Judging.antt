@@ -8,18 +8,19 @@ use lib.ListN.{take, drop}
 use Rattle.lists.specs.Lists.{all}
 use Rattle.method.specs.declared.Request.{Request}
 use Rattle.method.specs.Table.{present, eventBit, outageBit}
+use Rattle.method.specs.Ruler.{against}
 use Rattle.method.specs.Eligible.{complete, eligible, spare, eventSum}
 use Rattle.sums.specs.Sums.{Summed}
 use Rattle.judging.specs.declared.Judged.{Judged}
 use Rattle.judging.specs.declared.Judged.the-variants.{Eligible, Spare, Neither}
 use Rattle.judging.specs.Judging.{room, wordAt, judgedAt}
 
-pub event-part : (r : Request) (part : List ℕ) (start count x : ℕ) → start ≡ r .s - 96 → count ≡ r .e - r .s
+pub event-part : (r : Request) (part : List ℕ) (start count x : ℕ) → start ≡ against (r .event) (r .s) → count ≡ r .e - r .s
     → Summed (take (start + count - start) (drop start part)) x → x ≡ eventSum r (room 0 part) % 2 ^ 64
 unfolding eventSum
 event-part r part start count x e f s =
     let k : start + count - start ≡ r .e - r .s = omega arith in
-    let t : Summed (take (r .e - r .s) (drop (r .s - 96) part)) x = rw (k, e) at s in
+    let t : Summed (take (r .e - r .s) (drop (against (r .event) (r .s)) part)) x = rw (k, e) at s in
     t .sum
 
 module _ (r : Request) (back mark : ℕ) (part : List ℕ) where

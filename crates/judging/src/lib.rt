@@ -17,7 +17,7 @@ pub enum Judged {
 fn event_sum(request: Request, part: &[u32]) -> u64
     ensures { λ r. ⌜ r ≡ eventSum request (room 0 (now (part .entry))) % 2 ^ 64 ⌝ }
 {
-    let start = counts::minus(request.s, 96) as usize;
+    let start = day_ruler::against(request.event, request.s) as usize;
     let end = start + counts::minus(request.e, request.s) as usize;
     sums::sum_between(part, start, end)
 }

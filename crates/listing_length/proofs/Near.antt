@@ -1,5 +1,5 @@
 -- How large the numbers of a verdict get, over readings of 32 bits.
-use Prim.Native.Nat.{ℕ, _+_, _-_, _*_, _%_, _^_, _≤_, _<_}
+use Prim.Native.Nat.{ℕ, _+_, _-_, _*_, _^_, _≤_, _<_}
 use mathlib.Core.Path.{_≡_, refl, _∙_}
 use mathlib.Core.Bool.{Bool, true, false, cond, _&&_}
 use mathlib.Core.List.{List, [], _∷_, map}
@@ -19,14 +19,15 @@ use Rattle.calendar.specs.declared.Group.{Group}
 use Rattle.calendar.specs.declared.Group.the-variants.{Weekday, Saturday, HolidayGroup}
 use Rattle.method.specs.declared.Request.{Request}
 use Rattle.method.specs.declared.Refusal.{Refusal}
-use Rattle.method.specs.Table.{Table, Day, History, history, dayOf, held, size, offset, goodMark, goodReading}
+use Rattle.method.specs.Table.{Table, mostQuarters, Day, History, history, dayOf, held, size, offset, goodMark, goodReading}
+use Rattle.method.specs.Ruler.{against}
 use Rattle.method.specs.Relevant.{relevantDays}
 use Rattle.method.specs.Method.{Method, short, few, chose, daysOf, seen, eligibles, spares, window, chosen, reach, wholeReach, isShort, outcome}
 use Rattle.method.specs.Adjustment.{ruler, adjustmentEnd, places, S, A, B, adjustment, Baseline, baselineAt, baseline}
 use Rattle.method.specs.Eligible.{eligible, spare, higher, sortBy}
-use Rattle.method.specs.HighXofY.{Y, N}
+use Rattle.method.specs.HighXofY.{Y, N, highXofY}
 use Rattle.method.specs.Rules.{methodBy}
-use Rattle.method.specs.Requested.{methodOf}
+use Rattle.method.specs.Requested.{rulesOf, methodOf}
 use Rattle.method.specs.Verdict.{Answer, Reply, refused, answered, carries, tableRefusals, requestRefusals, closing, firstOf, methodology, verdict}
 use Rattle.method.proofs.LookBack.{lookBack-is}
 use Rattle.method.proofs.HighXofY.{relevant-lookBack}
@@ -78,13 +79,13 @@ module _ (event : ℕ) where
       let o : p .0 ≤ 4294967295 = omega (arith, ltb-true (p .0) event (both (ltb (p .0) event) (all small (p .1 .readings)) (k .0) .0)) in
       rw (le-leb (p .0) 4294967295 o) (days-small h l (k .1))
 
-  S-most : (l : List (ℕ × Day)) (t : ℕ) → all near l ≡ true → S l t ≤ 4294967295 * length l
+  S-most : (l : List (ℕ × Day)) (t : ℕ) → all near l ≡ true → S event l t ≤ 4294967295 * length l
   unfolding S sumOf all
   S-most [] t e = omega arith
   S-most (p ∷ l) t e =
       let k = both (near p) (all near l) e in
       let rs = both (ltb (p .0) event) (all small (p .1 .readings)) (k .0) .1 in
-      omega (arith, leb-true (getD (p .1 .readings) (t % 96) 0) 4294967295 (all-at small 0 refl (p .1 .readings) rs (t % 96)), S-most l t (k .1))
+      omega (arith, leb-true (getD (p .1 .readings) (against event t) 0) 4294967295 (all-at small 0 refl (p .1 .readings) rs (against event t)), S-most l t (k .1))
 
 -- ---- a verdict
 pub record NearAnswer (a : Answer) : Type 0 where
@@ -119,7 +120,7 @@ two-small : (m n : ℕ) → m ≤ 4294967295 → n ≤ 4294967295 → all small 
 unfolding all
 two-small m n h k = rw (le-leb m 4294967295 h, le-leb n 4294967295 k)
 
-module _ (group : ℕ → Group) (t : Table) (r : Request) (few-marks : length (t .marks) ≤ 128) (few-readings : length (t .readings) ≤ 12288)
+module _ (group : ℕ → Group) (t : Table) (r : Request) (few-marks : length (t .marks) ≤ 128) (few-readings : length (t .readings) ≤ mostQuarters * 128)
     (good : all small (t .readings) ≡ true) (early : r .event ≤ 65535) where
   abbrev how : Method Day (Option Baseline)
   how = methodOf group r
@@ -144,7 +145,7 @@ module _ (group : ℕ → Group) (t : Table) (r : Request) (few-marks : length (
           rw (lt-ltb d (r .event) before, day-small d)
 
   window-near : all (near (r .event)) (window how h) ≡ true
-  unfolding window eligibles spares methodOf methodBy
+  unfolding window eligibles spares methodOf methodBy rulesOf highXofY
   window-near =
       let kept = all-keep (near (r .event)) (λ (p : ℕ × Day). eligible (p .1)) (seen how h) seen-near in
       let spare-days = keep (λ (p : ℕ × Day). spare (p .1)) (seen how h) in
@@ -156,17 +157,17 @@ module _ (group : ℕ → Group) (t : Table) (r : Request) (few-marks : length (
       )
 
   chosen-near : all (near (r .event)) (chosen how h) ≡ true
-  unfolding chosen methodOf methodBy
+  unfolding chosen methodOf methodBy rulesOf highXofY
   chosen-near =
       all-take (near (r .event)) (how .taken (length (window how h))) (sortBy (higher r) (window how h))
       (all-sorted (higher r) (near (r .event)) (window how h) ∙ window-near)
 
   chosen-few : length (chosen how h) ≤ 5
-  unfolding chosen methodOf methodBy
+  unfolding chosen methodOf methodBy rulesOf highXofY
   chosen-few = rw length-take (omega (arith, taken-most (ltb (length (window how h)) (N g)) (N g), five-most g))
 
   window-few : length (window how h) ≤ 15
-  unfolding window methodOf methodBy
+  unfolding window methodOf methodBy rulesOf highXofY
   window-few = simp (length-append, length-take) (omega (arith, ten-most g))
 
   whole-small : wholeReach how ≤ 4294967295
@@ -174,7 +175,7 @@ module _ (group : ℕ → Group) (t : Table) (r : Request) (few-marks : length (
   whole-small = omega arith
 
   reach-small : reach how h ≤ 4294967295
-  unfolding reach wholeReach methodOf methodBy
+  unfolding reach wholeReach methodOf methodBy rulesOf highXofY
   reach-small =
       omega (
         arith,
@@ -191,23 +192,23 @@ module _ (group : ℕ → Group) (t : Table) (r : Request) (few-marks : length (
   abbrev end : ℕ
   end = adjustmentEnd r (ruler yesterday today)
 
-  adjusted-small : mag (adjustment (N g) (A (ruler yesterday today) end) (B (chosen how h) end)) < 2 ^ 63
+  adjusted-small : mag (adjustment (N g) (A (ruler yesterday today) end) (B (r .event) (chosen how h) end)) < 2 ^ 63
   unfolding B
   adjusted-small =
       let own = ruler-most (yesterday .readings) (today .readings) end (day-small (r .event - 1)) (day-small (r .event)) in
-      let each : (q : ℕ) → S (chosen how h) q ≤ 4294967295 * length (chosen how h) = λ q. S-most (r .event) (chosen how h) q chosen-near in
-      let sums = sum-of-each (S (chosen how h)) (4294967295 * length (chosen how h)) each (places 12 (end - 12)) in
-      mag-difference (N g * A (ruler yesterday today) end) (B (chosen how h) end) (2 ^ 63)
+      let each : (q : ℕ) → S (r .event) (chosen how h) q ≤ 4294967295 * length (chosen how h) = λ q. S-most (r .event) (chosen how h) q chosen-near in
+      let sums = sum-of-each (S (r .event) (chosen how h)) (4294967295 * length (chosen how h)) each (places 12 (end - 12)) in
+      mag-difference (N g * A (ruler yesterday today) end) (B (r .event) (chosen how h) end) (2 ^ 63)
       (omega (arith, five-times g (A (ruler yesterday today) end) 51539607540 own))
       (omega (arith, chosen-few, rw length-places at sums))
 
   closing-near : Near (closing (outcome how h))
-  unfolding closing outcome methodOf methodBy baseline baselineAt
+  unfolding closing outcome methodOf methodBy rulesOf highXofY baseline baselineAt
   closing-near = go (isShort how h) (eqb (how .taken (length (window how h))) 0) (eqb end 0)
     where
       go : (x y z : Bool) → Near (closing (cond x (short (wholeReach how)) (cond y (few (length (window how h)) (reach how h))
           (chose (daysOf (chosen how h)) (reach how h)
-          (cond z none (some (baselineAt r (N g) (chosen how h) (adjustment (N g) (A (ruler yesterday today) end) (B (chosen how h) end)))))))))
+          (cond z none (some (baselineAt r (N g) (chosen how h) (adjustment (N g) (A (ruler yesterday today) end) (B (r .event) (chosen how h) end)))))))))
       go true y z = one-small (wholeReach how) whole-small
       go false true z = two-small (length (window how h)) (reach how h) (omega (arith, window-few)) reach-small
       go false false true = one-small (reach how h) reach-small

@@ -16,12 +16,13 @@ use Rattle.digits.specs.Digits.{dec, decimal}
 use Rattle.digits.proofs.Digits.{dec-length, dec-length-32, decimal-length}
 use Rattle.method.specs.declared.Request.{Request}
 use Rattle.method.specs.declared.Refusal.{Refusal}
+use Rattle.method.specs.Table.{mostQuarters}
 use Rattle.method.specs.declared.Refusal.the-variants.{BadFile, NoEvent, BadTable, BadMark, BadReading, BadRequest, NotHeld}
 use Rattle.method.specs.declared.Refusal.the-variants.{NotYetParticipating, NoRoom, MarginTooShort, TooFew, NoAdjustmentWindow}
 use Rattle.method.specs.Adjustment.{rounded}
 use Rattle.method.specs.Verdict.{Answer, Reply, refused, answered, number, carries}
 use Rattle.numerators.proofs.Windows.{small}
-use Rattle.baseline.proofs.Answered.{Sound}
+use Rattle.engine_baseline.proofs.Answered.{Sound}
 use Rattle.record.specs.declared.Shape.{Shape}
 use Rattle.lines.specs.Lines.{Field, Line, newline, spaced, lineText, linesText}
 use Rattle.lines.specs.Listing.{headerLine, refusedLine, eventLine, quarterLine, quarterLines, refusalLine, eventLines}
@@ -121,7 +122,7 @@ quarters-most over t (k ∷ ns) o h m =
     )
 
 pub reply-most : (r : Request) (reply : Reply) → r .event ≤ 65535 → r .s ≤ 255 → r .e ≤ 255 → Near reply
-    → ((a : Answer) → reply ≡ answered a → Sound r 96 a × (all (λ x. leb x 1200000000) (a .numerators) ≡ true))
+    → ((a : Answer) → reply ≡ answered a → Sound r mostQuarters a × (all (λ x. leb x 1200000000) (a .numerators) ≡ true))
     → length (linesText (eventLines r reply)) ≤ 3330
 unfolding linesText eventLines
 reply-most r (refused w) d s e n q =

@@ -1,3 +1,4 @@
 pub mod Signed
 pub mod Windows
+pub mod Standing
 pub mod Laws

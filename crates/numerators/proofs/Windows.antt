@@ -45,51 +45,51 @@ pub ruler-most : (ys ts : List ℕ) (end : ℕ) → all small ys ≡ true → al
 ruler-most ys ts end h k = twelve-most (ys ++ ts) end (rw (all-append small ys ts, h, k))
 
 -- a rule of all readings is one of a part
-pub part-all : (p : ℕ → Bool) (readings : List ℕ) (at : ℕ) → all p readings ≡ true → all p (readingsAt readings at) ≡ true
+pub part-all : (p : ℕ → Bool) (size : ℕ) (readings : List ℕ) (at : ℕ) → all p readings ≡ true → all p (readingsAt size readings at) ≡ true
 unfolding readingsAt
-part-all p readings at h = go (leb (at + 96) (length readings))
+part-all p size readings at h = go (leb (at + size) (length readings))
   where
-    go : (b : Bool) → all p (cond b (take 96 (drop at readings)) []) ≡ true
-    go true = all-take p 96 (drop at readings) (all-drop p at readings h)
+    go : (b : Bool) → all p (cond b (take size (drop at readings)) []) ≡ true
+    go true = all-take p size (drop at readings) (all-drop p at readings h)
     go false = unfold all in refl
 
-pub windows-most : (readings at : List ℕ) (end : ℕ) → all small readings ≡ true → windowSums readings at end ≤ 51539607540 * length at
+pub windows-most : (size : ℕ) (readings at : List ℕ) (end : ℕ) → all small readings ≡ true → windowSums size readings at end ≤ 51539607540 * length at
 unfolding windowSums sumOf
-windows-most readings [] end h = omega arith
-windows-most readings (a ∷ at) end h =
-    let p = part-all small readings a h in
-    omega (arith, ruler-most (readingsAt readings a) (readingsAt readings a) end p p, windows-most readings at end h, mul-suc 51539607540 (length at))
+windows-most size readings [] end h = omega arith
+windows-most size readings (a ∷ at) end h =
+    let p = part-all small size readings a h in
+    omega (arith, ruler-most (readingsAt size readings a) (readingsAt size readings a) end p p, windows-most size readings at end h, mul-suc 51539607540 (length at))
 
-pub windows-few : (readings at : List ℕ) (end k : ℕ) → all small readings ≡ true → k ≤ 5 → windowSums readings (take k at) end ≤ 257698037700
-windows-few readings at end k h few = omega (arith, windows-most readings (take k at) end h, length-take k at)
+pub windows-few : (size : ℕ) (readings at : List ℕ) (end k : ℕ) → all small readings ≡ true → k ≤ 5 → windowSums size readings (take k at) end ≤ 257698037700
+windows-few size readings at end k h few = omega (arith, windows-most size readings (take k at) end h, length-take k at)
 
 -- ---- one day more
-module _ (readings at : List ℕ) (end : ℕ) where
-  pub windows-next : (total k x : ℕ) {day : List ℕ} → k < length at → total ≡ windowSums readings (take k at) end
-      → day ≡ readingsAt readings (getD at k 0) → x ≡ A (day ++ day) end → total + x ≡ windowSums readings (take (k + 1) at) end
+module _ (size : ℕ) (readings at : List ℕ) (end : ℕ) where
+  pub windows-next : (total k x : ℕ) {day : List ℕ} → k < length at → total ≡ windowSums size readings (take k at) end
+      → day ≡ readingsAt size readings (getD at k 0) → x ≡ A (day ++ day) end → total + x ≡ windowSums size readings (take (k + 1) at) end
   unfolding windowSums
   windows-next total k x h e o f =
-      let m = sum-more (λ a. A (readingsAt readings a ++ readingsAt readings a) end) at k h in
+      let m = sum-more (λ a. A (readingsAt size readings a ++ readingsAt size readings a) end) at k h in
       rw (add-one k) (omega (arith, m, e, rw o at f))
 
 -- ---- the whole of it
 pub written : (readings : List ℕ) (chosen : Places) (ys ts : List ℕ) (n : ℕ) {count own : ℕ} {adj : ℤ} {sums out : List ℕ}
     → count ≡ counted chosen → own ≡ A (ys ++ ts) (chosen .end)
-    → adj ≡ adjustment count own (windowSums readings (take count (chosen .at)) (chosen .end))
-    → sums ≡ map (λ q. quarterSum readings (chosenAt chosen) (chosen .start + q) % 2 ^ 32) (places n 0)
+    → adj ≡ adjustment count own (windowSums (chosen .quarters) readings (take count (chosen .at)) (chosen .end))
+    → sums ≡ map (λ q. quarterSum (chosen .quarters) readings (chosenAt chosen) (chosen .start + q) % 2 ^ 32) (places n 0)
     → out ≡ map (λ q. floored (unfloored (getD sums q 0) adj) % 2 ^ 32) (places (length sums) 0) → Written readings chosen ys ts n adj out
 unfolding adjustmentOf numeratorsOf
 written readings chosen ys ts n {count} {own} {adj} {sums} {out} c o a s f =
     let e : adj ≡ adjustmentOf readings chosen ys ts = rw (c, o) at a in
-    record { adjusted = e; output = f ∙ rw size (over-same _ _ n 0 each) ∙ ap (λ z. numeratorsOf readings (chosenAt chosen) (chosen .start) z n) e }
+    record { adjusted = e; output = f ∙ rw size (over-same _ _ n 0 each) ∙ ap (λ z. numeratorsOf (chosen .quarters) readings (chosenAt chosen) (chosen .start) z n) e }
   where
     size : length sums ≡ n
-    size = ap length s ∙ length-over (λ q. quarterSum readings (chosenAt chosen) (chosen .start + q) % 2 ^ 32) n 0
+    size = ap length s ∙ length-over (λ q. quarterSum (chosen .quarters) readings (chosenAt chosen) (chosen .start + q) % 2 ^ 32) n 0
 
     each : (q : ℕ) → 0 ≤ q → q < 0 + n → floored (unfloored (getD sums q 0) adj) % 2 ^ 32 ≡ floored
-        (unfloored (quarterSum readings (chosenAt chosen) (chosen .start + q) % 2 ^ 32) adj) % 2 ^ 32
+        (unfloored (quarterSum (chosen .quarters) readings (chosenAt chosen) (chosen .start + q) % 2 ^ 32) adj) % 2 ^ 32
     each q a b =
         let z : 0 + q ≡ q = omega arith in
         let i : q < n = omega arith in
-        let here = ap (λ l. getD l q 0) s ∙ at-place (λ q. quarterSum readings (chosenAt chosen) (chosen .start + q) % 2 ^ 32) 0 n 0 q i in
+        let here = ap (λ l. getD l q 0) s ∙ at-place (λ q. quarterSum (chosen .quarters) readings (chosenAt chosen) (chosen .start + q) % 2 ^ 32) 0 n 0 q i in
         ap (λ (x : ℕ). floored (unfloored x adj) % 2 ^ 32) (rw z at here)

@@ -11,19 +11,26 @@ use method::Request;
 use numbers::counts;
 use rooms::Directory;
 
-// Where the chosen days stand, how many of the five they are, where the adjustment window ends, and the event's first quarter of the day.
+// Where the chosen days stand, how many of the five they are, how many quarters each has, where the adjustment window ends, and which of its
+// quarters stands against the event's first.
 pub struct Places {
     pub at: [u32; 5],
     pub count: u32,
+    pub quarters: u32,
     pub end: u32,
     pub start: u32,
 }
 
 // Where the readings of the day so many days before the event start; 0 past the directory.
-fn start_of(starts: [u32; 46], back: u32) -> u32
-    ensures { λ r. ⌜ r ≡ getD starts back 0 ⌝ }
+fn start_of(starts: &[u32], back: u32) -> u32
+    ensures { λ r. ⌜ r ≡ getD (now (starts .entry)) back 0 ⌝ }
 {
-    if back < 46 { starts[back as usize] } else { 0 }
+    let place = back as usize;
+    if place < starts.len() {
+        starts[place]
+    } else {
+        0
+    }
 }
 
 // The places of chosen days, by the directory of the days before an event.
@@ -34,14 +41,15 @@ pub fn placed(request: Request, rooms: Directory, days: [u32; 5], count: u32, en
     let mut at = [0u32; 5];
     let mut k = 0;
     while k < 5 {
-        at[k] = start_of(starts, counts::minus(request.event, days[k]));
+        at[k] = start_of(&starts, counts::minus(request.event, days[k]));
         k += 1;
     }
     Places {
         at: at,
         count: count,
+        quarters: day_ruler::size(days[0]),
         end: end,
-        start: counts::minus(request.s, 96),
+        start: day_ruler::against(request.event, request.s),
     }
 }
 
@@ -71,14 +79,14 @@ fn floor(sums: &mut [u32], adjustment: i64)
 }
 
 // B: what the chosen days have in the adjustment window.
-fn sum_windows(readings: &[u32], at: [u32; 5], count: usize, end: u32) -> u64
+fn sum_windows(readings: &[u32], at: [u32; 5], count: usize, quarters: u32, end: u32) -> u64
     requires { ⌜ count ≤ 5 ⌝ }
-    ensures { λ r. ⌜ (r ≡ windowSums (now (readings .entry)) (take count at) end) × (r ≤ 257698037700) ⌝ }
+    ensures { λ r. ⌜ (r ≡ windowSums quarters (now (readings .entry)) (take count at) end) × (r ≤ 257698037700) ⌝ }
 {
     let mut total: u64 = 0;
     let mut k = 0;
     while k < count {
-        let day = rooms::readings_at(readings, at[k]);
+        let day = rooms::readings_at(readings, at[k], quarters);
         total += window::window_sum(end, day, day);
         k += 1;
     }
@@ -86,11 +94,18 @@ fn sum_windows(readings: &[u32], at: [u32; 5], count: usize, end: u32) -> u64
 }
 
 // The adjustment's numerator, N·A - B, of A and the chosen days.
-fn adjustment(readings: &[u32], at: [u32; 5], count: usize, end: u32, own: u64) -> i64
+fn adjustment(
+    readings: &[u32],
+    at: [u32; 5],
+    count: usize,
+    quarters: u32,
+    end: u32,
+    own: u64,
+) -> i64
     requires { ⌜ (count ≤ 5) × (own ≤ 51539607540) ⌝ }
-    ensures { λ r. ⌜ (r ≡ adjusted count own (windowSums (now (readings .entry)) (take count at) end)) × (mag r < 2 ^ 40) ⌝ }
+    ensures { λ r. ⌜ (r ≡ adjusted count own (windowSums quarters (now (readings .entry)) (take count at) end)) × (mag r < 2 ^ 40) ⌝ }
 {
-    let usual = sum_windows(readings, at, count, end);
+    let usual = sum_windows(readings, at, count, quarters, end);
     (((count as u64) * own) as i64) - (usual as i64)
 }
 
@@ -107,11 +122,12 @@ pub fn write(
     let at = chosen.at;
     let count = counts::least(chosen.count, 5) as usize;
     let own = window::window_sum(chosen.end, yesterday, today);
-    let adjustment = adjustment(readings, at, count, chosen.end, own);
+    let adjustment = adjustment(readings, at, count, chosen.quarters, chosen.end, own);
     quarters::sum_days(
         readings,
         at,
         chosen.count as usize,
+        chosen.quarters,
         chosen.start as usize,
         out,
     );

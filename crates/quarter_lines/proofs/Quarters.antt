@@ -34,8 +34,8 @@ module _ {d : List ℕ} {at : ℕ} {t : List ℕ} {r : ℕ} {e : List ℕ} (deno
   quarters-end h = writing-end (rw (drop-of-length-le (take n ns) {i = i} (rw (length-take-le n ns size) h)) at q)
 
 -- the numerators that are there, of those that are asked for
-pub those-there : {count quarters asked : ℕ} (k : ℕ) (ns : List ℕ) → count ≡ min quarters (length ns) → quarters ≡ min asked 96 → asked ≡ k
-    → take count ns ≡ take (min k 96) ns
-those-there {count} {quarters} k ns e f g =
-    let all : quarters ≡ min k 96 = f ∙ ap (λ (x : ℕ). min x 96) g in
-    rw (e, all) (take-least (min k 96) (length ns) ns refl)
+pub those-there : {count quarters asked : ℕ} (most k : ℕ) (ns : List ℕ) → count ≡ min quarters (length ns) → quarters ≡ min asked most → asked ≡ k
+    → take count ns ≡ take (min k most) ns
+those-there {count} {quarters} most k ns e f g =
+    let all : quarters ≡ min k most = f ∙ ap (λ (x : ℕ). min x most) g in
+    rw (e, all) (take-least (min k most) (length ns) ns refl)

@@ -1,5 +1,9 @@
--- How long the lines of a day's 96 quarters get at most.
-use Prim.Native.Nat.{ℕ}
+-- How long the line of a quarter gets at most, and those of a day's quarters.
+use Prim.Native.Nat.{ℕ, _*_}
+use Rattle.method.specs.Table.{mostQuarters}
+
+abbrev pub lineRoom : ℕ
+lineRoom = 33
 
 abbrev pub quartersRoom : ℕ
-quartersRoom = 3168
+quartersRoom = lineRoom * mostQuarters

@@ -2,17 +2,20 @@
 ghost use mathlib.Core.Path.{_≡_};
 ghost use Prim.Native.Nat.{_+_, _-_, _≤_, min};
 ghost use lib.ListN.{length, take};
+ghost use Rattle.method.specs.Table.{mostQuarters};
 ghost use Rattle.method.specs.Adjustment.{rounded};
 ghost use Rattle.lines.specs.Lines.{lineText, linesText};
 ghost use Rattle.lines.specs.Listing.{quarterLine, quarterLines};
 ghost use Rattle.lines.specs.Writes.{Writes, PutsWithin};
-ghost use Rattle.quarter_lines.specs.Room.{quartersRoom};
+ghost use Rattle.quarter_lines.specs.Room.{lineRoom, quartersRoom};
 use method::Request;
 use numbers::counts;
 use numbers::sizes;
 
-// The longest that the lines of a day's 96 quarters get.
-const QUARTERS_ROOM: usize = 3168;
+// The longest that the line of a quarter gets, and those of a day's quarters.
+const LINE_ROOM: usize = 33;
+
+pub const QUARTERS_ROOM: usize = LINE_ROOM * method::QUARTERS;
 
 // The nearest whole number of kW, halves up; 0 over 0.
 fn rounded(numerator: u32, denominator: u32) -> u32
@@ -27,8 +30,8 @@ fn rounded(numerator: u32, denominator: u32) -> u32
 
 // The line of quarter t.
 fn put_quarter(out: &mut [u8], at: usize, denominator: u32, t: u32, numerator: u32) -> usize
-    requires { ⌜ at + 33 ≤ length (now out) ⌝ }
-    ensures { λ r. ⌜ Writes (now (out .entry)) at (lineText (quarterLine denominator t numerator)) r (now (out .exit)) × (r ≤ at + 33) ⌝ }
+    requires { ⌜ at + lineRoom ≤ length (now out) ⌝ }
+    ensures { λ r. ⌜ Writes (now (out .entry)) at (lineText (quarterLine denominator t numerator)) r (now (out .exit)) × (r ≤ at + lineRoom) ⌝ }
 {
     let first = text::put_number(out, at, t);
     let second = text::put_field(out, first, b" ", numerator);
@@ -36,7 +39,7 @@ fn put_quarter(out: &mut [u8], at: usize, denominator: u32, t: u32, numerator: u
     text::put_bytes(out, end, b"\n")
 }
 
-// The lines of the event's quarters, 96 at most, from place `at` on; the numerators are those of the quarters from s.
+// The lines of the event's quarters, a day's at most, from place `at` on; the numerators are those of the quarters from s.
 pub fn put_quarters(
     out: &mut [u8],
     at: usize,
@@ -44,13 +47,13 @@ pub fn put_quarters(
     denominator: u32,
     numerators: &[u32],
 ) -> usize
-    ensures { λ r. ⌜ PutsWithin quartersRoom (now (out .entry)) at (linesText (quarterLines denominator (request .s) (take (min (request .e - request .s) 96) (now (numerators .entry))))) r (now (out .exit)) ⌝ }
+    ensures { λ r. ⌜ PutsWithin quartersRoom (now (out .entry)) at (linesText (quarterLines denominator (request .s) (take (min (request .e - request .s) mostQuarters) (now (numerators .entry))))) r (now (out .exit)) ⌝ }
 {
     if sizes::minus(out.len(), at) < QUARTERS_ROOM {
         return at;
     }
-    let quarters = counts::least(counts::minus(request.e, request.s), 96);
-    let count = sizes::least(quarters as usize, numerators.len());
+    let quarters = counts::minus(request.e, request.s) as usize;
+    let count = sizes::least(sizes::least(quarters, method::QUARTERS), numerators.len());
     let mut place = at;
     let mut t = request.s;
     let mut i = 0;

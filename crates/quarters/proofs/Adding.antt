@@ -25,33 +25,33 @@ sum-more f [] k h = absurd (omega arith)
 sum-more f (a ∷ at) zero h = omega arith
 sum-more f (a ∷ at) (suc k) h = omega (arith, sum-more f at k (omega arith))
 
-module _ (readings at : List ℕ) (start n : ℕ) where
+module _ (size : ℕ) (readings at : List ℕ) (start n : ℕ) where
   -- the invariant of the loop that adds days: the sums of the first `k` of them, as numbers of 32 bits
   pub record Added (sums : List ℕ) (k : ℕ) : Type 0 where
-    pub size : length sums ≡ n
-    pub done : sums ≡ map (λ q. quarterSum readings (take k at) (start + q) % 2 ^ 32) (places n 0)
+    pub long : length sums ≡ n
+    pub done : sums ≡ map (λ q. quarterSum size readings (take k at) (start + q) % 2 ^ 32) (places n 0)
 
   pub added-begin : {sums : List ℕ} → sums ≡ map (λ q. 0) (places n 0) → Added sums 0
   unfolding quarterSum sumOf
-  added-begin e = record { size = ap length e ∙ length-over (λ q. 0) n 0; done = e }
+  added-begin e = record { long = ap length e ∙ length-over (λ q. 0) n 0; done = e }
 
   module _ {sums : List ℕ} {k : ℕ} (w : Added sums k) where
-    pub added-next : {next day : List ℕ} → k < length at → day ≡ readingsAt readings (getD at k 0)
+    pub added-next : {next day : List ℕ} → k < length at → day ≡ readingsAt size readings (getD at k 0)
         → next ≡ map (λ q. (getD sums q 0 + getD day (start + q) 0) % 2 ^ 32) (places (length sums) 0) → Added next (k + 1)
     unfolding quarterSum
     added-next {next} {day} h p f =
         record {
-          size = ap length f ∙ length-over (λ q. (getD sums q 0 + getD day (start + q) 0) % 2 ^ 32) (length sums) 0 ∙ w .size;
-          done = f ∙ rw (w .size) (over-same _ _ n 0 each);
+          long = ap length f ∙ length-over (λ q. (getD sums q 0 + getD day (start + q) 0) % 2 ^ 32) (length sums) 0 ∙ w .long;
+          done = f ∙ rw (w .long) (over-same _ _ n 0 each);
         }
       where
         each : (q : ℕ) → 0 ≤ q → q < 0 + n
-            → (getD sums q 0 + getD day (start + q) 0) % 2 ^ 32 ≡ sumOf (map (λ a. getD (readingsAt readings a) (start + q) 0) (take (k + 1) at)) % 2 ^ 32
+            → (getD sums q 0 + getD day (start + q) 0) % 2 ^ 32 ≡ sumOf (map (λ a. getD (readingsAt size readings a) (start + q) 0) (take (k + 1) at)) % 2 ^ 32
         each q a b =
             let i : q < n = omega arith in
             let z : 0 + q ≡ q = omega arith in
-            let m = sum-more (λ a. getD (readingsAt readings a) (start + q) 0) at k h in
-            let here = ap (λ l. getD l q 0) (w .done) ∙ at-place (λ q. quarterSum readings (take k at) (start + q) % 2 ^ 32) 0 n 0 q i in
+            let m = sum-more (λ a. getD (readingsAt size readings a) (start + q) 0) at k h in
+            let here = ap (λ l. getD l q 0) (w .done) ∙ at-place (λ q. quarterSum size readings (take k at) (start + q) % 2 ^ 32) 0 n 0 q i in
             let day-is = ap (λ l. getD l (start + q) 0) p in
             rw (add-one k) (omega (arith, m, day-is, rw z at here))
 

@@ -5,6 +5,6 @@ use lib.ListN.{getD}
 use Rattle.lists.specs.Lists.{sumOf}
 use Rattle.rooms.specs.Rooms.{readingsAt}
 
--- S: the sum, over days, of the reading at a quarter of the day
-unfoldable pub quarterSum : List ℕ → List ℕ → ℕ → ℕ
-quarterSum readings at q = sumOf (map (λ a. getD (readingsAt readings a) q 0) at)
+-- S: the sum, over days of `size` readings, of the reading at a quarter of the day
+unfoldable pub quarterSum : ℕ → List ℕ → List ℕ → ℕ → ℕ
+quarterSum size readings at q = sumOf (map (λ a. getD (readingsAt size readings a) q 0) at)

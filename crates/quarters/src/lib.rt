@@ -42,15 +42,22 @@ fn add_day(sums: &mut [u32], day: &[u32], start: usize)
     add_part(part, &day[from..end]);
 }
 
-// The sums over the first days, at most five, of the quarters from `start` on.
-pub fn sum_days(readings: &[u32], at: [u32; 5], count: usize, start: usize, sums: &mut [u32])
-    ensures { λ _. ⌜ now (sums .exit) ≡ map (λ q. quarterSum (now (readings .entry)) (take (min count 5) at) (start + q) % 2 ^ 32) (places (length (now (sums .entry))) 0) ⌝ }
+// The sums over the first days, at most five and each of `size` readings, of the quarters from `start` on.
+pub fn sum_days(
+    readings: &[u32],
+    at: [u32; 5],
+    count: usize,
+    size: u32,
+    start: usize,
+    sums: &mut [u32],
+)
+    ensures { λ _. ⌜ now (sums .exit) ≡ map (λ q. quarterSum size (now (readings .entry)) (take (min count 5) at) (start + q) % 2 ^ 32) (places (length (now (sums .entry))) 0) ⌝ }
 {
     clear(sums);
     let days = sizes::least(count, 5);
     let mut k = 0;
     while k < days {
-        let day = rooms::readings_at(readings, at[k]);
+        let day = rooms::readings_at(readings, at[k], size);
         add_day(sums, day, start);
         k += 1;
     }

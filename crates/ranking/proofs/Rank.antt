@@ -12,7 +12,8 @@ use lib.Dec.{leb, ltb}
 use borrow.Author.Tests.{leb-true, ltb-true, le-leb}
 use Rattle.lists.specs.Lists.{all}
 use Rattle.method.specs.declared.Request.{Request}
-use Rattle.method.specs.Table.{Day, goodReading}
+use Rattle.method.specs.Table.{Day, mostQuarters, goodReading}
+use Rattle.method.specs.Ruler.{against}
 use Rattle.method.specs.Method.{daysOf}
 use Rattle.method.specs.Eligible.{complete, eventSum, higher, sortBy}
 use Rattle.ranking.specs.Words.{word, above, insertDown, sortDown, padded, pushed, insertAll}
@@ -233,6 +234,6 @@ module _ (r : Request) where
   unfolding word
   word-small p h s = omega (arith, before-event p h)
 
-  pub sum-small : (d : Day) → length (d .readings) ≤ 96 → all goodReading (d .readings) ≡ true → complete d ≡ true → eventSum r d ≤ 960000000
+  pub sum-small : (d : Day) → length (d .readings) ≤ mostQuarters → all goodReading (d .readings) ≡ true → complete d ≡ true → eventSum r d ≤ 960000000
   unfolding eventSum complete
-  sum-small d n good there = omega (arith, part-small (r .s - 96) (r .e - r .s) (d .readings) good there)
+  sum-small d n good there = omega (arith, part-small (against (r .event) (r .s)) (r .e - r .s) (d .readings) good there)

@@ -5,9 +5,8 @@ ghost use Prim.Native.Nat.{_≤_};
 ghost use Rattle.lists.specs.Lists.{all, leading};
 ghost use Rattle.method.specs.Table.{present, goodReading};
 ghost use Rattle.readings.specs.Steps.{GoodBefore, Joined};
-
-// 01: "4,294,967,295 means missing"
-const MISSING: u32 = 4294967295;
+use method::MISSING;
+use method::QUARTERS;
 
 // Whether no reading is missing. There is no branch in the loop, so that it takes several readings at a time.
 pub fn complete(day: &[u32]) -> bool
@@ -56,14 +55,14 @@ fn block_is_good(block: &[u32], more: u32) -> bool
     }
 }
 
-// A place that only good readings stand before: from such a place on it passes over blocks of 96 that are known to be good.
+// A place that only good readings stand before: from such a place on it passes over blocks of a day's length that are known to be good.
 fn good_blocks(readings: &[u32], start: usize, more: u32) -> usize
     requires { ⌜ GoodBefore (now readings) start × (more ≤ 1) ⌝ }
     ensures { λ r. ⌜ GoodBefore (now (readings .entry)) r ⌝ }
 {
     let mut at = start;
-    while 96 <= readings.len() - at {
-        let end = at + 96;
+    while QUARTERS <= readings.len() - at {
+        let end = at + QUARTERS;
         if block_is_good(&readings[at..end], more) {
             at = end;
         } else {

@@ -1,7 +1,7 @@
 -- How far back the oldest relevant day lies: looked for from the farthest day on, and beside what a history holds.
 use Prim.Native.Nat.{ℕ, suc, _+_, _-_, _≤_, _<_, min}
-use mathlib.Core.Path.{_≡_, sym, ap, _∙_}
-use mathlib.Core.Bool.{true, false}
+use mathlib.Core.Path.{_≡_, refl, sym, ap, _∙_}
+use mathlib.Core.Bool.{Bool, true, false}
 use mathlib.Core.Logic.{⊎-elim}
 use mathlib.Core.List.{List, [], _∷_, _++_, append-nil}
 use native.Mathlib.Omega.{arith}
@@ -9,13 +9,14 @@ use lib.Dec.{ltb}
 use borrow.Author.Tests.{lt-ltb, le-ltb}
 use Rattle.lists.specs.Lists.{keep, any, member, leastOf}
 use Rattle.lists.proofs.Bools.{lt-or-le, same-test}
-use Rattle.lists.proofs.Keep.{keep-append, kept-member, leastOf-top, leastOf-from}
+use Rattle.lists.proofs.Keep.{keep-append, kept-member, member-head, member-tail, leastOf-top, leastOf-from}
 use Rattle.calendar.specs.declared.Group.{Group}
 use Rattle.method.specs.declared.Request.{Request}
 use Rattle.method.specs.Relevant.{daysBefore, relevant, relevantDays}
 use Rattle.method.specs.Method.{wholeReach}
 use Rattle.method.specs.Rules.{methodBy}
 use Rattle.method.specs.Requested.{methodOf}
+use Rattle.method.proofs.HighXofY.{lawful}
 use Rattle.method.proofs.LookBack.{daysBefore-is, days-then, days-least, one-before}
 
 pub leastOf-snoc : (top : ℕ) (xs : List ℕ) (x : ℕ) → leastOf top (xs ++ (x ∷ [])) ≡ min (leastOf top xs) x
@@ -33,6 +34,11 @@ any-least top f (x ∷ xs) h =
     (λ (o : f ≤ x).
     rw (le-ltb x f o, any-least top f xs h) (same-test (leastOf top xs) f (min x (leastOf top xs)) f (omega arith) (omega arith)))
     (lt-or-le x f)
+
+any-same : (p q : ℕ → Bool) (xs : List ℕ) → ((x : ℕ) → member x xs ≡ true → p x ≡ q x) → any p xs ≡ any q xs
+unfolding any
+any-same p q [] same = refl
+any-same p q (x ∷ xs) same = rw (same x (member-head x xs), any-same p q xs (λ y m. same y (member-tail y x xs m)))
 
 module _ (group : ℕ → Group) (r : Request) where
   -- how far back the oldest relevant of the `k` days before the event lies
@@ -83,12 +89,26 @@ module _ (group : ℕ → Group) (r : Request) where
       within d m = let i = daysBefore-is 45 (r .event) d .0 (kept-member (relevant group r) (daysBefore 45 (r .event)) d m) in omega arith
 
   -- a relevant day lies before the first held day where the reach of all relevant days goes beyond the days held before the event
-  pub short-of-reach : (first : ℕ) → first ≤ r .event
+  since-event : (first : ℕ) → first ≤ r .event
       → any (λ d. ltb d first) (methodOf group r .relevant) ≡ ltb (r .event - first) (wholeReach (methodOf group r))
   unfolding wholeReach methodOf methodBy
-  short-of-reach first h =
+  since-event first h =
       let least = leastOf (r .event) (relevantDays group r) in
       any-least (r .event) first (relevantDays group r) h ∙ below least (leastOf-top (r .event) (relevantDays group r))
     where
       below : (l : ℕ) → l ≤ r .event → ltb l first ≡ ltb (r .event - first) (r .event - l)
       below l o = same-test l first (r .event - first) (r .event - l) (omega arith) (omega arith)
+
+  -- also where no day is held: each relevant day lies before the event
+  pub short-of-reach : (first : ℕ) → first ≤ r .event + 1
+      → any (λ d. ltb d first) (methodOf group r .relevant) ≡ ltb (r .event - first) (wholeReach (methodOf group r))
+  unfolding methodOf methodBy
+  short-of-reach first h =
+      let e : r .event - min first (r .event) ≡ r .event - first = omega arith in
+      any-same (λ d. ltb d first) (λ d. ltb d (min first (r .event))) (methodOf group r .relevant) below
+      ∙ rw e at (since-event (min first (r .event)) (omega arith))
+    where
+      below : (d : ℕ) → member d (methodOf group r .relevant) ≡ true → ltb d first ≡ ltb d (min first (r .event))
+      below d m =
+          let o : d < r .event = lawful group r .before d m in
+          same-test d first d (min first (r .event)) (omega arith) (omega arith)

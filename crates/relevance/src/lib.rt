@@ -10,9 +10,6 @@ use calendar::Group;
 use method::Request;
 use numbers::counts;
 
-// How far back a day may lie.
-const LOOK_BACK: u32 = 45;
-
 // A group's number.
 fn number(of: Group) -> u32
     ensures { λ r. ⌜ r ≡ groupNumber of ⌝ }
@@ -67,7 +64,7 @@ pub fn whole_reach(request: Request) -> u32
 {
     let event = request.event;
     let group = calendar::group_of(event);
-    let mut back = counts::least(LOOK_BACK, event);
+    let mut back = counts::least(method::LOOK_BACK, event);
     while 0 < back {
         if relevant(request, group, event - back) {
             return back;

@@ -5,21 +5,30 @@ use mathlib.Core.Bool.{Bool, true, false, not, _&&_}
 use mathlib.Core.List.{List, []}
 use mathlib.Core.Logic.{⊎-elim}
 use native.Mathlib.Omega.{arith}
-use borrow.Author.Tests.{le-leb, lt-leb, eq-eqb, ne-eqb, leb-true, eqb-true, eqb-false, not-true, lt-ltb, le-ltb, ltb-true}
+use borrow.Author.Tests.{le-leb, lt-leb, eq-eqb, ne-eqb, leb-true, eqb-true, eqb-false, not-true, lt-ltb, le-ltb}
 use lib.Dec.{leb, ltb, eqb}
 use lib.ListN.{length, take, drop, length-take, length-drop}
 use Rattle.lists.proofs.Bools.{bool-cases, both, lt-or-le, and-left, and-right}
 use Rattle.dates.specs.Days.{lastDay}
-use Rattle.method.specs.Table.{Table, heldDays, offset, shaped, isExtract, held, history, size, dayOf, dayPart}
-use Rattle.method.proofs.Tables.{offset-is}
+use Rattle.method.specs.Table.{Table, heldDays, offset, mostQuarters, shaped, isExtract, held, history, size, dayOf, dayPart}
+use Rattle.method.proofs.Histories.{held-first, held-last}
+use Rattle.method.proofs.Tables.{size-is, offset-is, offset-within}
 use Rattle.table.specs.declared.Place.the-variants.{Nowhere, From}
 use Rattle.table.specs.Part.{hasDay, partStart, DayPart, partPlace}
 
--- the tests of refusal 1, in code's form
+-- as many readings as days of one size have
+pub offset-even : (f k : ℕ) → size f * k ≡ offset f k
+offset-even f k = rw (size-is f) (sym (offset-is f k))
+
+-- the readings of at most 128 days are not too many to count in 32 bits
+pub offset-small : (f k : ℕ) → k ≤ 128 → offset f k ≤ 128 * mostQuarters
+offset-small f k h = omega (arith, offset-is f k)
+
+-- what refusal 1 lets pass
 pub record Extract (t : Table) : Type 0 where
   pub days : 0 < heldDays t
   pub most : heldDays t ≤ 128
-  pub sized : length (t .readings) ≡ 96 * heldDays t
+  pub sized : length (t .readings) ≡ offset (t .first) (heldDays t)
   pub last : t .first + heldDays t - 1 ≤ lastDay
 
 pub many : (t : Table) → 128 < heldDays t → false ≡ isExtract t
@@ -30,28 +39,16 @@ pub empty : (t : Table) → heldDays t ≤ 128 → heldDays t ≡ 0 → false �
 unfolding isExtract shaped
 empty t h e = rw (le-leb (heldDays t) 128 h, e)
 
-pub unmatched : (t : Table) → heldDays t ≤ 128 → (heldDays t ≡ 0 → ⊥) → (length (t .readings) ≡ 96 * heldDays t → ⊥) → false ≡ isExtract t
+pub unmatched : (t : Table) → heldDays t ≤ 128 → (heldDays t ≡ 0 → ⊥) → (length (t .readings) ≡ offset (t .first) (heldDays t) → ⊥) → false ≡ isExtract t
 unfolding isExtract shaped
 unmatched t h n e =
-    rw (
-      le-leb (heldDays t) 128 h,
-      ne-eqb (heldDays t) 0 n,
-      offset-is (t .first) (heldDays t),
-      ne-eqb (length (t .readings))
-          (96 * heldDays t) e,
-    )
+    rw (le-leb (heldDays t) 128 h, ne-eqb (heldDays t) 0 n, ne-eqb (length (t .readings)) (offset (t .first) (heldDays t)) e)
 
-pub matched : (t : Table) → heldDays t ≤ 128 → (heldDays t ≡ 0 → ⊥) → length (t .readings) ≡ 96 * heldDays t
+pub matched : (t : Table) → heldDays t ≤ 128 → (heldDays t ≡ 0 → ⊥) → length (t .readings) ≡ offset (t .first) (heldDays t)
     → leb (t .first + heldDays t - 1) lastDay ≡ isExtract t
 unfolding isExtract shaped
 matched t h n e =
-    rw (
-      le-leb (heldDays t) 128 h,
-      ne-eqb (heldDays t) 0 n,
-      offset-is (t .first) (heldDays t),
-      eq-eqb (length (t .readings))
-          (96 * heldDays t) e,
-    )
+    rw (le-leb (heldDays t) 128 h, ne-eqb (heldDays t) 0 n, eq-eqb (length (t .readings)) (offset (t .first) (heldDays t)) e)
 
 pub extract-is : (t : Table) → isExtract t ≡ true → Extract t
 unfolding isExtract shaped
@@ -59,8 +56,7 @@ extract-is t e =
     record {
       days = omega (arith, eqb-false (heldDays t) 0 (not-true (eqb (heldDays t) 0) (and-left some sized both)));
       most = leb-true (heldDays t) 128 (and-left (leb (heldDays t) 128) (shaped t) e);
-      sized = eqb-true (length (t .readings)) (offset (t .first) (heldDays t)) (and-right some sized both) ∙
-          offset-is (t .first) (heldDays t);
+      sized = eqb-true (length (t .readings)) (offset (t .first) (heldDays t)) (and-right some sized both);
       last = leb-true (t .first + heldDays t - 1) lastDay (and-right (some && sized) inside shape);
     }
   where
@@ -109,26 +105,28 @@ module _ (t : Table) (day : ℕ) where
   unfolding hasDay
   has-is e = both (isExtract t) (held (history t) day) e
 
-  -- a day that is held has its ninety-six readings
+  -- a day that is held has its readings
   pub has-inside : hasDay t day ≡ true
-      → (t .first ≤ day) × (day < t .first + heldDays t) × (offset (t .first) (day - t .first) + 96 ≤ length (t .readings))
-  unfolding held
+      → (t .first ≤ day) × (day < t .first + heldDays t) × (offset (t .first) (day - t .first) + size day ≤ length (t .readings))
   has-inside e =
       let w = has-is e in
       let x = extract-is t (w .0) in
-      let h = both (leb (t .first) day) (ltb day (t .first + heldDays t)) (w .1) in
-      let a = leb-true (t .first) day (h .0) in
-      let b = ltb-true day (t .first + heldDays t) (h .1) in
-      (a, b, omega (arith, x .sized, offset-is (t .first) (day - t .first)))
+      let a = held-first (history t) day (w .1) in
+      let b = held-last (history t) day (w .1) in
+      (a, b, rw (x .sized) (offset-within (t .first) (heldDays t) day a b))
+
+  -- it is one of at most 128
+  pub has-few : hasDay t day ≡ true → day - t .first ≤ 128
+  has-few e = omega (arith, has-inside e, extract-is t (has-is e .0) .most)
 
   -- the part of a day that is held, and of one that is not
   module _ (whole : ℕ × ℕ) (part : List ℕ) (at : ℕ × ℕ) (same : at .0 ≡ whole .0) where
     pub part-held : (start : ℕ) → start ≡ offset (t .first) (day - t .first) → hasDay t day ≡ true
-        → part ≡ take (start + 96 - start) (drop start (t .readings)) → at .1 ≡ whole .1 + 4 * start → DayPart t day whole part at
-    unfolding dayPart dayOf size partStart
+        → part ≡ take (start + size day - start) (drop start (t .readings)) → at .1 ≡ whole .1 + 4 * start → DayPart t day whole part at
+    unfolding dayPart dayOf partStart
     part-held start s e l b =
         let w = has-is e in
-        let k : start + 96 - start ≡ 96 = omega arith in
+        let k : start + size day - start ≡ size day = omega arith in
         record { list = rw (w .0, w .1, ← s) (rw k at l); block = same; byte = rw (e, ← s) b }
 
     pub part-none : hasDay t day ≡ false → part ≡ [] → at .1 ≡ whole .1 → DayPart t day whole part at
@@ -138,9 +136,9 @@ module _ (t : Table) (day : ℕ) where
         none : (isExtract t && held (history t) day) ≡ false
         none = unfold hasDay in e
 
-  -- a part has ninety-six readings, or none: for a day that is not held, or a table that refusal 1 turns away, and for nothing else
-  pub part-whole : hasDay t day ≡ true → length (dayPart t day) ≡ 96
-  unfolding dayPart dayOf size
+  -- a part has a day's readings, or none: for a day that is not held, or a table that refusal 1 turns away, and for nothing else
+  pub part-whole : hasDay t day ≡ true → length (dayPart t day) ≡ size day
+  unfolding dayPart dayOf
   part-whole e =
       let w = has-is e in
       let k = has-inside e .2 in
@@ -169,5 +167,5 @@ module _ (t : Table) (day : ℕ) where
       place-from s = rw (← e, ne-eqb (length part) 0 some, part-some, s)
 
   -- it is a place among at most 128 days of readings
-  pub place-small : hasDay t day ≡ true → offset (t .first) (day - t .first) < 12288
-  place-small h = omega (arith, has-inside h .2, extract-is t (has-is h .0))
+  pub place-small : hasDay t day ≡ true → offset (t .first) (day - t .first) ≤ 128 * mostQuarters
+  place-small h = offset-small (t .first) (day - t .first) (has-few h)

@@ -11,7 +11,7 @@ use Rattle.rooms.specs.declared.Directory.{Directory}
 -- how many days have a room: the event day and the held days before it, at most 45; none where the event day is not held, or the table has
 -- more than 128 days
 unfoldable pub entriesOf : Table → ℕ → ℕ
-entriesOf t event = cond (leb (heldDays t) 128 && held (history t) event) (min 46 (event - t .first + 1)) 0
+entriesOf t event = cond (leb (heldDays t) 128 && held (history t) event) (min 46 (event + 1 - t .first)) 0
 
 -- entry i is day `event - i`; past the days that have a room every entry is nought
 unfoldable pub directoryOf : Table → ℕ → Directory
@@ -19,5 +19,5 @@ directoryOf t event =
     record {
       at = map (λ i. cond (ltb i (entriesOf t event)) (offset (t .first) (event - i - t .first)) 0) (places 46 0);
       marks = map (λ i. cond (ltb i (entriesOf t event)) (getD (t .marks) (event - i - t .first) 0) 0) (places 46 0);
-      held = entriesOf t event - 1;
+      held = entriesOf t event;
     }

@@ -2,7 +2,7 @@
 ghost use denote.Ref.{ptr};
 ghost use mathlib.Core.Path.{_≡_};
 ghost use mathlib.Core.List.{List};
-ghost use Prim.Native.Nat.{ℕ, _-_, _≤_};
+ghost use Prim.Native.Nat.{ℕ, _≤_};
 ghost use Rattle.method.specs.Table.{isExtract, held, history, offset};
 ghost use Rattle.table.specs.Lent.{tableOf};
 ghost use Rattle.table.specs.Directory.{entriesOf, directoryOf};
@@ -16,8 +16,13 @@ pub enum Place {
     From(u32),
 }
 
-// 31 December 2099
-const LAST_DAY: usize = 36524;
+// Where the readings of the day after so many days start: the one function that knows where a table keeps a day.
+fn offset(first: u32, days: usize) -> usize
+    requires { ⌜ days ≤ 128 ⌝ }
+    ensures { λ r. ⌜ r ≡ offset first days ⌝ }
+{
+    (day_ruler::size(first) as usize) * days
+}
 
 // Whether refusal 1 lets the table pass.
 pub fn is_extract(first: u32, marks: &[u8], readings: &[u32]) -> bool
@@ -30,10 +35,10 @@ pub fn is_extract(first: u32, marks: &[u8], readings: &[u32]) -> bool
     if days == 0 {
         return false;
     }
-    if readings.len() != 96 * days {
+    if readings.len() != offset(first, days) {
         return false;
     }
-    (first as usize) + days - 1 <= LAST_DAY
+    (first as usize) + days - 1 <= (dates::LAST_DAY as usize)
 }
 
 // Whether the table holds a day, whatever its readings.
@@ -58,14 +63,6 @@ fn has(first: u32, marks: &[u8], readings: &[u32], day: u32) -> bool
     }
 }
 
-// Where a day's readings start: the one function that knows where a table keeps a day.
-fn offset(first: u32, day: u32) -> usize
-    requires { ⌜ first ≤ day ⌝ }
-    ensures { λ r. ⌜ r ≡ offset first (day - first) ⌝ }
-{
-    96 * ((day - first) as usize)
-}
-
 // How many days have a room in the directory of an event.
 fn entries(first: u32, marks: &[u8], event: u32) -> u32
     ensures { λ r. ⌜ ((readings : List ℕ) → r ≡ entriesOf (tableOf first (now (marks .entry)) readings) event) ⌝ }
@@ -74,7 +71,7 @@ fn entries(first: u32, marks: &[u8], event: u32) -> u32
         return 0;
     }
     if is_held(first, marks, event) {
-        counts::least(46, event - first + 1)
+        counts::least(method::LOOK_BACK, event - first) + 1
     } else {
         0
     }
@@ -92,26 +89,26 @@ pub fn directory(first: u32, marks: &[u8], event: u32) -> Directory
     while i < entries {
         let day = event - i;
         let place = i as usize;
-        let mark = (day - first) as usize;
-        at[place] = offset(first, day) as u32;
-        kept[place] = marks[mark];
+        let before = (day - first) as usize;
+        at[place] = offset(first, before) as u32;
+        kept[place] = marks[before];
         i += 1;
     }
     Directory {
         at: at,
         marks: kept,
-        held: counts::minus(entries, 1),
+        held: entries,
     }
 }
 
-// The ninety-six readings of a day, as that part of the lent readings itself; an empty part for a day that is not held, or a table that
+// The readings of a day, as that part of the lent readings itself; an empty part for a day that is not held, or a table that
 // refusal 1 turns away.
 pub fn day_part<'a>(first: u32, marks: &[u8], readings: &'a [u32], day: u32) -> &'a [u32]
     ensures { λ r. ⌜ DayPart (tableOf first (now (marks .entry)) (now (readings .entry))) day (ptr (readings .entry)) (now r) (ptr r) ⌝ }
 {
     if has(first, marks, readings, day) {
-        let at = offset(first, day);
-        let end = at + 96;
+        let at = offset(first, (day - first) as usize);
+        let end = at + (day_ruler::size(day) as usize);
         &readings[at..end]
     } else {
         let none = 0;
@@ -127,6 +124,6 @@ pub fn part_place(first: u32, marks: &[u8], readings: &[u32], day: u32) -> Place
     if part.len() == 0 {
         Place::Nowhere
     } else {
-        Place::From(offset(first, day) as u32)
+        Place::From(offset(first, (day - first) as usize) as u32)
     }
 }

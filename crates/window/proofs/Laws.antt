@@ -1,24 +1,26 @@
 -- What callers need of sums and of the adjustment window: how large its sums are where the readings are good and present, B is a sum over the
 -- chosen days of what each has in the window, and where the window lies.
-use Prim.Native.Nat.{ℕ, zero, suc, _+_, _-_, _%_, _≤_, _<_, max}
+use Prim.Native.Nat.{ℕ, zero, suc, _+_, _-_, _≤_, _<_, max}
 use mathlib.Core.Path.{_≡_, refl, ap, ap₂, sym, _∙_}
-use mathlib.Core.Bool.{Bool, true, false}
-use mathlib.Core.List.{List, _∷_, _++_, map}
+use mathlib.Core.Bool.{Bool, true, false, _||_}
+use mathlib.Core.List.{List, [], _∷_, _++_, map}
 use mathlib.Core.Logic.{⊎-elim}
 use native.Mathlib.Omega.{arith}
-use borrow.Author.Tests.{leb-true, leb-false, eqb-true}
+use borrow.Author.Tests.{leb-true, eqb-true}
 use lib.Dec.{leb, eqb}
-use lib.ListN.{length, take, drop, getD, length-take, length-append, List·getD-append}
-use lib.Seq.{drop-cons}
+use lib.ListN.{length, take, drop, getD, length-take, length-append, List·getD-append, List·getD-eq-default}
+use lib.Seq.{drop-nil, take-nil}
 use Rattle.lists.specs.Lists.{all, sumOf}
 use Rattle.lists.proofs.All.{all-append, all-take, all-drop, all-both, map-all}
-use Rattle.lists.proofs.Bools.{bool-cases, both}
+use Rattle.lists.proofs.Bools.{bool-cases, both, either, lt-or-le}
 use Rattle.lists.proofs.Parts.{getD-append-past}
 use Rattle.lists.proofs.Sums.{sum-most, part-most, sum-swap}
 use Rattle.method.specs.declared.Request.{Request}
 use Rattle.method.specs.Table.{Day, present, goodReading}
+use Rattle.method.specs.Ruler.{rulerStart, quarterOf, against}
 use Rattle.method.specs.Adjustment.{twelve, windowEnds, latestEnd, adjustmentEnd, places, S, A, B}
 use Rattle.method.proofs.InRange.{in-range}
+use Rattle.method.proofs.Ruler.{quarter-before, quarter-from}
 use Rattle.window.proofs.Windows.{latest-here, latest-earlier, latest-none}
 
 -- ---- sums
@@ -42,52 +44,60 @@ day-most l end g t =
     let u = all-in-range l g t in
     part-most 10000000 (l ++ l) (end - 12) 12 (rw (all-append (λ x. leb x 10000000) l l, u))
 
--- the readings along a ruler, place by place
-along : (f : ℕ → ℕ) (l : List ℕ) → ((t : ℕ) → t < length l → f t ≡ getD l t 0) → (k a : ℕ) → a + k ≤ length l
-    → map f (places k a) ≡ take k (drop a l)
-unfolding places
-along f l same zero a h = refl
-along f l same (suc k) a h =
-    let o : a < length l = omega arith in
-    rw (drop-cons l a 0 o) (ap₂ (λ (x : ℕ) (xs : List ℕ). x ∷ xs) (same a o) (along f l same k (suc a) (omega arith)))
+-- the readings along a ruler, place by place: past its end there is nothing to add
+part-step : (l : List ℕ) (a k : ℕ) → sumOf (take (suc k) (drop a l)) ≡ getD l a 0 + sumOf (take k (drop (suc a) l))
+unfolding sumOf
+part-step [] a k = rw (drop-nil {A = ℕ} a, take-nil {A = ℕ} k)
+part-step (x ∷ l) zero k = refl
+part-step (x ∷ l) (suc a) k = part-step l a k
 
--- "the reading at quarter t mod 96" is the one at t on the ruler that has the day twice
-twice : (l : List ℕ) → length l ≡ 96 → (t : ℕ) → t < length (l ++ l) → getD l (t % 96) 0 ≡ getD (l ++ l) t 0
-twice l e t h = ⊎-elim second first (bool-cases (leb 96 t))
+along : (f : ℕ → ℕ) (l : List ℕ) → ((t : ℕ) → f t ≡ getD l t 0) → (k a : ℕ) → sumOf (map f (places k a)) ≡ sumOf (take k (drop a l))
+unfolding places sumOf
+along f l same zero a = refl
+along f l same (suc k) a = ap₂ (λ (x : ℕ) (y : ℕ). x + y) (same a) (along f l same k (suc a)) ∙ sym (part-step l a k)
+
+-- a window day stands on the ruler: it has as many readings as D-1, or none
+abbrev pub stands : ℕ → ℕ × Day → Bool
+stands event p = eqb (length (p .1 .readings)) (rulerStart event) || eqb (length (p .1 .readings)) 0
+
+-- its reading against a ruler quarter is the one there on the ruler that has the day twice
+twice : (event : ℕ) (l : List ℕ) → (eqb (length l) (rulerStart event) || eqb (length l) 0) ≡ true
+    → (t : ℕ) → getD l (against event t) 0 ≡ getD (l ++ l) t 0
+unfolding against
+twice event l w t =
+    ⊎-elim (λ e. ⊎-elim (before (eqb-true (length l) start e)) (since (eqb-true (length l) start e)) (lt-or-le t start))
+    (λ e. no-reading (eqb-true (length l) 0 e)) (either (eqb (length l) start) (eqb (length l) 0) w)
   where
-    second : leb 96 t ≡ true → getD l (t % 96) 0 ≡ getD (l ++ l) t 0
-    second u =
-        let k : t % 96 ≡ t - length l = omega (arith, leb-true 96 t u, length-append l l) in
-        ap (λ (n : ℕ). getD l n 0) k ∙ sym (getD-append-past l l t 0 (omega (arith, leb-true 96 t u)))
+    start : ℕ
+    start = rulerStart event
 
-    first : leb 96 t ≡ false → getD l (t % 96) 0 ≡ getD (l ++ l) t 0
-    first u =
-        let k : t % 96 ≡ t = omega (arith, leb-false 96 t u) in
-        ap (λ (n : ℕ). getD l n 0) k ∙ sym (List·getD-append l l 0 t (omega (arith, leb-false 96 t u)))
+    before : length l ≡ start → t < start → getD l (quarterOf event t) 0 ≡ getD (l ++ l) t 0
+    before e o = rw (quarter-before event t o) (sym (List·getD-append l l 0 t (rw (← e) at o)))
 
--- every chosen day has 96 readings
-abbrev pub whole : ℕ × Day → Bool
-whole p = eqb (length (p .1 .readings)) 96
+    since : length l ≡ start → start ≤ t → getD l (quarterOf event t) 0 ≡ getD (l ++ l) t 0
+    since e o = rw (quarter-from event t o, ← e) (sym (getD-append-past l l t 0 (rw (← e) at o)))
+
+    no-reading : length l ≡ 0 → getD l (quarterOf event t) 0 ≡ getD (l ++ l) t 0
+    no-reading e =
+        List·getD-eq-default l 0 (omega (arith, e)) ∙ sym (List·getD-eq-default (l ++ l) 0 (omega (arith, e, length-append l l)))
 
 -- the sums swapped: S over any quarters of the ruler is a sum over the days
-pub S-by-days : (chosen : List (ℕ × Day)) (k a : ℕ) → all whole chosen ≡ true → a + k ≤ 192
-    → sumOf (map (S chosen) (places k a)) ≡ sumOf (map (λ (p : ℕ × Day). sumOf (take k (drop a (p .1 .readings ++ p .1 .readings)))) chosen)
+pub S-by-days : (event : ℕ) (chosen : List (ℕ × Day)) (k a : ℕ) → all (stands event) chosen ≡ true
+    → sumOf (map (S event chosen) (places k a)) ≡ sumOf (map (λ (p : ℕ × Day). sumOf (take k (drop a (p .1 .readings ++ p .1 .readings)))) chosen)
 unfolding S
-S-by-days chosen k a t h =
-    sum-swap (λ (q : ℕ) (p : ℕ × Day). getD (p .1 .readings) (q % 96) 0) (places k a) chosen
-    ∙ ap sumOf (map-all whole _ _ day chosen t)
+S-by-days event chosen k a t =
+    sum-swap (λ (q : ℕ) (p : ℕ × Day). getD (p .1 .readings) (against event q) 0) (places k a) chosen
+    ∙ ap sumOf (map-all (stands event) _ _ day chosen t)
   where
-    day : (p : ℕ × Day) → whole p ≡ true
-        → sumOf (map (λ (q : ℕ). getD (p .1 .readings) (q % 96) 0) (places k a)) ≡ sumOf (take k (drop a (p .1 .readings ++ p .1 .readings)))
-    day p w =
-        let l = p .1 .readings in
-        let e = eqb-true (length l) 96 w in
-        ap sumOf (along (λ (q : ℕ). getD l (q % 96) 0) (l ++ l) (twice l e) k a (omega (arith, length-append l l)))
+    day : (p : ℕ × Day) → stands event p ≡ true
+        → sumOf (map (λ (q : ℕ). getD (p .1 .readings) (against event q) 0) (places k a)) ≡ sumOf (take k (drop a (p .1 .readings ++ p .1 .readings)))
+    day p w = along (λ (q : ℕ). getD (p .1 .readings) (against event q) 0) (p .1 .readings ++ p .1 .readings) (twice event (p .1 .readings) w) k a
 
-pub B-by-days : (chosen : List (ℕ × Day)) (end : ℕ) → all whole chosen ≡ true → 12 ≤ end → end ≤ 192
-    → B chosen end ≡ sumOf (map (λ (p : ℕ × Day). A (p .1 .readings ++ p .1 .readings) end) chosen)
+-- B is what each window day has in the window, as if it stood twice on the ruler
+pub B-by-days : (event : ℕ) (chosen : List (ℕ × Day)) (end : ℕ) → all (stands event) chosen ≡ true
+    → B event chosen end ≡ sumOf (map (λ (p : ℕ × Day). A (p .1 .readings ++ p .1 .readings) end) chosen)
 unfolding A B
-B-by-days chosen end t h h′ = S-by-days chosen 12 (end - 12) t (omega arith)
+B-by-days event chosen end t = S-by-days event chosen 12 (end - 12) t
 
 -- ---- where the adjustment window lies
 

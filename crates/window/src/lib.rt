@@ -5,11 +5,9 @@ ghost use Prim.Native.Nat.{_≤_};
 ghost use lib.ListN.{getD};
 ghost use Rattle.method.specs.Adjustment.{A as twelveSum, windowEnds, latestEnd, adjustmentEnd};
 ghost use Rattle.window.specs.Steps.{RunBefore};
+use method::MISSING;
 use method::Request;
 use numbers::sizes;
-
-// 01: "4,294,967,295 means missing"
-const MISSING: u32 = 4294967295;
 
 // The reading at a place of the two-day ruler; 0 past its end.
 fn reading_at(place: u32, yesterday: &[u32], today: &[u32]) -> u32

@@ -17,8 +17,8 @@ returns : tie.Need-returns
 returns c =
     let a = c .before .before .before .args in
     let far = c .before .before .whole-reach in
-    c .refused .ensures ∙ short-of-days (a .request) (N (a .group)) (a .found) (a .held) (far .result) (c .before .if1 .taken)
-    ∙ ap (amongFew (a .request) (N (a .group)) (a .found) (a .held)) (far .ensures)
+    c .refused .ensures ∙ short-of-days (a .request) (N (a .group)) (a .found) (a .before) (far .result) (c .before .if1 .taken)
+    ∙ ap (amongFew (a .request) (N (a .group)) (a .found) (a .before)) (far .ensures)
 
 fill-requires : tie.Need-fill-requires
 fill-requires c κs = search needs
@@ -34,8 +34,8 @@ returns-2 c =
     let a = c .before .before .before .before .before .before .args in
     let far = c .before .before .before .before .before .whole-reach in
     let too-few = rw (c .before .before .before .fill .ensures) at (c .before .if2 .taken) in
-    c .refused2 .ensures ∙ few-days (a .request) (N (a .group)) (a .found) (a .held) (far .result) (c .before .before .before .before .if1 .left) too-few
-    ∙ ap (amongFew (a .request) (N (a .group)) (a .found) (a .held)) (far .ensures)
+    c .refused2 .ensures ∙ few-days (a .request) (N (a .group)) (a .found) (a .before) (far .result) (c .before .before .before .before .if1 .left) too-few
+    ∙ ap (amongFew (a .request) (N (a .group)) (a .found) (a .before)) (far .ensures)
 
 minus-requires : tie.Need-minus-requires
 minus-requires c κs = search needs
@@ -55,8 +55,8 @@ returns-3 c =
     let far = c .before .before .before .before .before .before .before .before .before .whole-reach in
     let wanted = c .before .before .before .before .before .before .before .fill .ensures in
     c .first-of .ensures ∙ rw (c .before .insert-all .ensures, c .before .before .minus .ensures, wanted)
-    (enough-days (a .request) (N (a .group)) (a .found) (a .held) (far .result) (c .before .before .before .before .before .before .before .before .if1 .left) (rw wanted at (c .before .before .before .before .before .if2 .left))
-    ∙ ap (amongFew (a .request) (N (a .group)) (a .found) (a .held)) (far .ensures))
+    (enough-days (a .request) (N (a .group)) (a .found) (a .before) (far .result) (c .before .before .before .before .before .before .before .before .if1 .left) (rw wanted at (c .before .before .before .before .before .if2 .left))
+    ∙ ap (amongFew (a .request) (N (a .group)) (a .found) (a .before)) (far .ensures))
 
 pub choose-among-few-spec : {M : Type 1} → statement M
 choose-among-few-spec =

@@ -7,18 +7,17 @@ use lib.ListN.{getD}
 use Rattle.calendar.specs.Holidays.{group as groupOf}
 use Rattle.judging.specs.Judging.{room}
 use Rattle.choose.specs.Look.{roomsOf}
-use Rattle.rooms.proofs.Parts.{part-few}
-use Rattle.choose.proofs.Judging.{room-back}
+use Rattle.choose.proofs.Judging.{room-back, part-most}
 use Rattle.choose.proofs.Looking.{Back, back-start, back-further, back-more, back-full, back-end}
 use Rattle.choose.proofs.look.Statement.{statement}
 use Rattle.choose.proofs.look.Tie as tie
 
 abbrev Inv-loop : tie.InvT-loop
-Inv-loop request group readings held rooms wanted found₀ back₀ found back =
-    Back groupOf request (roomsOf request rooms readings) wanted held back found
+Inv-loop request group readings before rooms wanted found₀ back₀ found back =
+    Back groupOf request (roomsOf request rooms readings) wanted before back found
 
 abbrev μ-loop : tie.MeasureT-loop
-μ-loop request group readings held rooms wanted found₀ back₀ found back = held - back
+μ-loop request group readings before rooms wanted found₀ back₀ found back = before - back
 
 most-requires : tie.Need-most-requires Inv-loop μ-loop
 most-requires c κs = search needs
@@ -26,7 +25,7 @@ most-requires c κs = search needs
 loop-holds : tie.Need-loop-holds Inv-loop μ-loop
 loop-holds c =
     let a = c .before .before .args in
-    back-start groupOf (a .request) (roomsOf (a .request) (a .t3) (a .readings .now)) (c .most .result) (a .held)
+    back-start groupOf (a .request) (roomsOf (a .request) (a .t3) (a .readings .now)) (c .most .result) (a .before)
 
 returns : tie.Need-returns Inv-loop μ-loop
 returns c =
@@ -38,25 +37,32 @@ add-back c = omega arith
 cast-place : tie.Need-cast-place Inv-loop μ-loop
 cast-place c = omega arith
 
-mul-part-at : tie.Need-mul-part-at Inv-loop μ-loop
-mul-part-at c = omega arith
+sub-size : tie.Need-sub-size Inv-loop μ-loop
+sub-size c = omega arith
 
-element-copy-out-part-at : tie.Need-element-copy-out-part-at Inv-loop μ-loop
-element-copy-out-part-at c = omega arith
+size-requires : tie.Need-size-requires Inv-loop μ-loop
+size-requires c κs = search needs
 
-part-at-requires : tie.Need-part-at-requires Inv-loop μ-loop
-part-at-requires c κs = search needs
+mul-readings-at : tie.Need-mul-readings-at Inv-loop μ-loop
+mul-readings-at c = omega arith
+
+element-copy-out-readings-at : tie.Need-element-copy-out-readings-at Inv-loop μ-loop
+element-copy-out-readings-at c = omega arith
+
+readings-at-requires : tie.Need-readings-at-requires Inv-loop μ-loop
+readings-at-requires c κs = search needs
 
 element-copy-out-with-day : tie.Need-element-copy-out-with-day Inv-loop μ-loop
 element-copy-out-with-day c = omega arith
 
 with-day-requires : tie.Need-with-day-requires Inv-loop μ-loop
 with-day-requires c κs =
-    let s = c .before .before .before .before .before .before .before .before .before in
-    let l = c .before .before .before .before .before .before .loop in (
+    let s = c .before .before .before .before .before .before .before .before .before .before .before in
+    let l = c .before .before .before .before .before .before .before .before .loop in (
       s .pre .0,
-      back-further (l .inv) (c .before .before .before .before .before .loop-test .taken) (s .pre .1) (s .pre .2),
-      rw (c .before .part-at .ensures .list) (part-few (s .args .readings .now) (getD (s .args .t3 .at) (l .back + 1) 0)),
+      back-further (l .inv) (c .before .before .before .before .before .before .before .loop-test .taken) (s .pre .1) (s .pre .2),
+      rw (c .before .readings-at .ensures .list)
+          (part-most (s .args .readings .now) (getD (s .args .t3 .at) (l .back + 1) 0) (s .args .request .event - (l .back + 1)) (c .before .before .before .size .ensures)),
     )
 
 loop-less : tie.Need-loop-less Inv-loop μ-loop
@@ -64,12 +70,12 @@ loop-less c = omega arith
 
 loop-again : tie.Need-loop-again Inv-loop μ-loop
 loop-again c =
-    let s = c .before .before .before .before .before .before .before .before .before .before in
+    let s = c .before .before .before .before .before .before .before .before .before .before .before .before in
     let a = s .args in
-    let l = c .before .before .before .before .before .before .before .loop in
-    let part = ap (room (getD (a .t3 .marks) (l .back + 1) 0)) (c .before .before .part-at .ensures .list) in
+    let l = c .before .before .before .before .before .before .before .before .before .loop in
+    let part = ap (room (getD (a .t3 .marks) (l .back + 1) 0)) (rw (c .before .before .before .before .size .ensures) at (c .before .before .readings-at .ensures .list)) in
     let here = room-back (a .request) (a .t3) (a .readings .now) (l .back + 1) (omega arith) in
-    back-more (l .inv) (c .before .before .before .before .before .before .loop-test .taken) (s .pre .2) (c .before .before .before .before .if1 .left) (rw (part ∙ here) at (c .with-day .ensures))
+    back-more (l .inv) (c .before .before .before .before .before .before .before .before .loop-test .taken) (s .pre .2) (c .before .before .before .before .before .before .if1 .left) (rw (part ∙ here) at (c .with-day .ensures))
 
 returns-2 : tie.Need-returns-2 Inv-loop μ-loop
 returns-2 c =
@@ -86,9 +92,11 @@ look-spec =
     returns
     add-back
     cast-place
-    mul-part-at
-    element-copy-out-part-at
-    part-at-requires
+    sub-size
+    size-requires
+    mul-readings-at
+    element-copy-out-readings-at
+    readings-at-requires
     element-copy-out-with-day
     with-day-requires
     loop-less

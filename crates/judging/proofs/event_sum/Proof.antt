@@ -4,14 +4,14 @@ use Rattle.judging.proofs.Judging.{event-part}
 use Rattle.judging.proofs.event_sum.Statement.{statement}
 use Rattle.judging.proofs.event_sum.Tie as tie
 
-minus-requires : tie.Need-minus-requires
-minus-requires c κs = search needs
+against-requires : tie.Need-against-requires
+against-requires c κs = search needs
 
 cast-start : tie.Need-cast-start
 cast-start c = search needs
 
-minus-requires-2 : tie.Need-minus-requires-2
-minus-requires-2 c κs = search needs
+minus-requires : tie.Need-minus-requires
+minus-requires c κs = search needs
 
 cast-end : tie.Need-cast-end
 cast-end c = search needs
@@ -25,16 +25,16 @@ sum-between-requires c κs = search needs
 returns : tie.Need-returns
 returns c =
     let a = c .before .before .before .before .args in
-    event-part (a .request) (a .part .now) (c .before .before .minus .result) (c .before .minus2 .result) (c .sum-between .result)
-    (c .before .before .minus .ensures) (c .before .minus2 .ensures) (c .sum-between .ensures)
+    event-part (a .request) (a .part .now) (c .before .before .against .result) (c .before .minus .result) (c .sum-between .result)
+    (c .before .before .against .ensures) (c .before .minus .ensures) (c .sum-between .ensures)
 
 pub event-sum-spec : {M : Type 1} → statement M
 event-sum-spec =
     tie.close
     (tie.spec
-    minus-requires
+    against-requires
     cast-start
-    minus-requires-2
+    minus-requires
     cast-end
     add-end
     sum-between-requires

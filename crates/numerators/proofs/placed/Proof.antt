@@ -19,6 +19,9 @@ loop-holds : tie.Need-loop-holds Inv-loop μ-loop
 unfolding filled places
 loop-holds c = (omega arith, refl)
 
+slice-aggregate-start-of : tie.Need-slice-aggregate-start-of Inv-loop μ-loop
+slice-aggregate-start-of c = search needs
+
 mul-minus : tie.Need-mul-minus Inv-loop μ-loop
 mul-minus c = omega arith
 
@@ -45,22 +48,28 @@ loop-less c = omega arith
 
 loop-again : tie.Need-loop-again Inv-loop μ-loop
 loop-again c =
-    let a = c .before .before .before .before .before .args in
-    let l = c .before .before .before .loop in (
+    let a = c .before .before .before .before .before .before .args in
+    let l = c .before .before .before .before .loop in (
       omega arith,
       rw (l .inv .1) (filled-more (λ j. getD (a .rooms .at) (a .request .event - getD (a .t3) j 0) 0) 5 (l .k) (c .start-of .result) (omega arith)
           (c .start-of .ensures ∙ ap (λ n. getD (a .rooms .at) n 0) (c .before .minus .ensures))),
     )
 
-minus-requires-2 : tie.Need-minus-requires-2 Inv-loop μ-loop
-minus-requires-2 c κs = search needs
+array-read-size : tie.Need-array-read-size Inv-loop μ-loop
+array-read-size c = search needs
+
+size-requires : tie.Need-size-requires Inv-loop μ-loop
+size-requires c κs = search needs
+
+against-requires : tie.Need-against-requires Inv-loop μ-loop
+against-requires c κs = search needs
 
 returns : tie.Need-returns Inv-loop μ-loop
 returns c =
-    let a = c .before .before .before .before .args in
-    let l = c .before .before .loop in
+    let a = c .before .before .before .before .before .args in
+    let l = c .before .before .before .loop in
     let all = l .inv .1 ∙ filled-all (λ j. getD (a .rooms .at) (a .request .event - getD (a .t3) j 0) 0) 5 (l .k) (omega arith) in
-    λ i. record { at = all i; count = a .count; end = a .end; start = c .minus2 .ensures i }
+    λ i. record { at = all i; count = a .count; quarters = c .before .size .ensures i; end = a .end; start = c .against .ensures i }
 
 pub placed-spec : {M : Type 1} → statement M
 placed-spec =
@@ -69,6 +78,7 @@ placed-spec =
     Inv-loop
     μ-loop
     loop-holds
+    slice-aggregate-start-of
     mul-minus
     array-read-minus
     minus-requires
@@ -78,5 +88,7 @@ placed-spec =
     add-k
     loop-less
     loop-again
-    minus-requires-2
+    array-read-size
+    size-requires
+    against-requires
     returns)

@@ -9,14 +9,14 @@ use Rattle.numerators.proofs.start_of.Tie as tie
 mul-result : tie.Need-mul-result
 mul-result c = search needs
 
-array-read-result : tie.Need-array-read-result
-array-read-result c = search needs
+shared-slice-read-result : tie.Need-shared-slice-read-result
+shared-slice-read-result c = search needs
 
 returns : tie.Need-returns
 returns c = search needs
 
 returns-2 : tie.Need-returns-2
-returns-2 c = sym (List·getD-eq-default (c .before .args .t1) 0 (omega arith))
+returns-2 c = sym (List·getD-eq-default (c .before .args .starts .now) 0 (omega arith))
 
 pub start-of-spec : {M : Type 1} → statement M
-start-of-spec = tie.close (tie.spec mul-result array-read-result returns returns-2)
+start-of-spec = tie.close (tie.spec mul-result shared-slice-read-result returns returns-2)

@@ -11,23 +11,23 @@ use Rattle.numerators.proofs.sum_windows.Statement.{statement}
 use Rattle.numerators.proofs.sum_windows.Tie as tie
 
 abbrev Inv-loop : tie.InvT-loop
-Inv-loop readings count end at total₀ k₀ total k = (k ≤ count) × (total ≡ windowSums readings (take k at) end)
+Inv-loop readings count quarters end at total₀ k₀ total k = (k ≤ count) × (total ≡ windowSums quarters readings (take k at) end)
 
 abbrev μ-loop : tie.MeasureT-loop
-μ-loop readings count end at total₀ k₀ total k = count - k
+μ-loop readings count quarters end at total₀ k₀ total k = count - k
 
 loop-holds : tie.Need-loop-holds Inv-loop μ-loop
 unfolding windowSums sumOf
 loop-holds c = (omega arith, refl)
 
-mul-part-at : tie.Need-mul-part-at Inv-loop μ-loop
-mul-part-at c = search needs
+mul-readings-at : tie.Need-mul-readings-at Inv-loop μ-loop
+mul-readings-at c = search needs
 
-array-read-part-at : tie.Need-array-read-part-at Inv-loop μ-loop
-array-read-part-at c = omega arith
+array-read-readings-at : tie.Need-array-read-readings-at Inv-loop μ-loop
+array-read-readings-at c = omega arith
 
-part-at-requires : tie.Need-part-at-requires Inv-loop μ-loop
-part-at-requires c κs = search needs
+readings-at-requires : tie.Need-readings-at-requires Inv-loop μ-loop
+readings-at-requires c κs = search needs
 
 window-sum-requires : tie.Need-window-sum-requires Inv-loop μ-loop
 window-sum-requires c κs = search needs
@@ -37,9 +37,9 @@ add-total c =
     let s = c .before .before .before .before .before in
     let a = s .args in
     let l = c .before .before .before .loop in
-    let next = windows-next (a .readings .now) (a .t2) (a .end) (l .total) (l .k) (c .window-sum .result) (omega arith) (l .inv .1)
-    (c .before .part-at .ensures .list) (c .window-sum .ensures) in
-    let few = windows-few (a .readings .now) (a .t2) (a .end) (l .k + 1)
+    let next = windows-next (a .quarters) (a .readings .now) (a .t2) (a .end) (l .total) (l .k) (c .window-sum .result) (omega arith) (l .inv .1)
+    (c .before .readings-at .ensures .list) (c .window-sum .ensures) in
+    let few = windows-few (a .quarters) (a .readings .now) (a .t2) (a .end) (l .k + 1)
     (all-small (a .readings .now) (c .before .before .before .before .shared-slice-known .given)) (omega arith) in
     omega (arith, next, few)
 
@@ -54,8 +54,8 @@ loop-again c =
     let a = c .before .before .before .before .before .args in
     let l = c .before .before .before .loop in (
       omega arith,
-      windows-next (a .readings .now) (a .t2) (a .end) (l .total) (l .k) (c .window-sum .result) (omega arith) (l .inv .1)
-          (c .before .part-at .ensures .list) (c .window-sum .ensures),
+      windows-next (a .quarters) (a .readings .now) (a .t2) (a .end) (l .total) (l .k) (c .window-sum .result) (omega arith) (l .inv .1)
+          (c .before .readings-at .ensures .list) (c .window-sum .ensures),
     )
 
 returns : tie.Need-returns Inv-loop μ-loop
@@ -65,7 +65,7 @@ returns c =
     let l = c .before .loop in
     let e : l .k ≡ a .count = omega arith in
     let total = rw e at (l .inv .1) in
-    let few = windows-few (a .readings .now) (a .t2) (a .end) (a .count)
+    let few = windows-few (a .quarters) (a .readings .now) (a .t2) (a .end) (a .count)
     (all-small (a .readings .now) (c .before .before .shared-slice-known .given)) (s .pre) in
     (total, omega (arith, total, few))
 
@@ -76,9 +76,9 @@ sum-windows-spec =
     Inv-loop
     μ-loop
     loop-holds
-    mul-part-at
-    array-read-part-at
-    part-at-requires
+    mul-readings-at
+    array-read-readings-at
+    readings-at-requires
     window-sum-requires
     add-total
     add-k

@@ -6,6 +6,8 @@ use lib.ListN.{length, take, drop}
 use borrow.Author.Needs.{needs}
 use Rattle.lines.specs.Lines.{linesText}
 use Rattle.lines.specs.Listing.{quarterLines}
+use Rattle.method.specs.Table.{mostQuarters}
+use Rattle.quarter_lines.specs.Room.{lineRoom}
 use Rattle.lines.proofs.Writing.{Writing, writing-begin, no-room, with-room}
 use Rattle.quarter_lines.proofs.Quarters.{quarters-next, quarters-end, those-there}
 use Rattle.quarter_lines.proofs.put_quarters.Statement.{statement}
@@ -17,7 +19,7 @@ Inv-loop out₀ at denominator numerators quarters count place₀ t₀ i₀ out 
     (linesText (quarterLines denominator t (drop i (take count numerators)))))
     × (i ≤ count)
     × (t ≡ t₀ + i)
-    × (place ≤ at + 33 * i)
+    × (place ≤ at + lineRoom * i)
     × (length out ≡ length out₀)
 
 abbrev μ-loop : tie.MeasureT-loop
@@ -32,11 +34,11 @@ returns c = no-room (omega arith)
 minus-requires-2 : tie.Need-minus-requires-2 Inv-loop μ-loop
 minus-requires-2 c κs = tt
 
+cast-quarters : tie.Need-cast-quarters Inv-loop μ-loop
+cast-quarters c = search needs
+
 least-requires : tie.Need-least-requires Inv-loop μ-loop
 least-requires c κs = tt
-
-cast-least : tie.Need-cast-least Inv-loop μ-loop
-cast-least c = search needs
 
 least-requires-2 : tie.Need-least-requires-2 Inv-loop μ-loop
 least-requires-2 c κs = tt
@@ -75,7 +77,7 @@ returns-2 : tie.Need-returns-2 Inv-loop μ-loop
 returns-2 c =
     let l = c .before .before .before in
     let a = l .before .before .before .before .before .before .args in
-    let same = those-there (a .request .e - a .request .s) (a .numerators .now) (c .before .before .least2 .ensures) (l .least .ensures) (l .before .minus2 .ensures) in
+    let same = those-there mostQuarters (a .request .e - a .request .s) (a .numerators .now) (c .before .before .least2 .ensures) (l .least .ensures) (l .before .minus2 .ensures) in
     let all = quarters-end _ _ _ _ _ (omega arith) (c .before .loop .inv .0) (c .loop-test .left) in
     with-room (omega arith) (rw same at all) (omega arith)
 
@@ -88,8 +90,8 @@ put-quarters-spec =
     minus-requires
     returns
     minus-requires-2
+    cast-quarters
     least-requires
-    cast-least
     least-requires-2
     loop-holds
     mul-put-quarter

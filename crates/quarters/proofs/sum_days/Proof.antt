@@ -16,10 +16,10 @@ cleared : (n : ℕ) {after : List ℕ} → after ≡ map (λ q. 0) (places n 0) 
 cleared n e = ap length e ∙ length-over (λ q. 0) n 0
 
 abbrev Inv-loop : tie.InvT-loop
-Inv-loop readings count start sums₀ at days k₀ sums k = (k ≤ days) × Added readings at start (length sums₀) sums k
+Inv-loop readings count size start sums₀ at days k₀ sums k = (k ≤ days) × Added size readings at start (length sums₀) sums k
 
 abbrev μ-loop : tie.MeasureT-loop
-μ-loop readings count start sums₀ at days k₀ sums k = days - k
+μ-loop readings count size start sums₀ at days k₀ sums k = days - k
 
 clear-requires : tie.Need-clear-requires Inv-loop μ-loop
 clear-requires c κs = search needs
@@ -31,16 +31,16 @@ loop-holds : tie.Need-loop-holds Inv-loop μ-loop
 loop-holds c =
     let e = c .before .before .before .clear .ensures in
     let n = length (c .before .before .before .before .before .before .before .args .sums .now) in
-    (omega arith, added-begin _ _ _ _ (e ∙ ap (λ (n : ℕ). map (λ q. 0) (places n 0)) (sym (cleared n e))))
+    (omega arith, added-begin _ _ _ _ _ (e ∙ ap (λ (n : ℕ). map (λ q. 0) (places n 0)) (sym (cleared n e))))
 
-mul-part-at : tie.Need-mul-part-at Inv-loop μ-loop
-mul-part-at c = omega arith
+mul-readings-at : tie.Need-mul-readings-at Inv-loop μ-loop
+mul-readings-at c = omega arith
 
-array-read-part-at : tie.Need-array-read-part-at Inv-loop μ-loop
-array-read-part-at c = omega arith
+array-read-readings-at : tie.Need-array-read-readings-at Inv-loop μ-loop
+array-read-readings-at c = omega arith
 
-part-at-requires : tie.Need-part-at-requires Inv-loop μ-loop
-part-at-requires c κs = search needs
+readings-at-requires : tie.Need-readings-at-requires Inv-loop μ-loop
+readings-at-requires c κs = search needs
 
 add-day-requires : tie.Need-add-day-requires Inv-loop μ-loop
 add-day-requires c κs = search needs
@@ -54,12 +54,12 @@ loop-less c = omega arith
 loop-again : tie.Need-loop-again Inv-loop μ-loop
 loop-again c =
     let l = c .before .before .before .before .before .before .loop in
-    (omega arith, added-next _ _ _ _ (l .inv .1) (omega arith) (c .before .before .before .before .part-at .ensures .list) (c .before .before .add-day .ensures))
+    (omega arith, added-next _ _ _ _ _ (l .inv .1) (omega arith) (c .before .before .before .before .readings-at .ensures .list) (c .before .before .add-day .ensures))
 
 same-length : tie.Need-same-length Inv-loop μ-loop
 same-length c =
     let n = length (c .before .before .before .before .before .before .before .before .before .args .sums .now) in
-    c .before .loop .inv .1 .size ∙ cleared n (c .before .before .before .before .before .clear .ensures)
+    c .before .loop .inv .1 .long ∙ cleared n (c .before .before .before .before .before .clear .ensures)
 
 returns : tie.Need-returns Inv-loop μ-loop
 returns c =
@@ -77,9 +77,9 @@ sum-days-spec =
     clear-requires
     least-requires
     loop-holds
-    mul-part-at
-    array-read-part-at
-    part-at-requires
+    mul-readings-at
+    array-read-readings-at
+    readings-at-requires
     add-day-requires
     add-k
     loop-less

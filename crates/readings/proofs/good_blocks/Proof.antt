@@ -4,7 +4,7 @@ use mathlib.Core.Path.{_∙_}
 use borrow.Author.Needs.{needs}
 use lib.ListN.{length}
 use Rattle.lists.proofs.All.{leading-part}
-use Rattle.method.specs.Table.{goodReading}
+use Rattle.method.specs.Table.{mostQuarters, goodReading}
 use Rattle.readings.specs.Steps.{GoodBefore}
 use Rattle.readings.proofs.good_blocks.Statement.{statement}
 use Rattle.readings.proofs.good_blocks.Tie as tie
@@ -49,7 +49,7 @@ loop-again c =
     let good = c .before .block-is-good .ensures (c .if1 .taken) in
     record {
       within = search needs;
-      passed = leading-part goodReading xs (l .at) (l .at + 96) (search needs) (search needs) good ∙ l .inv .passed;
+      passed = leading-part goodReading xs (l .at) (l .at + mostQuarters) (search needs) (search needs) good ∙ l .inv .passed;
     }
 
 returns : tie.Need-returns Inv-loop μ-loop

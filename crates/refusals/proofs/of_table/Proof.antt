@@ -2,8 +2,9 @@
 use mathlib.Core.Path.{sym, _∙_}
 use native.Mathlib.Omega.{arith}
 use borrow.Author.Needs.{needs}
+use lib.ListN.{length}
 use Rattle.table.specs.Lent.{tableOf}
-use Rattle.table.proofs.Extracts.{extract-is}
+use Rattle.table.proofs.Extracts.{extract-is, offset-small}
 use Rattle.refusals.proofs.FirstRefusal.{bad-table, bad-mark, bad-reading, good-table}
 use Rattle.refusals.proofs.of_table.Statement.{statement}
 use Rattle.refusals.proofs.of_table.Tie as tie
@@ -39,7 +40,8 @@ cast-t13 c =
     let a = d .before .before .before .args in
     let t = tableOf (a .first) (a .marks .now) (a .readings .now) in
     let extract = sym (d .is-extract .ensures) ∙ c .before .before .before .before .if1 .taken in
-    omega (arith, extract-is t extract)
+    let x = extract-is t extract in
+    omega (arith, x .sized, offset-small (a .first) (length (a .marks .now)) (x .most))
 
 returns-2 : tie.Need-returns-2
 returns-2 c =

@@ -7,10 +7,10 @@ use borrow.Author.Needs.{needs}
 use lib.ListN.{getD}
 use Rattle.method.specs.Table.{offset}
 use Rattle.method.specs.Adjustment.{places}
-use Rattle.method.proofs.Tables.{offset-is}
 use Rattle.places.proofs.Places.{filled, filled-more}
 use Rattle.table.specs.Lent.{tableOf}
 use Rattle.table.specs.Directory.{entriesOf}
+use Rattle.table.proofs.Extracts.{offset-small}
 use Rattle.table.proofs.Rooms.{Entry, entry, directory-is}
 use Rattle.table.proofs.directory.Statement.{statement}
 use Rattle.table.proofs.directory.Tie as tie
@@ -40,11 +40,11 @@ sub-day c = let e = within (c .before .before .entries .ensures) (c .loop-test .
 cast-place : tie.Need-cast-place Inv-loop μ-loop
 cast-place c = search needs
 
-sub-mark : tie.Need-sub-mark Inv-loop μ-loop
-sub-mark c = let e = within (c .before .before .entries .ensures) (c .loop-test .taken) in omega arith
+sub-before : tie.Need-sub-before Inv-loop μ-loop
+sub-before c = let e = within (c .before .before .entries .ensures) (c .loop-test .taken) in omega arith
 
-cast-mark : tie.Need-cast-mark Inv-loop μ-loop
-cast-mark c = search needs
+cast-before : tie.Need-cast-before Inv-loop μ-loop
+cast-before c = search needs
 
 offset-requires : tie.Need-offset-requires Inv-loop μ-loop
 offset-requires c κs = let e = within (c .before .before .entries .ensures) (c .loop-test .taken) in omega arith
@@ -53,7 +53,8 @@ cast-at : tie.Need-cast-at Inv-loop μ-loop
 cast-at c =
     let a = c .before .before .before .before .before .args in
     let e = within (c .before .before .before .entries .ensures) (c .before .loop-test .taken) in
-    omega (arith, offset-is (a .first) (a .event - c .before .before .loop .i - a .first))
+    let most = offset-small (a .first) (a .event - c .before .before .loop .i - a .first) (omega arith) in
+    omega (arith, c .offset .ensures, most)
 
 mul-at : tie.Need-mul-at Inv-loop μ-loop
 mul-at c = let e = within (c .before .before .before .entries .ensures) (c .before .loop-test .taken) in omega arith
@@ -85,17 +86,14 @@ loop-again c =
           (getD (a .marks .now) (a .event - l .i - a .first) 0) (e .place) refl),
     )
 
-minus-requires : tie.Need-minus-requires Inv-loop μ-loop
-minus-requires c κs = search needs
-
 returns : tie.Need-returns Inv-loop μ-loop
 returns c = λ readings.
-    let a = c .before .before .before .before .before .args in
-    let l = c .before .before .loop in
-    let n = c .before .before .before .entries .result in
-    let all : l .i ≡ n = omega (arith, l .inv .0, c .before .loop-test .left) in
-    directory-is (a .first) (a .marks .now) readings (a .event) n (c .minus .result)
-    (c .before .before .before .entries .ensures readings) (c .minus .ensures) (rw all at (l .inv .1)) (rw all at (l .inv .2))
+    let a = c .before .before .before .before .args in
+    let l = c .before .loop in
+    let n = c .before .before .entries .result in
+    let all : l .i ≡ n = omega (arith, l .inv .0, c .loop-test .left) in
+    directory-is (a .first) (a .marks .now) readings (a .event) n (c .before .before .entries .ensures readings) (rw all at (l .inv .1))
+    (rw all at (l .inv .2))
 
 pub directory-spec : {M : Type 1} → statement M
 directory-spec =
@@ -107,8 +105,8 @@ directory-spec =
     loop-holds
     sub-day
     cast-place
-    sub-mark
-    cast-mark
+    sub-before
+    cast-before
     offset-requires
     cast-at
     mul-at
@@ -118,5 +116,4 @@ directory-spec =
     add-i
     loop-less
     loop-again
-    minus-requires
     returns)

@@ -1,10 +1,9 @@
 -- `table::entries` meets its contract: each way out is a law of `Rooms`.
 use mathlib.Core.Path.{sym, _∙_}
 use mathlib.Core.List.{[]}
-use native.Mathlib.Omega.{arith}
 use borrow.Author.Needs.{needs}
 use Rattle.method.specs.Table.{history}
-use Rattle.method.proofs.Histories.{held-first, held-last}
+use Rattle.method.proofs.Histories.{held-first}
 use Rattle.table.specs.Lent.{tableOf}
 use Rattle.table.proofs.Rooms.{entries-many, entries-none, entries-are}
 use Rattle.table.proofs.entries.Statement.{statement}
@@ -23,22 +22,17 @@ sub-least c =
     let a = c .before .before .before .before .args in
     held-first (history (tableOf (a .first) (a .marks .now) [])) (a .event) (sym (c .before .is-held .ensures []) ∙ c .if2 .taken)
 
-add-least : tie.Need-add-least
-add-least c =
-    let a = c .before .before .before .before .args in
-    let h = history (tableOf (a .first) (a .marks .now) []) in
-    let e = sym (c .before .is-held .ensures []) ∙ c .if2 .taken in
-    omega (arith, held-first h (a .event) e, held-last h (a .event) e, c .before .before .if1 .left)
-
 least-requires : tie.Need-least-requires
 least-requires c κs = search needs
+
+add-result : tie.Need-add-result
+add-result c = search needs
 
 returns-2 : tie.Need-returns-2
 returns-2 c = λ readings.
     let a = c .before .before .before .before .before .args in
-    c .least .ensures
-    ∙ entries-are (tableOf (a .first) (a .marks .now) readings) (a .event) (c .before .before .before .if1 .left)
-    (sym (c .before .before .is-held .ensures readings) ∙ c .before .if2 .taken)
+    entries-are (tableOf (a .first) (a .marks .now) readings) (a .event) (c .before .before .before .if1 .left)
+    (sym (c .before .before .is-held .ensures readings) ∙ c .before .if2 .taken) (c .least .ensures)
 
 returns-3 : tie.Need-returns-3
 returns-3 c = λ readings.
@@ -49,4 +43,4 @@ returns-3 c = λ readings.
 pub entries-spec : {M : Type 1} → statement M
 entries-spec =
     tie.close
-    (tie.spec returns is-held-requires sub-least add-least least-requires returns-2 returns-3)
+    (tie.spec returns is-held-requires sub-least least-requires add-result returns-2 returns-3)

@@ -1,22 +1,24 @@
 -- `table::offset` meets its contract.
-use mathlib.Core.Path.{sym}
-use Prim.Native.Nat.{_-_}
+use native.Mathlib.Omega.{arith}
 use borrow.Author.Needs.{needs}
-use Rattle.method.proofs.Tables.{offset-is}
+use mathlib.Core.Path.{_∙_}
+use Rattle.table.proofs.Extracts.{offset-even, offset-small}
 use Rattle.table.proofs.offset.Statement.{statement}
 use Rattle.table.proofs.offset.Tie as tie
 
-sub-result : tie.Need-sub-result
-sub-result c = search needs
+size-requires : tie.Need-size-requires
+size-requires c κs = search needs
 
 cast-result : tie.Need-cast-result
 cast-result c = search needs
 
 mul-result : tie.Need-mul-result
-mul-result c = search needs
+mul-result c =
+    let a = c .before .args in
+    rw (c .size .ensures, offset-even (a .first) (a .days)) (omega (arith, offset-small (a .first) (a .days) (c .before .pre)))
 
 returns : tie.Need-returns
-returns c = let a = c .args in sym (offset-is (a .first) (a .day - a .first))
+returns c = let a = c .before .args in rw (c .size .ensures) (offset-even (a .first) (a .days))
 
 pub offset-spec : {M : Type 1} → statement M
-offset-spec = tie.close (tie.spec sub-result cast-result mul-result returns)
+offset-spec = tie.close (tie.spec size-requires cast-result mul-result returns)

@@ -1,0 +1,20 @@
+-- What the numerators are without signs or division.
+use Prim.Native.Nat.{ℕ, _+_, _-_, _*_}
+use mathlib.Core.Path.{_≡_, refl}
+use mathlib.Core.List.{List, [], _∷_, map}
+use Rattle.method.specs.declared.Request.{Request}
+use Rattle.method.specs.Table.{Day}
+use Rattle.method.specs.Adjustment.{places, S, adjustment, unfloored, floored, baselineAt}
+use Rattle.numerators.proofs.Signed.{numerator-is}
+
+-- a numerator over 12N is max(0, initial + adjustment), that is max(0, S/N + (N·A - B)/(12N)): cut-off subtraction floors it at zero
+pub numerators-are : (r : Request) (n : ℕ) (chosen : List (ℕ × Day)) (a b : ℕ)
+    → map floored (baselineAt r n chosen (adjustment n a b) .numerators)
+    ≡ map (λ q. 12 * S (r .event) chosen q + n * a - b) (places (r .e - r .s) (r .s))
+unfolding baselineAt
+numerators-are r n chosen a b = go (places (r .e - r .s) (r .s))
+  where
+    go : (l : List ℕ) → map floored (map (λ q. unfloored (S (r .event) chosen q) (adjustment n a b)) l)
+        ≡ map (λ q. 12 * S (r .event) chosen q + n * a - b) l
+    go [] = refl
+    go (q ∷ qs) = rw (numerator-is (S (r .event) chosen q) n a b, go qs)

@@ -1,0 +1,7 @@
+pub mod HighXofY
+pub mod Choosing
+pub mod Answered
+pub mod Exact
+pub mod Store
+pub mod Steps
+pub mod Laws

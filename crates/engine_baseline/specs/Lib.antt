@@ -1,0 +1,3 @@
+pub mod Engine
+pub mod Store
+pub mod Steps

@@ -1,0 +1,30 @@
+-- What a store has to show of its rooms, and what it gets: a table, a ring and a shared store alike. `proofs/Store` proves it.
+use Prim.Native.Nat.{ℕ}
+use mathlib.Core.Path.{_≡_}
+use mathlib.Core.Bool.{true}
+use mathlib.Core.List.{List}
+use Rattle.lists.specs.Lists.{all}
+use Rattle.calendar.specs.declared.Group.{Group}
+use Rattle.method.specs.declared.Request.{Request}
+use Rattle.method.specs.Table.{Day, History, held, goodReading}
+use Rattle.method.specs.Verdict.{methodology}
+use Rattle.rooms.specs.declared.Directory.{Directory}
+use Rattle.rooms.specs.Rooms.{roomHistory}
+use Rattle.rooms.specs.Agree.{Agree}
+use Rattle.engine_baseline.specs.Engine.{inWords, overRooms}
+
+-- no held day has a reading that refusal 3 would turn away
+abbrev pub GoodDays : History Day → Type 0
+GoodDays h = (d : ℕ) → held h d ≡ true → all goodReading (h .day d .readings) ≡ true
+
+pub record Store (group : ℕ → Group) (r : Request) (room : ℕ) : Type 0 where
+  -- over good readings no numerator wraps
+  pub exact : (h : History Day) → GoodDays h → inWords r h (methodology group h r room) ≡ methodology group h r room
+  -- rooms that agree with a history are one for the methodology, whether the event day is held or not
+  pub agrees : {rooms : Directory} {readings : List ℕ} {h : History Day} → Agree r rooms readings h
+      → methodology group (roomHistory r rooms readings) r room ≡ methodology group h r room
+  -- so over them the engine gives what the methodology gives over the history, in words where its readings may be any
+  pub words : {rooms : Directory} {readings : List ℕ} {h : History Day} → Agree r rooms readings h
+      → overRooms group r rooms readings room ≡ inWords r h (methodology group h r room)
+  pub serves : {rooms : Directory} {readings : List ℕ} {h : History Day} → Agree r rooms readings h → GoodDays h
+      → overRooms group r rooms readings room ≡ methodology group h r room
