@@ -13,7 +13,7 @@ use borrow.Author.Tests.{eqb-false}
 use Rattle.calendar.specs.declared.Group.{Group}
 use Rattle.method.specs.declared.Request.{Request}
 use Rattle.method.specs.Table.{Day, History}
-use Rattle.method.specs.Method.{Method, Outcome, short, few, chose, outcome, window, chosen, reach, isShort, wholeReach, daysOf}
+use Rattle.method.specs.Method.{Method, short, few, chose, outcome, window, chosen, reach, isShort, wholeReach, daysOf}
 use Rattle.method.specs.Adjustment.{ruler, places, adjustmentEnd, A, B, S, adjustment, unfloored, Baseline, floored, baseline, baselineAt}
 use Rattle.method.specs.HighXofY.{N}
 use Rattle.method.specs.Rules.{methodBy}
