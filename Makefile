@@ -4,7 +4,7 @@ SHELL := bash
 .DEFAULT_GOAL := all
 .DELETE_ON_ERROR:
 .NOTPARALLEL:
-.PHONY: all help demo check test part examples samples install bench fuzz search fmt changed fresh clean
+.PHONY: all help demo check test part examples samples picture install bench fuzz search fmt changed fresh clean
 
 PREFIX ?= /usr/local
 FUZZ_SECONDS ?= 600
@@ -55,6 +55,10 @@ examples: $(library) ## build the example programs, under build/examples/
 samples: ## make the sample files again from their texts
 	$(call need,python3)
 	samples/make
+
+picture: ## draw the crates as layers, and the way of one event: docs/crates.svg, docs/event.svg
+	$(call need,python3)
+	docs/picture --write
 
 install: all ## install under PREFIX (/usr/local), below DESTDIR if given
 	install -d "$(DESTDIR)$(PREFIX)"/{lib/pkgconfig,include,bin}

@@ -9,7 +9,7 @@ use lib.Seq.{take-at}
 use Rattle.calendar.specs.Holidays.{group}
 use Rattle.method.specs.declared.Request.{Request}
 use Rattle.method.specs.declared.Refusal.{Refusal}
-use Rattle.method.specs.Table.{Table}
+use Rattle.method.specs.Table.{Table, mostQuarters}
 use Rattle.method.specs.Verdict.{Reply, refused, answered, verdict, written}
 use Rattle.answer.specs.declared.Given.the-variants.{Answered, Refused as RefusedGiven}
 use Rattle.answer.specs.declared.Answer.{Answer}
@@ -28,7 +28,7 @@ unfolding bytesWritten
 refuses out e f = record { answer = e ∙ ap answerOf (sym f); output = rw f }
 
 -- ---- the baseline over a table
-module _ (t : Table) (r : Request) (out : List ℕ) {given : Answer} (before : List ℕ) {after : List ℕ} (room : length before ≡ min (length out / 4) 96)
+module _ (t : Table) (r : Request) (out : List ℕ) {given : Answer} (before : List ℕ) {after : List ℕ} (room : length before ≡ min (length out / 4) mostQuarters)
     (q : Answers (verdict group t r (length before)) given before after) where
   same : verdict group t r (length before) ≡ verdict group t r (length out / 4)
   same = ap (verdict group t r) room ∙ room-same r group t (length out / 4)

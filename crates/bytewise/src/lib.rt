@@ -3,16 +3,15 @@ ghost use Prim.Native.Nat.{_/_, min};
 ghost use mathlib.Core.Path.{_≡_};
 ghost use lib.ListN.{length};
 ghost use Rattle.calendar.specs.Holidays.{group};
+ghost use Rattle.method.specs.Table.{mostQuarters};
 ghost use Rattle.method.specs.Verdict.{verdict};
 ghost use Rattle.table.specs.Lent.{tableOf};
 ghost use Rattle.bytewise.specs.Bytewise.{FileAnswers};
 use answer::Answer;
 use answer::Given;
+use method::QUARTERS;
 use method::Request;
 use numbers::sizes;
-
-// An event has at most a day's quarters.
-const QUARTERS: usize = 96;
 
 // The baseline over a table, worked out in a buffer of numbers, and the numerators put as bytes.
 fn through_numbers(
@@ -23,7 +22,7 @@ fn through_numbers(
     numerators: &mut [u32],
     out: &mut [u8],
 ) -> Answer
-    requires { ⌜ length (now numerators) ≡ min (length (now out) / 4) 96 ⌝ }
+    requires { ⌜ length (now numerators) ≡ min (length (now out) / 4) mostQuarters ⌝ }
     ensures { λ r. ⌜ FileAnswers (verdict group (tableOf first (now (marks .entry)) (now (readings .entry))) request (length (now (out .entry)) / 4)) r (now (out .entry)) (now (out .exit)) ⌝ }
 {
     let answer = baseline::baseline(first, marks, readings, request, numerators);
@@ -48,6 +47,7 @@ pub fn table_baseline(
 ) -> Answer
     ensures { λ r. ⌜ FileAnswers (verdict group (tableOf first (now (marks .entry)) (now (readings .entry))) request (length (now (out .entry)) / 4)) r (now (out .entry)) (now (out .exit)) ⌝ }
 {
+    // an event has at most a day's quarters
     let mut numerators = [0u32; QUARTERS];
     let room = sizes::least(out.len() / 4, QUARTERS);
     through_numbers(

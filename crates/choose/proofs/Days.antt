@@ -14,12 +14,11 @@ use Rattle.method.specs.declared.Request.{Request}
 use Rattle.method.specs.Table.{Day, History, held}
 use Rattle.method.specs.Relevant.{daysBefore, relevant, relevantDays}
 use Rattle.method.specs.Method.{seen}
-use Rattle.method.specs.Rules.{methodBy}
-use Rattle.method.specs.Requested.{methodOf}
+use Rattle.method.specs.Rules.{Rules, methodBy}
 use Rattle.method.proofs.LookBack.{daysBefore-is, none-before, days-then, one-before}
 use Rattle.method.proofs.Histories.{is-held}
 use Rattle.ranking.proofs.Rank.{lookedBack}
-use Rattle.choose.specs.Look.{nearest, ifRelevant}
+use Rattle.choose.specs.Steps.{nearest, ifRelevant}
 
 module _ (group : ℕ → Group) (r : Request) (day : ℕ → Day) where
   pub nearest-then : (i k : ℕ)
@@ -90,9 +89,10 @@ module _ (group : ℕ → Group) (r : Request) (h : History Day) where
           (go (relevant group r d) (keep (relevant group r) (daysBefore k d)) (keep (relevant group r) (daysBefore (min k (d - h .first)) d))
           (is-held h d b (omega arith)) later)
 
-  pub seen-nearest : r .event ≤ h .first + h .count → seen (methodOf group r) h ≡ nearest group r (h .day) (min 45 (r .event - h .first))
-  unfolding seen nearest methodOf methodBy relevantDays
-  seen-nearest o = ap (map {B = ℕ × Day} (λ d. (d, h .day d))) (held-days 45 (r .event) o)
+  pub seen-nearest : (rules : Rules) → r .event ≤ h .first + h .count
+      → seen (methodBy group r rules) h ≡ nearest group r (h .day) (min 45 (r .event - h .first))
+  unfolding seen nearest methodBy relevantDays
+  seen-nearest rules o = ap (map {B = ℕ × Day} (λ d. (d, h .day d))) (held-days 45 (r .event) o)
 
 module _ {A : Type 0} (q : A → Bool) where
   pub all-keep : (p : A → Bool) (l : List A) → all q l ≡ true → all q (keep p l) ≡ true

@@ -20,7 +20,7 @@ use Rattle.rooms.proofs.Parts.{part-few}
 use Rattle.judging.specs.declared.Judged.{Judged}
 use Rattle.judging.specs.declared.Judged.the-variants.{Eligible, Spare, Neither}
 use Rattle.judging.specs.Judging.{room, wordAt, judgedAt}
-use Rattle.choose.specs.Look.{roomsOf, judged}
+use Rattle.choose.specs.Steps.{roomsOf, judged}
 
 -- the room of the day so far back
 pub room-back : (r : Request) (rooms : Directory) (readings : List ℕ) (back : ℕ) → back ≤ r .event

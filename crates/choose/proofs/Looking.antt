@@ -4,7 +4,7 @@ use mathlib.Core.Path.{_≡_, refl, sym, ap, _∙_}
 use mathlib.Core.Bool.{Bool, true, false, cond, not, _&&_, false≢true}
 use mathlib.Core.List.{List, [], _∷_, _++_, map, map-append, append-nil}
 use native.Mathlib.Omega.{arith}
-use lib.ListN.{length, take, replicate, length-append}
+use lib.ListN.{length, take, set, replicate, length-append, length-map}
 use lib.Seq.{take-all, take-at}
 use Rattle.lists.specs.Lists.{keep, leastOf}
 use Rattle.lists.proofs.Keep.{keep-append, keep-yes, keep-no, leastOf-top}
@@ -17,8 +17,11 @@ use Rattle.calendar.specs.declared.Group.{Group}
 use Rattle.ranking.specs.Words.{word, sortDown, padded, pushed}
 use Rattle.ranking.proofs.Rank.{insert-sorts}
 use Rattle.judging.specs.declared.Judged.the-variants.{Eligible, Spare, Neither}
+use Rattle.choose.specs.declared.SpareOrder.{SpareOrder}
+use Rattle.choose.specs.declared.SpareOrder.the-variants.{Highest, Latest}
 use Rattle.choose.specs.declared.Found.{Found}
-use Rattle.choose.specs.Look.{judged, nearest, ifRelevant, eligibleOf, spareOf, rowOf, oldestOf, Looked, Further, Adds, Enough}
+use Rattle.choose.specs.Steps.{judged, nearest, ifRelevant, eligibleOf, spareOf, rowOf, spareRow, withSpare, oldestOf, Looked, Further, Adds, Enough}
+use Rattle.choose.proofs.Five.{set-padded}
 use Rattle.choose.proofs.Days.{nearest-none, nearest-one, nearest-more}
 use Rattle.relevance.proofs.Reaching.{leastOf-snoc}
 
@@ -97,6 +100,14 @@ module _ (r : Request) (l : List (ℕ × Day)) (p : ℕ × Day) where
       n ∙ ap (λ (k : List ℕ). pushed (word r p) k) e ∙ insert-sorts 10 (word r p) (map (word r) l)
       ∙ ap (λ (k : List ℕ). padded 10 (sortDown k)) (sym (map-append (word r) l (p ∷ [])))
 
+  spare-row-more : (order : SpareOrder) {row next : List ℕ} {count : ℕ} → row ≡ spareRow r order l → count ≡ length l
+      → next ≡ withSpare order row count (word r p) → next ≡ spareRow r order (l ++ (p ∷ []))
+  spare-row-more Highest e c n = row-more e n
+  spare-row-more Latest {row} {next} {count} e c n =
+      n ∙ ap (λ (k : List ℕ). set k count (word r p)) e
+      ∙ set-padded 10 (map (word r) l) count (word r p) (c ∙ sym (length-map l (word r)))
+      ∙ ap (padded 10) (sym (map-append (word r) l (p ∷ [])))
+
   count-more : {n : ℕ} → n ≡ length l → n + 1 ≡ length (l ++ (p ∷ []))
   count-more e = rw length-append (omega arith)
 
@@ -104,14 +115,14 @@ module _ (r : Request) (l : List (ℕ × Day)) (p : ℕ × Day) where
   oldest-more back {o} e h f g =
       rw (map-append (λ (q : ℕ × Day). q .0) l (p ∷ []), leastOf-snoc (r .event) (daysOf l) (p .0)) (omega (arith, leastOf-top (r .event) (daysOf l)))
 
-module _ {r : Request} {days : List (ℕ × Day)} {found : Found} (q : Looked r days found) where
-  pub looked-none : Looked r (days ++ []) found
+module _ {r : Request} {order : SpareOrder} {days : List (ℕ × Day)} {found : Found} (q : Looked r order days found) where
+  pub looked-none : Looked r order (days ++ []) found
   looked-none = rw (append-nil days) q
 
   module _ (p : ℕ × Day) where
     pub looked-eligible : (back : ℕ) {row : List ℕ} → eligible (p .1) ≡ true → p .0 ≡ r .event - back → back ≤ r .event → found .oldest ≤ back
         → row ≡ pushed (word r p) (found .eligible)
-        → Looked r (days ++ (p ∷ [])) (record { eligible = row; count = found .count + 1; oldest = back; spare = found .spare; spares = found .spares })
+        → Looked r order (days ++ (p ∷ [])) (record { eligible = row; count = found .count + 1; oldest = back; spare = found .spare; spares = found .spares })
     looked-eligible back {row} e d h o n =
         let x = eligible-more days p e in
         let y = spare-same days p (exclusive (p .1) e) in
@@ -124,8 +135,8 @@ module _ {r : Request} {days : List (ℕ × Day)} {found : Found} (q : Looked r 
         }
 
     pub looked-spare : {row : List ℕ} → eligible (p .1) ≡ false → spare (p .1) ≡ true
-        → row ≡ pushed (word r p) (found .spare)
-        → Looked r (days ++ (p ∷ [])) (record { eligible = found .eligible; count = found .count; oldest = found .oldest; spare = row; spares = found .spares + 1 })
+        → row ≡ withSpare order (found .spare) (found .spares) (word r p)
+        → Looked r order (days ++ (p ∷ [])) (record { eligible = found .eligible; count = found .count; oldest = found .oldest; spare = row; spares = found .spares + 1 })
     looked-spare {row} e s n =
         let x = eligible-same days p e in
         let y = spare-more days p s in
@@ -133,11 +144,11 @@ module _ {r : Request} {days : List (ℕ × Day)} {found : Found} (q : Looked r 
           row = rw x (q .row);
           count = rw x (q .count);
           oldest = rw x (q .oldest);
-          sparing = rw y (row-more r (spareOf days) p (q .sparing) n);
+          sparing = rw y (spare-row-more r (spareOf days) p order (q .sparing) (q .spares) n);
           spares = rw y (count-more r (spareOf days) p (q .spares));
         }
 
-    pub looked-neither : eligible (p .1) ≡ false → spare (p .1) ≡ false → Looked r (days ++ (p ∷ [])) found
+    pub looked-neither : eligible (p .1) ≡ false → spare (p .1) ≡ false → Looked r order (days ++ (p ∷ [])) found
     looked-neither e s =
         let x = eligible-same days p e in
         let y = spare-same days p s in
@@ -145,7 +156,7 @@ module _ {r : Request} {days : List (ℕ × Day)} {found : Found} (q : Looked r 
 
 -- One day before the event looked at
 
-module _ (group : ℕ → Group) (p : ℕ × Day) {r : Request} {found : Found} {back : ℕ} (f : Further r back found) (here : p .0 ≡ r .event - back) where
+module _ (group : ℕ → Group) (r : Request) (p : ℕ × Day) where
   some : relevant group r (p .0) ≡ true → ifRelevant group r p ≡ p ∷ []
   unfolding ifRelevant
   some e = rw e
@@ -154,45 +165,46 @@ module _ (group : ℕ → Group) (p : ℕ × Day) {r : Request} {found : Found} 
   unfolding ifRelevant
   none e = rw e
 
-  same : {more : List (ℕ × Day)} → ((days : List (ℕ × Day)) → Looked r days found → Looked r (days ++ more) found) → Adds r back more found found
+module _ (group : ℕ → Group) (p : ℕ × Day) {r : Request} {order : SpareOrder} {found : Found} {back : ℕ} (f : Further r back found) (here : p .0 ≡ r .event - back) where
+  same : {more : List (ℕ × Day)} → ((days : List (ℕ × Day)) → Looked r order days found → Looked r order (days ++ more) found) → Adds r order back more found found
   same t = record { then = t; oldest = f .oldest; count = omega arith; spares = omega arith }
 
-  pub adds-none : relevant group r (p .0) ≡ false → Adds r back (ifRelevant group r p) found found
-  adds-none e = rw (none e) (same (λ days q. looked-none q))
+  pub adds-none : relevant group r (p .0) ≡ false → Adds r order back (ifRelevant group r p) found found
+  adds-none e = rw (none group r p e) (same (λ days q. looked-none q))
 
   module _ (e : relevant group r (p .0) ≡ true) where
     pub adds-eligible : {w : ℕ} {row : List ℕ} → judged r p ≡ Eligible w → row ≡ pushed w (found .eligible)
-        → Adds r back (ifRelevant group r p) found
+        → Adds r order back (ifRelevant group r p) found
         (record { eligible = row; count = found .count + 1; oldest = back; spare = found .spare; spares = found .spares })
     adds-eligible {w} {row} j n =
         let k = judged-eligible r p j in
         record {
-          then = λ days q. rw (some e) (looked-eligible q p back (k .0) here (f .within) (f .oldest) (rw (k .1) at n));
+          then = λ days q. rw (some group r p e) (looked-eligible q p back (k .0) here (f .within) (f .oldest) (rw (k .1) at n));
           oldest = omega arith;
           count = omega arith;
           spares = omega arith;
         }
 
-    pub adds-spare : {w : ℕ} {row : List ℕ} → judged r p ≡ Spare w → row ≡ pushed w (found .spare)
-        → Adds r back (ifRelevant group r p) found
+    pub adds-spare : {w : ℕ} {row : List ℕ} → judged r p ≡ Spare w → row ≡ withSpare order (found .spare) (found .spares) w
+        → Adds r order back (ifRelevant group r p) found
         (record { eligible = found .eligible; count = found .count; oldest = found .oldest; spare = row; spares = found .spares + 1 })
     adds-spare {w} {row} j n =
         let k = judged-spare r p j in
         record {
-          then = λ days q. rw (some e) (looked-spare q p (k .0) (k .1) (rw (k .2) at n));
+          then = λ days q. rw (some group r p e) (looked-spare q p (k .0) (k .1) (rw (k .2) at n));
           oldest = f .oldest;
           count = omega arith;
           spares = omega arith;
         }
 
-    pub adds-neither : judged r p ≡ Neither → Adds r back (ifRelevant group r p) found found
-    adds-neither j = let k = judged-neither r p j in rw (some e) (same (λ days q. looked-neither q p (k .0) (k .1)))
+    pub adds-neither : judged r p ≡ Neither → Adds r order back (ifRelevant group r p) found found
+    adds-neither j = let k = judged-neither r p j in rw (some group r p e) (same (λ days q. looked-neither q p (k .0) (k .1)))
 
 -- The end of the look back
 
-module _ {r : Request} {most : ℕ} {days : List (ℕ × Day)} {found : Found} (q : Looked r days found) where
+module _ {r : Request} {most : ℕ} {order : SpareOrder} {days : List (ℕ × Day)} {found : Found} (q : Looked r order days found) where
   -- all days are looked at
-  pub enough-days : found .spares ≤ 45 → found .count ≤ most → Enough r most days found
+  pub enough-days : found .spares ≤ 45 → found .count ≤ most → Enough r most order days found
   enough-days few h =
       let o : length (eligibleOf days) ≤ most = omega (arith, q .count) in
       record {
@@ -205,7 +217,7 @@ module _ {r : Request} {most : ℕ} {days : List (ℕ × Day)} {found : Found} (
       }
 
   -- the window is full
-  pub enough-eligible : found .spares ≤ 45 → found .count ≡ most → (more : List (ℕ × Day)) → Enough r most (days ++ more) found
+  pub enough-eligible : found .spares ≤ 45 → found .count ≡ most → (more : List (ℕ × Day)) → Enough r most order (days ++ more) found
   enough-eligible few h more =
       let n : length (eligibleOf days) ≡ most = sym (q .count) ∙ h in
       let full = eligible-then more in
@@ -224,30 +236,34 @@ module _ {r : Request} {most : ℕ} {days : List (ℕ × Day)} {found : Found} (
       eligible-then more = unfold eligibleOf in keep-append (λ (p : ℕ × Day). eligible (p .1)) days more
 
 -- `back` days of the `held` are looked at, and the window is not more than full
-pub record Back (group : ℕ → Group) (r : Request) (day : ℕ → Day) (most held back : ℕ) (found : Found) : Type 0 where
+pub record Back (group : ℕ → Group) (r : Request) (day : ℕ → Day) (most : ℕ) (order : SpareOrder) (held back : ℕ) (found : Found) : Type 0 where
   pub within : back ≤ held
-  pub looked : Looked r (nearest group r day back) found
+  pub looked : Looked r order (nearest group r day back) found
   pub oldest : found .oldest ≤ back
   pub count : found .count ≤ back
   pub spares : found .spares ≤ back
   pub filled : found .count ≤ most
 
-module _ (group : ℕ → Group) (r : Request) (day : ℕ → Day) (most held : ℕ) where
-  pub back-start : Back group r day most held 0
+module _ (group : ℕ → Group) (r : Request) (day : ℕ → Day) (most : ℕ) (order : SpareOrder) (held : ℕ) where
+  pub back-start : Back group r day most order held 0
       (record { eligible = replicate 10 0; count = 0; oldest = 0; spare = replicate 10 0; spares = 0 })
   unfolding eligibleOf spareOf keep leastOf sortBy
   back-start =
       let e = nearest-none group r day in
       record {
         within = omega arith;
-        looked = rw e (record { row = refl; count = refl; oldest = omega arith; sparing = refl; spares = refl });
+        looked = rw e (record { row = refl; count = refl; oldest = omega arith; sparing = no-spare order; spares = refl });
         oldest = omega arith;
         count = omega arith;
         spares = omega arith;
         filled = omega arith;
       }
+    where
+      no-spare : (o : SpareOrder) → replicate 10 0 ≡ spareRow r o []
+      no-spare Highest = refl
+      no-spare Latest = refl
 
-module _ {group : ℕ → Group} {r : Request} {day : ℕ → Day} {most held back : ℕ} {found : Found} (b : Back group r day most held back found) where
+module _ {group : ℕ → Group} {r : Request} {day : ℕ → Day} {most : ℕ} {order : SpareOrder} {held back : ℕ} {found : Found} (b : Back group r day most order held back found) where
   pub back-further : back < held → held ≤ 45 → held ≤ r .event → Further r (back + 1) found
   back-further h m e =
       record {
@@ -260,8 +276,8 @@ module _ {group : ℕ → Group} {r : Request} {day : ℕ → Day} {most held ba
       }
 
   pub back-more : {next : Found} → back < held → held ≤ r .event → (found .count ≡ most → ⊥)
-      → Adds r (back + 1) (ifRelevant group r (r .event - (back + 1), day (r .event - (back + 1)))) found next
-      → Back group r day most held (back + 1) next
+      → Adds r order (back + 1) (ifRelevant group r (r .event - (back + 1), day (r .event - (back + 1)))) found next
+      → Back group r day most order held (back + 1) next
   back-more {next} h e n a =
       record {
         within = omega arith;
@@ -272,8 +288,8 @@ module _ {group : ℕ → Group} {r : Request} {day : ℕ → Day} {most held ba
         filled = omega (arith, a .count, b .filled, n);
       }
 
-  pub back-full : held ≤ 45 → found .count ≡ most → Enough r most (nearest group r day held) found
+  pub back-full : held ≤ 45 → found .count ≡ most → Enough r most order (nearest group r day held) found
   back-full few h = let m = nearest-more group r day back held (b .within) in rw (m .1) (enough-eligible (b .looked) (omega (arith, b .spares, b .within)) h (m .0))
 
-  pub back-end : held ≤ 45 → held ≤ back → Enough r most (nearest group r day held) found
+  pub back-end : held ≤ 45 → held ≤ back → Enough r most order (nearest group r day held) found
   back-end few h = let e : held ≡ back = omega (arith, b .within) in rw e (enough-days (b .looked) (omega (arith, b .spares, b .within)) (b .filled))

@@ -16,7 +16,7 @@ use Rattle.method.specs.Table.{Day, History, held}
 use Rattle.method.specs.Relevant.{daysBefore, relevant}
 use Rattle.method.specs.Method.{Method, seen, eligibles, window, chosen, reach, wholeReach, isShort, outcome}
 use Rattle.method.specs.Rules.{methodBy}
-use Rattle.method.specs.Requested.{methodOf}
+use Rattle.method.specs.Requested.{rulesOf, methodOf}
 use Rattle.method.proofs.LookBack.{daysBefore-is}
 use Rattle.method.proofs.Histories.{held-first, held-last, is-held}
 use Rattle.method.proofs.Stable.{window-of-seen, outcome-same}
@@ -26,7 +26,7 @@ use Rattle.rooms.specs.declared.Directory.{Directory}
 use Rattle.rooms.specs.Rooms.{heldRooms, roomHistory}
 use Rattle.rooms.specs.Agree.{Agree}
 use Rattle.choose.specs.Choice.{choiceOf}
-use Rattle.choose.specs.Look.{nearest, roomsOf}
+use Rattle.choose.specs.Steps.{nearest, roomsOf}
 use Rattle.choose.proofs.Days.{seen-nearest}
 use Rattle.relevance.proofs.Reaching.{short-of-reach, reach-most}
 use Rattle.choose.proofs.WholeChoice.{roomsBefore, before-first, not-after, seen-rooms}
@@ -110,10 +110,11 @@ module _ (group : ℕ → Group) {r : Request} {rooms : Directory} {readings : L
         rw e (agree .days i (omega (arith, width-is, held-first h (r .event) holds)))
 
     pub rooms-seen : seen (methodOf group r) (roomHistory r rooms readings) ≡ seen (methodOf group r) h
+    unfolding methodOf
     rooms-seen =
-        seen-rooms group r rooms readings ∙ ap (nearest group r (roomsOf r rooms readings)) before-is
+        seen-rooms group r rooms readings (rulesOf (group (r .event)) r) ∙ ap (nearest group r (roomsOf r rooms readings)) before-is
         ∙ nearest-same group r (roomsOf r rooms readings) (h .day) (min 45 (r .event - h .first)) (λ i o. same-day i (omega arith) (omega arith))
-        ∙ sym (seen-nearest group r h (omega (arith, held-last h (r .event) holds)))
+        ∙ sym (seen-nearest group r h (rulesOf (group (r .event)) r) (omega (arith, held-last h (r .event) holds)))
 
     rooms-begin : any (λ d. ltb d (roomHistory r rooms readings .first)) (methodOf group r .relevant) ≡ any (λ d. ltb d (h .first)) (methodOf group r .relevant)
     rooms-begin =

@@ -1,245 +1,261 @@
--- The choice: what was found gives the window, its size, its rank and the reach.
+-- The choice by any rules: what was found gives the window, its size, its ranks and the reach.
 use Prim.Native.Nat.{ℕ, _+_, _-_, _≤_, _<_, min}
 use mathlib.Core.Path.{_≡_, refl, sym, ap, _∙_}
-use mathlib.Core.Bool.{true, false}
+use mathlib.Core.Bool.{true, false, cond}
 use mathlib.Core.Logic.{⊎-elim}
 use mathlib.Core.List.{List, _++_, map}
+use mathlib.Core.Option.{Option}
 use native.Mathlib.Omega.{arith}
-use lib.ListN.{length, take, length-append, length-take}
+use lib.ListN.{length, getD, take, drop, length-append, length-take, length-drop, length-map}
 use lib.Seq.{take-all}
 use lib.Dec.{ltb, eqb}
 use borrow.Author.Tests.{lt-ltb, le-ltb, eq-eqb, ne-eqb}
-use Rattle.lists.specs.Lists.{all, keep}
+use Rattle.lists.specs.Lists.{all, keep, any}
 use Rattle.lists.proofs.All.{all-append, all-take}
 use Rattle.lists.proofs.Bools.{lt-or-le}
+use Rattle.lists.proofs.Maps.{map-take}
+use Rattle.lists.proofs.Parts.{take-within}
 use Rattle.calendar.specs.declared.Group.{Group}
-use Rattle.calendar.specs.declared.Group.the-variants.{Weekday, Saturday, HolidayGroup}
 use Rattle.method.specs.declared.Request.{Request}
 use Rattle.method.specs.Table.{Day, History}
 use Rattle.method.specs.Method.{Method, daysOf, wholeReach, seen, eligibles, spares, window, chosen, reach, isShort}
 use Rattle.method.specs.Eligible.{eligible, spare, higher, sortBy}
-use Rattle.method.specs.HighXofY.{Y, N, highXofY}
-use Rattle.method.specs.Rules.{methodBy}
+use Rattle.method.specs.Adjustment.{Baseline}
+use Rattle.method.specs.Rules.{Rules, methodBy}
 use Rattle.method.specs.Requested.{rulesOf, methodOf}
-use Rattle.method.proofs.HighXofY.{lawful}
 use Rattle.method.proofs.Window.{window-full, full-size, size-below}
 use Rattle.method.proofs.Short.{full-enough}
-use Rattle.ranking.specs.Words.{insertAll}
 use Rattle.method.proofs.Sort.{length-sorted, all-sorted}
-use Rattle.ranking.proofs.Rank.{lookedBack, first-of-row, window-ranked}
+use Rattle.ranking.specs.Words.{word, sortDown, insertAll}
+use Rattle.ranking.proofs.Rank.{lookedBack, take-padded, first-words, ranks-of-row, row-with}
 use Rattle.rooms.specs.declared.Directory.{Directory}
+use Rattle.rooms.specs.Rooms.{heldRooms, roomHistory}
+use Rattle.relevance.proofs.Reaching.{short-of-reach}
+use Rattle.choose.specs.declared.SpareOrder.{SpareOrder}
+use Rattle.choose.specs.declared.SpareOrder.the-variants.{Highest, Latest}
+use Rattle.choose.specs.declared.Rules.{Rules as Numbers}
 use Rattle.choose.specs.declared.Found.{Found}
 use Rattle.choose.specs.declared.Choosing.the-variants.{Short, Few, Days}
-use Rattle.rooms.specs.Rooms.{heldRooms, roomHistory}
+use Rattle.choose.specs.declared.Choice.{Choice}
 use Rattle.choose.specs.Choice.{choiceOf, noDays, inFive}
-use Rattle.choose.specs.Look.{nearest, roomsOf, eligibleOf, spareOf, rowOf, Enough, wordDay, ranked, amongFew}
+use Rattle.choose.specs.Steps.{Follows, inOrder, nearest, roomsOf, eligibleOf, spareOf, rowOf, spareRow, Enough, daysIn, picked, fillers, amongFew}
 use Rattle.choose.proofs.Days.{seen-nearest, nearest-back, all-keep}
-use Rattle.relevance.proofs.Reaching.{short-of-reach}
+use Rattle.choose.proofs.Followed.{order-length, passed-at, taken-at, taken-within, lawful-by}
 
--- Y and N are small, and N is below Y
+-- The first words of a row of spare days are those of the days that fill a shortage
 
-pub window-few : (g : Group) → Y g ≤ 10
-window-few Weekday = omega arith
-window-few Saturday = omega arith
-window-few HolidayGroup = omega arith
+module _ (r : Request) where
+  order-back : (o : SpareOrder) (days : List (ℕ × Day)) → all (lookedBack r) days ≡ true → all (lookedBack r) (inOrder r o days) ≡ true
+  order-back Highest days h = all-sorted (higher r) (lookedBack r) days ∙ h
+  order-back Latest days h = h
 
-pub chosen-few : (g : Group) → N g ≤ 5
-chosen-few Weekday = omega arith
-chosen-few Saturday = omega arith
-chosen-few HolidayGroup = omega arith
+  spare-words : (o : SpareOrder) (k : ℕ) (days : List (ℕ × Day)) → all (lookedBack r) days ≡ true → k ≤ length days → k ≤ 10
+      → take k (spareRow r o days) ≡ map (word r) (take k (inOrder r o days))
+  spare-words Highest k days h l t =
+      take-padded k 10 (sortDown (map (word r) days)) (omega (arith, length-sorted (λ a b. ltb b a) (map (word r) days), length-map days (word r))) t
+      ∙ first-words r k days h
+  spare-words Latest k days h l t =
+      take-padded k 10 (map (word r) days) (omega (arith, length-map days (word r))) t ∙ sym (map-take (word r) k days)
 
-some-chosen : (g : Group) → 0 < N g
-some-chosen Weekday = omega arith
-some-chosen Saturday = omega arith
-some-chosen HolidayGroup = omega arith
+-- The two ways out of a window
 
-fewer-chosen : (g : Group) → N g < Y g
-fewer-chosen Weekday = omega arith
-fewer-chosen Saturday = omega arith
-fewer-chosen HolidayGroup = omega arith
+module _ (event : ℕ) (numbers : Numbers) (row : List ℕ) (size reach : ℕ) where
+  pub picked-none : getD (numbers .taken) size 0 ≡ 0 → noDays (Few size reach) ≡ picked event numbers row size reach
+  unfolding picked
+  picked-none e = rw (eq-eqb (getD (numbers .taken) size 0) 0 e)
 
--- The three ways out where the eligible days do not fill the window
+  pub picked-some : (getD (numbers .taken) size 0 ≡ 0 → ⊥)
+      → record {
+        choosing = Days;
+        chosen = record {
+          days = inFive (daysIn event row (getD (numbers .passed) size 0) (getD (numbers .taken) size 0));
+          count = getD (numbers .taken) size 0;
+          reach = reach;
+        };
+      } ≡ picked event numbers row size reach
+  unfolding picked
+  picked-some e = rw (ne-eqb (getD (numbers .taken) size 0) 0 e)
 
-module _ (r : Request) (least : ℕ) (found : Found) (held reach : ℕ) where
-  pub short-of-days : held < reach → noDays (Short reach) ≡ amongFew r least found held reach
+-- The two ways out where the eligible days do not fill the window
+
+module _ (r : Request) (numbers : Numbers) (found : Found) (before reach : ℕ) where
+  pub short-of-days : before < reach → noDays (Short reach) ≡ amongFew r numbers found before reach
   unfolding amongFew
-  short-of-days h = rw (lt-ltb held reach h)
+  short-of-days h = rw (lt-ltb before reach h)
 
-  module _ (whole : reach ≤ held) where
-    pub few-days : found .count + found .spares < least → noDays (Few (found .count + found .spares) reach) ≡ amongFew r least found held reach
-    unfolding amongFew
-    few-days h = rw (le-ltb held reach whole, lt-ltb (found .count + found .spares) least h)
+  pub enough-days : reach ≤ before
+      → picked (r .event) numbers (insertAll (take (fillers numbers found) (found .spare)) (found .eligible)) (found .count + fillers numbers found) reach
+      ≡ amongFew r numbers found before reach
+  unfolding amongFew
+  enough-days h = rw (le-ltb before reach h)
 
-    pub enough-days : least ≤ found .count + found .spares
-        → ranked (r .event) (insertAll (take (least - found .count) (found .spare)) (found .eligible)) least reach ≡ amongFew r least found held reach
-    unfolding amongFew
-    enough-days h = rw (le-ltb held reach whole, le-ltb (found .count + found .spares) least h)
-
--- The same three of the definition
+-- The same of the definition
 
 module _ {A O : Type 0} (m : Method A O) (h : History A) where
   choice-short : isShort m h ≡ true → choiceOf m h ≡ noDays (Short (wholeReach m))
   unfolding choiceOf
   choice-short e = rw e
 
-  choice-few : isShort m h ≡ false → eqb (m .taken (length (window m h))) 0 ≡ true → choiceOf m h ≡ noDays (Few (length (window m h)) (reach m h))
+  -- the choice from a window
+  abbrev of-window : List ℕ → ℕ → Choice
+  of-window days count =
+      cond (eqb (m .taken (length (window m h))) 0) (noDays (Few (length (window m h)) (reach m h)))
+      (record { choosing = Days; chosen = record { days = inFive days; count = count; reach = reach m h } })
+
+  choice-window : isShort m h ≡ false → choiceOf m h ≡ of-window (daysOf (chosen m h)) (length (chosen m h))
   unfolding choiceOf
-  choice-few e f = rw (e, f)
+  choice-window e = rw e
 
-  choice-days : isShort m h ≡ false → eqb (m .taken (length (window m h))) 0 ≡ false
-      → choiceOf m h
-      ≡ record { choosing = Days; chosen = record { days = inFive (daysOf (chosen m h)); count = length (chosen m h); reach = reach m h } }
-  unfolding choiceOf
-  choice-days e f = rw (e, f)
+module _ (group : ℕ → Group) {r : Request} {rules : Rules} {numbers : Numbers} (f : Follows r rules numbers) (h : History Day) where
+  abbrev m : Method Day (Option Baseline)
+  m = methodBy group r rules
 
-module _ (group : ℕ → Group) (r : Request) (h : History Day) (w : List (ℕ × Day)) (is : window (methodOf group r) h ≡ w) where
-  -- too few days in the window
-  few-taken : length w < N (group (r .event)) → eqb (methodOf group r .taken (length (window (methodOf group r) h))) 0 ≡ true
-  unfolding methodOf methodBy rulesOf highXofY
-  few-taken o = rw (is, lt-ltb (length w) (N (group (r .event))) o)
+  passed : ℕ
+  passed = rules .passed (length (window m h))
 
-  module _ (o : N (group (r .event)) ≤ length w) where
-    all-taken : methodOf group r .taken (length (window (methodOf group r) h)) ≡ N (group (r .event))
-    unfolding methodOf methodBy rulesOf highXofY
-    all-taken = rw (is, le-ltb (length w) (N (group (r .event))) o)
+  taken : ℕ
+  taken = rules .taken (length (window m h))
 
-    chosen-is : chosen (methodOf group r) h ≡ take (N (group (r .event))) (sortBy (higher r) w)
-    unfolding chosen
-    chosen-is = rw (all-taken, is) (unfold methodOf methodBy rulesOf highXofY in refl)
+  -- the row of the window gives the choice
+  module _ {row : List ℕ} {size far : ℕ} (few : length (window m h) ≤ 10) (is : row ≡ rowOf r (window m h)) (sized : size ≡ length (window m h))
+      (reached : far ≡ reach m h) (back : all (lookedBack r) (window m h) ≡ true) where
+    picked-window : picked (r .event) numbers row size far ≡ of-window m h (daysIn (r .event) row passed taken) taken
+    unfolding picked methodBy passed taken
+    picked-window = rw (sized, reached, passed-at f (length (window m h)) few, taken-at f (length (window m h)) few)
 
-    -- the row of the window gives the choice
-    ranked-is : {row : List ℕ} {far : ℕ} → isShort (methodOf group r) h ≡ false → all (lookedBack r) w ≡ true → row ≡ rowOf r w
-        → far ≡ reach (methodOf group r) h → ranked (r .event) row (N (group (r .event))) far ≡ choiceOf (methodOf group r) h
-    ranked-is {row} {far} e back f g =
-        (λ i. record { choosing = Days; chosen = record { days = inFive (days i); count = count i; reach = g i } })
-        ∙ sym (choice-days (methodOf group r) h e (rw all-taken (ne-eqb (N (group (r .event))) 0 (omega (arith, some-chosen (group (r .event)))))))
-      where
-        days : map (wordDay (r .event)) (take (N (group (r .event))) row) ≡ daysOf (chosen (methodOf group r) h)
-        days =
-            ap (λ (k : List ℕ). map (wordDay (r .event)) (take (N (group (r .event))) k)) f
-            ∙ first-of-row r (N (group (r .event))) 10 w back o (omega (arith, chosen-few (group (r .event))))
-            ∙ ap daysOf (sym chosen-is)
+    days-are : daysIn (r .event) row passed taken ≡ daysOf (chosen m h)
+    unfolding chosen methodBy passed taken
+    days-are =
+        rw is
+        (ranks-of-row r passed taken 10 (window m h) back (taken-within f (length (window m h)) few)
+        (omega (arith, taken-within f (length (window m h)) few)))
 
-        count : N (group (r .event)) ≡ length (chosen (methodOf group r) h)
-        count = rw (chosen-is, length-take, length-sorted) (omega arith)
+    count-is : taken ≡ length (chosen m h)
+    unfolding chosen methodBy passed taken
+    count-is =
+        rw (length-take, length-drop, length-sorted (higher r) (window m h)) (omega (arith, taken-within f (length (window m h)) few))
 
-module _ (group : ℕ → Group) (r : Request) (h : History Day) (days : List (ℕ × Day)) (found : Found)
-    (sees : seen (methodOf group r) h ≡ days) (back : all (lookedBack r) days ≡ true) (q : Enough r (Y (group (r .event))) days found) where
-  eligibles-are : eligibles (methodOf group r) h ≡ eligibleOf days
-  unfolding eligibles methodOf methodBy eligibleOf
-  eligibles-are = ap (keep (λ (p : ℕ × Day). eligible (p .1))) sees
+    picked-is : isShort m h ≡ false → picked (r .event) numbers row size far ≡ choiceOf m h
+    picked-is e = picked-window ∙ (λ i. of-window m h (days-are i) (count-is i)) ∙ sym (choice-window m h e)
 
-  spares-are : spares (methodOf group r) h ≡ sortBy (higher r) (spareOf days)
-  unfolding spares methodOf methodBy rulesOf highXofY spareOf
-  spares-are = ap (λ (l : List (ℕ × Day)). sortBy (higher r) (keep (λ (p : ℕ × Day). spare (p .1)) l)) sees
+  module _ (days : List (ℕ × Day)) (found : Found) (sees : seen m h ≡ days) (back : all (lookedBack r) days ≡ true)
+      (q : Enough r (numbers .most) (numbers .spares) days found) where
+    eligibles-are : eligibles m h ≡ eligibleOf days
+    unfolding eligibles methodBy eligibleOf
+    eligibles-are = ap (keep (λ (p : ℕ × Day). eligible (p .1))) sees
 
-  eligible-back : all (lookedBack r) (eligibleOf days) ≡ true
-  unfolding eligibleOf
-  eligible-back = all-keep (lookedBack r) (λ (p : ℕ × Day). eligible (p .1)) days back
+    spares-are : spares m h ≡ inOrder r (numbers .spares) (spareOf days)
+    unfolding spares methodBy spareOf
+    spares-are =
+        ap (λ (l : List (ℕ × Day)). rules .order (keep (λ (p : ℕ × Day). spare (p .1)) l)) sees
+        ∙ ap (λ (o : List (ℕ × Day) → List (ℕ × Day)). o (keep (λ (p : ℕ × Day). spare (p .1)) days)) (sym (f .order))
 
-  spare-back : all (lookedBack r) (spareOf days) ≡ true
-  unfolding spareOf
-  spare-back = all-keep (lookedBack r) (λ (p : ℕ × Day). spare (p .1)) days back
+    eligible-back : all (lookedBack r) (eligibleOf days) ≡ true
+    unfolding eligibleOf
+    eligible-back = all-keep (lookedBack r) (λ (p : ℕ × Day). eligible (p .1)) days back
 
-  -- the eligible days fill the window
-  module _ (full : Y (group (r .event)) ≤ found .count) where
-    many : methodOf group r .most ≤ length (eligibles (methodOf group r) h)
-    unfolding methodOf methodBy rulesOf highXofY
-    many = rw eligibles-are (omega (arith, q .count))
+    spare-back : all (lookedBack r) (spareOf days) ≡ true
+    unfolding spareOf
+    spare-back = all-keep (lookedBack r) (λ (p : ℕ × Day). spare (p .1)) days back
 
-    full-window : window (methodOf group r) h ≡ take (Y (group (r .event))) (eligibleOf days)
-    unfolding methodOf methodBy rulesOf highXofY
-    full-window = window-full (methodOf group r) (lawful group r) h many ∙ ap (take (Y (group (r .event)))) eligibles-are
+    -- the eligible days fill the window
+    module _ (full : numbers .most ≤ found .count) where
+      many : m .most ≤ length (eligibles m h)
+      unfolding methodBy
+      many = rw eligibles-are (omega (arith, q .count, f .most))
 
-    full-reach : found .oldest ≡ reach (methodOf group r) h
-    unfolding reach
-    full-reach =
-        rw (full-size (methodOf group r) (lawful group r) h many, eq-eqb (methodOf group r .most) (methodOf group r .most) refl, full-window)
-        (unfold methodOf methodBy rulesOf highXofY in q .oldest)
+      full-window : window m h ≡ take (numbers .most) (eligibleOf days)
+      unfolding methodBy
+      full-window = window-full m (lawful-by f group) h many ∙ (λ i. take (sym (f .most) i) (eligibles-are i))
 
-    full-choice : ranked (r .event) (found .eligible) (N (group (r .event))) (found .oldest) ≡ choiceOf (methodOf group r) h
-    full-choice =
-        ranked-is group r h (take (Y (group (r .event))) (eligibleOf days)) full-window
-        (rw length-take (omega (arith, q .count, fewer-chosen (group (r .event)))))
-        (full-enough (methodOf group r) h many)
-        (all-take (lookedBack r) (Y (group (r .event))) (eligibleOf days) eligible-back)
-        (q .row) full-reach
+      sized : numbers .most ≡ length (window m h)
+      unfolding methodBy
+      sized = f .most ∙ sym (full-size m (lawful-by f group) h many)
 
-  -- they do not
-  module _ (less : found .count < Y (group (r .event))) (before : h .first ≤ r .event + 1) where
-    fewer : length (eligibleOf days) < Y (group (r .event))
-    fewer = omega (arith, q .count)
+      full-reach : found .oldest ≡ reach m h
+      unfolding reach methodBy
+      full-reach =
+          q .oldest
+          ∙ rw (eq-eqb (length (window m h)) (rules .most) (full-size m (lawful-by f group) h many), full-window)
 
-    count-is : found .count ≡ length (eligibleOf days)
-    count-is = omega (arith, q .count, fewer)
+      pub full-choice : picked (r .event) numbers (found .eligible) (numbers .most) (found .oldest) ≡ choiceOf m h
+      full-choice =
+          picked-is (omega (arith, sized, f .sound .ten)) (q .row ∙ ap (rowOf r) (sym full-window)) sized full-reach
+          (rw full-window (all-take (lookedBack r) (numbers .most) (eligibleOf days) eligible-back))
+          (full-enough m h many)
 
-    few-window : List (ℕ × Day)
-    few-window = eligibleOf days ++ take (N (group (r .event)) - length (eligibleOf days)) (sortBy (higher r) (spareOf days))
+    -- they do not
+    module _ (less : found .count < numbers .most) (before : h .first ≤ r .event + 1) where
+      fewer : length (eligibleOf days) < numbers .most
+      fewer = omega (arith, q .count)
 
-    window-is : window (methodOf group r) h ≡ few-window
-    unfolding window methodOf methodBy rulesOf highXofY few-window
-    window-is =
-        (λ i. take (Y (group (r .event))) (eligibles-are i) ++ take (N (group (r .event)) - length (eligibles-are i)) (spares-are i))
-        ∙ ap (λ (l : List (ℕ × Day)). l ++ take (N (group (r .event)) - length (eligibleOf days)) (sortBy (higher r) (spareOf days)))
-        (take-all (Y (group (r .event))) (eligibleOf days) (omega (arith, fewer)))
+      count-eligible : found .count ≡ length (eligibleOf days)
+      count-eligible = omega (arith, q .count, fewer)
 
-    size-is : length few-window ≡ found .count + min (N (group (r .event)) - found .count) (found .spares)
-    unfolding few-window
-    size-is = rw (length-append, length-take, length-sorted, q .spares fewer, count-is)
+      filling : List (ℕ × Day)
+      filling = take (fillers numbers found) (inOrder r (numbers .spares) (spareOf days))
 
-    few-back : all (lookedBack r) few-window ≡ true
-    unfolding few-window
-    few-back =
-        rw (all-append, eligible-back)
-        (all-take (lookedBack r) (N (group (r .event)) - length (eligibleOf days)) (sortBy (higher r) (spareOf days))
-        (all-sorted (higher r) (lookedBack r) (spareOf days) ∙ spare-back))
+      filling-is : take (rules .fill - length (eligibleOf days)) (inOrder r (numbers .spares) (spareOf days)) ≡ filling
+      unfolding filling
+      filling-is =
+          sym (take-within (rules .fill - length (eligibleOf days)) (inOrder r (numbers .spares) (spareOf days)))
+          ∙ rw (order-length r (numbers .spares) (spareOf days), f .fill, count-eligible, q .spares fewer)
 
-    row-is : insertAll (take (N (group (r .event)) - found .count) (found .spare)) (found .eligible) ≡ rowOf r few-window
-    unfolding few-window
-    row-is =
-        rw (q .sparing fewer, q .row, take-all (Y (group (r .event))) (eligibleOf days) (omega (arith, fewer)), count-is)
-        (window-ranked r (N (group (r .event)) - length (eligibleOf days)) (eligibleOf days) (spareOf days) spare-back
-        (omega (arith, chosen-few (group (r .event)))))
+      window-is : window m h ≡ eligibleOf days ++ filling
+      unfolding window methodBy
+      window-is =
+          (λ i. take (rules .most) (eligibles-are i) ++ take (rules .fill - length (eligibles-are i)) (spares-are i))
+          ∙ (λ i. take-all (rules .most) (eligibleOf days) (omega (arith, fewer, f .most)) i ++ filling-is i)
 
-    few-eligible : length (eligibles (methodOf group r) h) < methodOf group r .most
-    unfolding methodOf methodBy rulesOf highXofY
-    few-eligible = rw eligibles-are fewer
+      sized-few : found .count + fillers numbers found ≡ length (window m h)
+      unfolding filling
+      sized-few =
+          rw (window-is, length-append, length-take, order-length r (numbers .spares) (spareOf days), ← count-eligible, ← q .spares fewer) (omega arith)
 
-    reach-is : reach (methodOf group r) h ≡ wholeReach (methodOf group r)
-    unfolding reach
-    reach-is =
-        rw (ne-eqb (length (window (methodOf group r) h)) (methodOf group r .most)
-        (λ e. omega (arith, size-below (methodOf group r) (lawful group r) h few-eligible)))
+      few-back : all (lookedBack r) (window m h) ≡ true
+      unfolding filling
+      few-back =
+          rw (window-is, all-append, eligible-back)
+          (all-take (lookedBack r) (fillers numbers found) (inOrder r (numbers .spares) (spareOf days))
+          (order-back r (numbers .spares) (spareOf days) spare-back))
 
-    short-is : isShort (methodOf group r) h ≡ ltb (r .event - h .first) (wholeReach (methodOf group r))
-    unfolding isShort
-    short-is = rw (lt-ltb (length (eligibles (methodOf group r) h)) (methodOf group r .most) few-eligible) (short-of-reach group r (h .first) before)
+      row-is : insertAll (take (fillers numbers found) (found .spare)) (found .eligible) ≡ rowOf r (window m h)
+      unfolding filling
+      row-is =
+          rw (q .sparing fewer, q .row, take-all (numbers .most) (eligibleOf days) (omega (arith, fewer)), window-is)
+          (ap (λ (l : List ℕ). insertAll l (rowOf r (eligibleOf days)))
+          (spare-words r (numbers .spares) (fillers numbers found) (spareOf days) spare-back
+          (omega (arith, q .spares fewer)) (omega (arith, f .sound .ten, f .sound .fills)))
+          ∙ row-with r (eligibleOf days) filling)
 
-    few-choice : amongFew r (N (group (r .event))) found (r .event - h .first) (wholeReach (methodOf group r)) ≡ choiceOf (methodOf group r) h
-    few-choice =
-        ⊎-elim
-        (λ (o : r .event - h .first < wholeReach (methodOf group r)).
-        sym (short-of-days r (N (group (r .event))) found (r .event - h .first) (wholeReach (methodOf group r)) o)
-        ∙ sym (choice-short (methodOf group r) h (short-is ∙ lt-ltb (r .event - h .first) (wholeReach (methodOf group r)) o)))
-        (λ (o : wholeReach (methodOf group r) ≤ r .event - h .first). ⊎-elim (too-few o) (enough o) (lt-or-le (found .count + found .spares) (N (group (r .event)))))
-        (lt-or-le (r .event - h .first) (wholeReach (methodOf group r)))
-      where
-        not-short : wholeReach (methodOf group r) ≤ r .event - h .first → isShort (methodOf group r) h ≡ false
-        not-short o = short-is ∙ le-ltb (r .event - h .first) (wholeReach (methodOf group r)) o
+      few-eligible : length (eligibles m h) < m .most
+      unfolding methodBy
+      few-eligible = rw eligibles-are (omega (arith, fewer, f .most))
 
-        too-few : wholeReach (methodOf group r) ≤ r .event - h .first → found .count + found .spares < N (group (r .event))
-            → amongFew r (N (group (r .event))) found (r .event - h .first) (wholeReach (methodOf group r)) ≡ choiceOf (methodOf group r) h
-        too-few o l =
-            let size : length few-window ≡ found .count + found .spares = omega (arith, size-is) in
-            sym (few-days r (N (group (r .event))) found (r .event - h .first) (wholeReach (methodOf group r)) o l)
-            ∙ (λ i. noDays (Few (sym (ap length window-is ∙ size) i) (sym reach-is i)))
-            ∙ sym (choice-few (methodOf group r) h (not-short o) (few-taken group r h few-window window-is (omega arith)))
+      few-size : length (window m h) ≤ 10
+      unfolding methodBy
+      few-size = omega (arith, size-below m (lawful-by f group) h few-eligible, f .most, f .sound .ten)
 
-        enough : wholeReach (methodOf group r) ≤ r .event - h .first → N (group (r .event)) ≤ found .count + found .spares
-            → amongFew r (N (group (r .event))) found (r .event - h .first) (wholeReach (methodOf group r)) ≡ choiceOf (methodOf group r) h
-        enough o l =
-            sym (enough-days r (N (group (r .event))) found (r .event - h .first) (wholeReach (methodOf group r)) o l)
-            ∙ ranked-is group r h few-window window-is (omega (arith, size-is)) (not-short o) few-back row-is (sym reach-is)
+      reach-is : wholeReach m ≡ reach m h
+      unfolding reach
+      reach-is =
+          rw (ne-eqb (length (window m h)) (m .most) (λ e. omega (arith, size-below m (lawful-by f group) h few-eligible)))
+
+      short-is : isShort m h ≡ ltb (r .event - h .first) (wholeReach m)
+      unfolding isShort wholeReach methodOf methodBy
+      short-is = rw (lt-ltb (length (eligibles m h)) (m .most) few-eligible) (short-of-reach group r (h .first) before)
+
+      pub few-choice : amongFew r numbers found (r .event - h .first) (wholeReach m) ≡ choiceOf m h
+      few-choice =
+          ⊎-elim
+          (λ (o : r .event - h .first < wholeReach m).
+          sym (short-of-days r numbers found (r .event - h .first) (wholeReach m) o)
+          ∙ sym (choice-short m h (short-is ∙ lt-ltb (r .event - h .first) (wholeReach m) o)))
+          (λ (o : wholeReach m ≤ r .event - h .first).
+          sym (enough-days r numbers found (r .event - h .first) (wholeReach m) o)
+          ∙ picked-is few-size row-is sized-few reach-is few-back
+          (short-is ∙ le-ltb (r .event - h .first) (wholeReach m) o))
+          (lt-or-le (r .event - h .first) (wholeReach m))
 
 -- Over a directory
 
@@ -273,22 +289,39 @@ module _ (r : Request) (rooms : Directory) (readings : List ℕ) where
   not-after = omega arith
 
 module _ (group : ℕ → Group) (r : Request) (rooms : Directory) (readings : List ℕ) where
-  pub seen-rooms : seen (methodOf group r) (roomHistory r rooms readings) ≡ nearest group r (roomsOf r rooms readings) (roomsBefore r rooms)
+  pub seen-rooms : (rules : Rules)
+      → seen (methodBy group r rules) (roomHistory r rooms readings) ≡ nearest group r (roomsOf r rooms readings) (roomsBefore r rooms)
   unfolding roomHistory
-  seen-rooms =
+  seen-rooms rules =
       let e : min 45 (r .event - roomHistory r rooms readings .first) ≡ roomsBefore r rooms = omega (arith, within-45 r rooms readings, before-first r rooms readings) in
-      seen-nearest group r (roomHistory r rooms readings) (up-to-event r rooms readings) ∙ ap (nearest group r (roomsOf r rooms readings)) e
+      seen-nearest group r (roomHistory r rooms readings) rules (up-to-event r rooms readings) ∙ ap (nearest group r (roomsOf r rooms readings)) e
 
-  module _ (found : Found) (q : Enough r (Y (group (r .event))) (nearest group r (roomsOf r rooms readings) (roomsBefore r rooms)) found) where
-    pub choose-full : Y (group (r .event)) ≤ found .count
-        → ranked (r .event) (found .eligible) (N (group (r .event))) (found .oldest) ≡ choiceOf (methodOf group r) (roomHistory r rooms readings)
+  module _ {rules : Rules} {numbers : Numbers} (f : Follows r rules numbers) (found : Found)
+      (q : Enough r (numbers .most) (numbers .spares) (nearest group r (roomsOf r rooms readings) (roomsBefore r rooms)) found) where
+    pub choose-full : numbers .most ≤ found .count
+        → picked (r .event) numbers (found .eligible) (numbers .most) (found .oldest) ≡ choiceOf (methodBy group r rules) (roomHistory r rooms readings)
     choose-full =
-        full-choice group r (roomHistory r rooms readings) (nearest group r (roomsOf r rooms readings) (roomsBefore r rooms)) found seen-rooms
+        full-choice group f (roomHistory r rooms readings) (nearest group r (roomsOf r rooms readings) (roomsBefore r rooms)) found (seen-rooms rules)
         (nearest-back group r (roomsOf r rooms readings) (roomsBefore r rooms) (within-45 r rooms readings)) q
 
-    pub choose-few : found .count < Y (group (r .event))
-        → amongFew r (N (group (r .event))) found (roomsBefore r rooms) (wholeReach (methodOf group r)) ≡ choiceOf (methodOf group r) (roomHistory r rooms readings)
+    pub choose-few : found .count < numbers .most
+        → amongFew r numbers found (roomsBefore r rooms) (wholeReach (methodBy group r rules)) ≡ choiceOf (methodBy group r rules) (roomHistory r rooms readings)
     choose-few less =
-        ap (λ (n : ℕ). amongFew r (N (group (r .event))) found n (wholeReach (methodOf group r))) (sym (before-first r rooms readings))
-        ∙ few-choice group r (roomHistory r rooms readings) (nearest group r (roomsOf r rooms readings) (roomsBefore r rooms)) found seen-rooms
+        ap (λ (n : ℕ). amongFew r numbers found n (wholeReach (methodBy group r rules))) (sym (before-first r rooms readings))
+        ∙ few-choice group f (roomHistory r rooms readings) (nearest group r (roomsOf r rooms readings) (roomsBefore r rooms)) found (seen-rooms rules)
         (nearest-back group r (roomsOf r rooms readings) (roomsBefore r rooms) (within-45 r rooms readings)) q less (not-after r rooms readings)
+
+-- By the request's own rules
+
+module _ (group : ℕ → Group) (r : Request) (rooms : Directory) (readings : List ℕ) {g : Group} {numbers : Numbers} {before : ℕ} (found : Found)
+    (own : g ≡ group (r .event)) (f : Follows r (rulesOf g r) numbers) (held : before ≡ roomsBefore r rooms)
+    (q : Enough r (numbers .most) (numbers .spares) (nearest group r (roomsOf r rooms readings) before) found) where
+  pub request-full : numbers .most ≤ found .count
+      → picked (r .event) numbers (found .eligible) (numbers .most) (found .oldest) ≡ choiceOf (methodOf group r) (roomHistory r rooms readings)
+  unfolding methodOf
+  request-full = choose-full group r rooms readings (rw own at f) found (rw held at q)
+
+  pub request-few : found .count < numbers .most
+      → amongFew r numbers found before (wholeReach (methodOf group r)) ≡ choiceOf (methodOf group r) (roomHistory r rooms readings)
+  unfolding methodOf
+  request-few less = rw held (choose-few group r rooms readings (rw own at f) found (rw held at q) less)

@@ -1,2 +1,2 @@
 pub mod Choice
-pub mod Look
+pub mod Steps

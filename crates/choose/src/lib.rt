@@ -1,18 +1,16 @@
 // The choice of days over a directory of rooms: which days are relevant, eligible and spare, the window, the chosen days and the reach
 // (document 01, "Choosing the days"). A table, a ring and a shared store make a directory; the choice is the same function.
 ghost use mathlib.Core.Path.{_≡_};
-ghost use mathlib.Core.List.{map};
-ghost use Prim.Native.Nat.{_-_, _%_, _≤_, _<_};
-ghost use lib.ListN.{length, take};
+ghost use Prim.Native.Nat.{_+_, _-_, _%_, _≤_, _<_};
+ghost use lib.ListN.{length, set};
 ghost use Rattle.calendar.specs.Holidays.{group as groupOf};
 ghost use Rattle.method.specs.Table.{mostQuarters};
 ghost use Rattle.method.specs.Method.{wholeReach};
-ghost use Rattle.method.specs.HighXofY.{Y, N};
-ghost use Rattle.method.specs.Requested.{methodOf};
+ghost use Rattle.method.specs.Requested.{rulesOf, methodOf};
 ghost use Rattle.rooms.specs.Rooms.{roomHistory};
 ghost use Rattle.judging.specs.Judging.{room};
 ghost use Rattle.choose.specs.Choice.{choiceOf, noDays, inFive};
-ghost use Rattle.choose.specs.Look.{roomsOf, nearest, ifRelevant, Further, Adds, Enough, wordDay, ranked, amongFew};
+ghost use Rattle.choose.specs.Steps.{Follows, Sound, roomsOf, nearest, ifRelevant, withSpare, Further, Adds, Enough, daysIn, picked, amongFew, firstRanks};
 use calendar::Group;
 use judging::Judged;
 use method::Request;
@@ -39,6 +37,22 @@ pub struct Choice {
     pub chosen: Chosen,
 }
 
+// The order in which spare days fill a shortage: the highest first, or the nearest to the event first.
+enum SpareOrder {
+    Highest,
+    Latest,
+}
+
+// The rules of a request as numbers: Y; up to how many days spares fill the window, and in which order; and by the window's size, 0 to 10, the
+// ranks passed over and the days taken.
+struct Rules {
+    most: u32,
+    fill: u32,
+    spares: SpareOrder,
+    passed: [u32; 11],
+    taken: [u32; 11],
+}
+
 // What was found looking back: the words of eligible days, how many there are, how far back the last of them lies, and the same of spare
 // days but for their place.
 struct Found {
@@ -49,25 +63,50 @@ struct Found {
     spares: u32,
 }
 
-// Y: how many eligible days fill the window.
-fn most(group: Group) -> u32
-    ensures { λ r. ⌜ r ≡ Y group ⌝ }
+// Rules by which no rank is passed over, and the highest spares fill first.
+fn first_ranks(most: u32, fill: u32, taken: [u32; 11]) -> Rules
+    ensures { λ r. ⌜ r ≡ firstRanks most fill taken ⌝ }
 {
-    match group {
-        Group::Weekday => 10,
-        Group::Saturday => 3,
-        Group::HolidayGroup => 3,
+    Rules {
+        most,
+        fill,
+        spares: SpareOrder::Highest,
+        passed: [0; 11],
+        taken,
     }
 }
 
-// N: how many days are chosen.
-fn fill(group: Group) -> u32
-    ensures { λ r. ⌜ r ≡ N group ⌝ }
+// The rules of a request on a day of this group.
+fn rules_of(request: Request, group: Group) -> Rules
+    ensures { λ r. ⌜ Follows request (rulesOf group request) r ⌝ }
 {
     match group {
-        Group::Weekday => 5,
-        Group::Saturday => 2,
-        Group::HolidayGroup => 2,
+        Group::Weekday => first_ranks(10, 5, [0, 0, 0, 0, 0, 5, 5, 5, 5, 5, 5]),
+        Group::Saturday => first_ranks(3, 2, [0, 0, 2, 2, 2, 2, 2, 2, 2, 2, 2]),
+        Group::HolidayGroup => first_ranks(3, 2, [0, 0, 2, 2, 2, 2, 2, 2, 2, 2, 2]),
+    }
+}
+
+// A row with one more word after the `count` that stand there; it is lost where there is no place for it.
+fn append(row: [u64; 10], count: u32, word: u64) -> [u64; 10]
+    ensures { λ r. ⌜ r ≡ set row count word ⌝ }
+{
+    if count < 10 {
+        let mut next = row;
+        next[count as usize] = word;
+        next
+    } else {
+        row
+    }
+}
+
+// A row of `count` spare days with one more.
+fn with_spare(spares: SpareOrder, row: [u64; 10], count: u32, word: u64) -> [u64; 10]
+    ensures { λ r. ⌜ r ≡ withSpare spares row count word ⌝ }
+{
+    match spares {
+        SpareOrder::Highest => ranking::insert(row, word),
+        SpareOrder::Latest => append(row, count, word),
     }
 }
 
@@ -75,13 +114,14 @@ fn fill(group: Group) -> u32
 fn with_day(
     request: Request,
     group: Group,
+    spares: SpareOrder,
     back: u32,
     mark: u8,
     part: &[u32],
     found: Found,
 ) -> Found
     requires { ⌜ (group ≡ groupOf (request .event)) × Further request back found × (length (now part) ≤ mostQuarters) ⌝ }
-    ensures { λ r. ⌜ Adds request back (ifRelevant groupOf request (request .event - back, room mark (now (part .entry)))) found r ⌝ }
+    ensures { λ r. ⌜ Adds request spares back (ifRelevant groupOf request (request .event - back, room mark (now (part .entry)))) found r ⌝ }
 {
     if relevance::relevant(request, group, request.event - back) {
         let eligible = found.eligible;
@@ -98,7 +138,7 @@ fn with_day(
                 eligible,
                 count: found.count,
                 oldest: found.oldest,
-                spare: ranking::insert(spare, word),
+                spare: with_spare(spares, spare, found.spares, word),
                 spares: found.spares + 1,
             },
             Judged::Neither => found,
@@ -109,11 +149,18 @@ fn with_day(
 }
 
 // The look back over the days held before the event, nearest first. It ends at the day that fills the window.
-fn look(request: Request, group: Group, rooms: Directory, readings: &[u32], before: u32) -> Found
+fn look(
+    request: Request,
+    group: Group,
+    rules: Rules,
+    rooms: Directory,
+    readings: &[u32],
+    before: u32,
+) -> Found
     requires { ⌜ (group ≡ groupOf (request .event)) × (before ≤ 45) × (before ≤ request .event) ⌝ }
-    ensures { λ r. ⌜ Enough request (Y group) (nearest groupOf request (roomsOf request rooms (now (readings .entry))) before) r ⌝ }
+    ensures { λ r. ⌜ Enough request (rules .most) (rules .spares) (nearest groupOf request (roomsOf request rooms (now (readings .entry))) before) r ⌝ }
 {
-    let wanted = most(group);
+    let spares = rules.spares;
     let mut found = Found {
         eligible: [0; 10],
         count: 0,
@@ -123,14 +170,22 @@ fn look(request: Request, group: Group, rooms: Directory, readings: &[u32], befo
     };
     let mut back = 0;
     while back < before {
-        if found.count == wanted {
+        if found.count == rules.most {
             return found;
         }
         back += 1;
         let place = back as usize;
         let size = day_ruler::size(request.event - back);
         let part = rooms::readings_at(readings, rooms.at[place], size);
-        let next = with_day(request, group, back, rooms.marks[place], part, found);
+        let next = with_day(
+            request,
+            group,
+            spares,
+            back,
+            rooms.marks[place],
+            part,
+            found,
+        );
         found = next;
     }
     found
@@ -143,15 +198,15 @@ fn day_of(event: u32, word: u64) -> u32
     counts::minus(event, counts::minus(46, ranking::nearness_of(word)))
 }
 
-// The days of the first words of a row, up to five.
-fn days_of(event: u32, row: [u64; 10], count: usize) -> [u32; 5]
-    requires { ⌜ count ≤ 5 ⌝ }
-    ensures { λ r. ⌜ r ≡ inFive (map (wordDay event) (take count row)) ⌝ }
+// The days of so many words of a row, up to five, after those passed over.
+fn days_in(event: u32, row: [u64; 10], passed: usize, count: usize) -> [u32; 5]
+    requires { ⌜ (count ≤ 5) × (passed + count ≤ 10) ⌝ }
+    ensures { λ r. ⌜ r ≡ inFive (daysIn event row passed count) ⌝ }
 {
     let mut days = [0; 5];
     let mut i = 0;
     while i < count {
-        days[i] = day_of(event, row[i]);
+        days[i] = day_of(event, row[passed + i]);
         i += 1;
     }
     days
@@ -171,39 +226,40 @@ fn refused(choosing: Choosing) -> Choice
     }
 }
 
-// The choice of the first N of a ranked window.
-fn first_of(event: u32, row: [u64; 10], count: u32, reach: u32) -> Choice
-    requires { ⌜ count ≤ 5 ⌝ }
-    ensures { λ r. ⌜ r ≡ ranked event row count reach ⌝ }
+// The choice from the ranked row of a window of so many days.
+fn pick(event: u32, rules: Rules, row: [u64; 10], size: u32, reach: u32) -> Choice
+    requires { ⌜ Sound rules × (size ≤ 10) ⌝ }
+    ensures { λ r. ⌜ r ≡ picked event rules row size reach ⌝ }
 {
+    let count = rules.taken[size as usize];
+    if count == 0 {
+        return refused(Choosing::Few { size, reach });
+    }
+    let passed = rules.passed[size as usize];
     Choice {
         choosing: Choosing::Days,
         chosen: Chosen {
-            days: days_of(event, row, count as usize),
+            days: days_in(event, row, passed as usize, count as usize),
             count,
             reach,
         },
     }
 }
 
-// The choice where the eligible days do not fill the window: spare days are put in up to N, and the reach is that of all relevant days.
-fn choose_among_few(request: Request, group: Group, found: Found, before: u32) -> Choice
-    requires { ⌜ (found .count < 10) × (found .spares ≤ 45) ⌝ }
-    ensures { λ r. ⌜ r ≡ amongFew request (N group) found before (wholeReach (methodOf groupOf request)) ⌝ }
+// The choice where the eligible days do not fill the window: spare days are put in, and the reach is that of all relevant days.
+fn choose_among_few(request: Request, rules: Rules, found: Found, before: u32) -> Choice
+    requires { ⌜ Sound rules × (found .count < rules .most) × (found .spares ≤ 45) ⌝ }
+    ensures { λ r. ⌜ r ≡ amongFew request rules found before (wholeReach (methodOf groupOf request)) ⌝ }
 {
     let reach = relevance::whole_reach(request);
     if before < reach {
         return refused(Choosing::Short(reach));
     }
-    let wanted = fill(group);
-    let size = found.count + found.spares;
-    if size < wanted {
-        return refused(Choosing::Few { size, reach });
-    }
+    let fillers = counts::least(counts::minus(rules.fill, found.count), found.spares);
     let spare = found.spare;
     let eligible = found.eligible;
-    let row = ranking::insert_all(spare, counts::minus(wanted, found.count) as usize, eligible);
-    first_of(request.event, row, wanted, reach)
+    let row = ranking::insert_all(spare, fillers as usize, eligible);
+    pick(request.event, rules, row, found.count + fillers, reach)
 }
 
 // The choice of days: refusal 8 or 9, or the chosen days and the reach.
@@ -212,15 +268,16 @@ pub fn choose(request: Request, rooms: Directory, readings: &[u32]) -> Choice
 {
     let event = request.event;
     let group = calendar::group_of(event);
+    let rules = rules_of(request, group);
     let before = counts::least(
         counts::minus(rooms.held, 1),
         counts::least(method::LOOK_BACK, event),
     );
-    let found = look(request, group, rooms, readings, before);
-    if found.count < most(group) {
-        choose_among_few(request, group, found, before)
+    let found = look(request, group, rules, rooms, readings, before);
+    if found.count < rules.most {
+        choose_among_few(request, rules, found, before)
     } else {
         let eligible = found.eligible;
-        first_of(event, eligible, fill(group), found.oldest)
+        pick(event, rules, eligible, rules.most, found.oldest)
     }
 }

@@ -3,12 +3,12 @@ use Prim.Native.Nat.{ℕ, _*_, _/_, _≤_}
 use mathlib.Core.Path.{_≡_, sym}
 use mathlib.Core.Bool.{false}
 use mathlib.Core.List.{List}
-use native.Mathlib.Omega.{arith}
 use lib.ListN.{take}
 use Rattle.lists.proofs.Bools.{clash}
 use Rattle.calendar.specs.Holidays.{group}
 use Rattle.method.specs.declared.Request.{Request}
 use Rattle.method.specs.declared.Refusal.the-variants.{BadFile, NoEvent}
+use Rattle.method.specs.Table.{mostQuarters}
 use Rattle.method.specs.Verdict.{refused, verdict}
 use Rattle.table.specs.Lent.{tableOf}
 use Rattle.record.specs.declared.Shape.{Shape}
@@ -16,6 +16,7 @@ use Rattle.record.specs.declared.Read.the-variants.{Refused as RefusedRead}
 use Rattle.record.specs.declared.EventAt.{EventAt}
 use Rattle.record.specs.declared.EventAt.the-variants.{Event, NoEvent as NoneThere, Refused as RefusedEvent}
 use Rattle.record.specs.Reader.{readFile, tableIn, tableWithin, eventAtPlace}
+use Rattle.record.proofs.Starts.{offset-most}
 use Rattle.record.proofs.Files.{shape-fits}
 use Rattle.record.proofs.Lengths.{table-within}
 use Rattle.loading.specs.Loading.{fitsWithin}
@@ -43,17 +44,17 @@ refused-file file place room e = rw e
 
 -- ---- loading
 module _ {file : List ℕ} {shape : Shape} (q : LaidDown file shape) where
-  pub fits-in : (n : ℕ) → shape .days ≤ n → Fits file shape n (96 * n)
-  fits-in n few = record { laid-down = q; marks-room = few; readings-room = omega arith }
+  pub fits-in : (n : ℕ) → shape .days ≤ n → Fits file shape n (mostQuarters * n)
+  fits-in n few = record { laid-down = q; marks-room = few; readings-room = offset-most (shape .first) (shape .days) n few }
 
-  pub fits-any : Fits file shape 128 12288
+  pub fits-any : Fits file shape 128 (mostQuarters * 128)
   fits-any = fits-in 128 (shape-fits file shape (q .accepted) .days)
 
 pub never-full : {file : List ℕ} {shape : Shape} {marks readings : ℕ} → Fits file shape marks readings → {X : Type 0} → false ≡ fitsWithin shape file marks readings → X
 never-full {file} {marks = marks} {readings = readings} q e =
     absurd (clash (fits-own file (q .laid-down .accepted) marks readings (q .marks-room) (q .readings-room)) (sym e))
 
-pub its-table : {file : List ℕ} {shape : Shape} {marks readings : List ℕ} → LaidDown file shape → WithinBuffers shape file marks readings
-    → tableOf (shape .first) (take (shape .days) marks) (take (96 * shape .days) readings) ≡ tableIn file
+pub its-table : {file : List ℕ} {shape : Shape} {count : ℕ} {marks readings : List ℕ} → LaidDown file shape → WithinBuffers shape file count marks readings
+    → tableOf (shape .first) (take (shape .days) marks) (take count readings) ≡ tableIn file
 unfolding tableWithin
 its-table {file} {shape} l q = rw (q .its-marks, q .its-readings) (table-within file (l .accepted))

@@ -1,11 +1,11 @@
 -- 01, "Record file, listing, host entry": "calls one entry with the file as bytes, the event's place from 0 and a byte buffer for 4-byte
 -- little-endian numerators".
-use Prim.Native.Nat.{ℕ, _*_, _/_, _≤_}
+use Prim.Native.Nat.{ℕ, _/_, _≤_}
 use mathlib.Core.Path.{_≡_}
 use mathlib.Core.List.{List}
 use Rattle.calendar.specs.Holidays.{group}
 use Rattle.method.specs.declared.Refusal.the-variants.{BadFile, NoEvent}
-use Rattle.method.specs.Table.{Table}
+use Rattle.method.specs.Table.{Table, offset}
 use Rattle.method.specs.Verdict.{Reply, refused, verdict}
 use Rattle.record.specs.declared.EventAt.{EventAt}
 use Rattle.record.specs.declared.EventAt.the-variants.{Event, NoEvent as NoneThere, Refused}
@@ -30,4 +30,4 @@ pub record LaidDown (file : List ℕ) (shape : Shape) : Type 0 where
 pub record Fits (file : List ℕ) (shape : Shape) (marks readings : ℕ) : Type 0 where
   pub laid-down : LaidDown file shape
   pub marks-room : shape .days ≤ marks
-  pub readings-room : 96 * shape .days ≤ readings
+  pub readings-room : offset (shape .first) (shape .days) ≤ readings

@@ -1,19 +1,19 @@
 // The baseline of an event of a record file: document 01, "Record file, listing, host entry", the entry that a metering platform calls.
-ghost use Prim.Native.Nat.{_/_};
+ghost use Prim.Native.Nat.{_*_, _/_};
 ghost use lib.ListN.{length};
 ghost use Rattle.calendar.specs.Holidays.{group};
+ghost use Rattle.method.specs.Table.{mostQuarters};
 ghost use Rattle.method.specs.Verdict.{verdict};
 ghost use Rattle.record.specs.Reader.{tableIn};
 ghost use Rattle.bytewise.specs.Bytewise.{FileAnswers};
 ghost use Rattle.entry.specs.Entry.{fileReply, LaidDown, Fits};
 use answer::Answer;
+use method::QUARTERS;
 use method::Refusal;
 use method::Request;
 use record::EventAt;
 use record::Read;
 use record::Shape;
-
-const QUARTERS: usize = 96;
 
 // The baseline of an event over the table of a file of this shape, loaded into buffers that it fits.
 fn loaded_baseline(
@@ -29,7 +29,7 @@ fn loaded_baseline(
 {
     if loading::load_within(file, shape, marks, readings) {
         let days = shape.days as usize;
-        let count = QUARTERS * days;
+        let count = record::offset(shape.first, shape.days);
         bytewise::table_baseline(
             shape.first,
             &marks[..days],
@@ -44,29 +44,29 @@ fn loaded_baseline(
 
 // The same in buffers for 32 days, for 64 and for 128: every array is filled when it is made, which a month's file need not pay for 128.
 fn in_32_days(file: &[u8], shape: Shape, request: Request, out: &mut [u8]) -> Answer
-    requires { ⌜ Fits (now file) shape 32 3072 ⌝ }
+    requires { ⌜ Fits (now file) shape 32 (mostQuarters * 32) ⌝ }
     ensures { λ r. ⌜ FileAnswers (verdict group (tableIn (now (file .entry))) request (length (now (out .entry)) / 4)) r (now (out .entry)) (now (out .exit)) ⌝ }
 {
     let mut marks = [0u8; 32];
-    let mut readings = [0u32; 3072];
+    let mut readings = [0u32; QUARTERS * 32];
     loaded_baseline(file, shape, request, &mut marks, &mut readings, out)
 }
 
 fn in_64_days(file: &[u8], shape: Shape, request: Request, out: &mut [u8]) -> Answer
-    requires { ⌜ Fits (now file) shape 64 6144 ⌝ }
+    requires { ⌜ Fits (now file) shape 64 (mostQuarters * 64) ⌝ }
     ensures { λ r. ⌜ FileAnswers (verdict group (tableIn (now (file .entry))) request (length (now (out .entry)) / 4)) r (now (out .entry)) (now (out .exit)) ⌝ }
 {
     let mut marks = [0u8; 64];
-    let mut readings = [0u32; 6144];
+    let mut readings = [0u32; QUARTERS * 64];
     loaded_baseline(file, shape, request, &mut marks, &mut readings, out)
 }
 
 fn in_128_days(file: &[u8], shape: Shape, request: Request, out: &mut [u8]) -> Answer
-    requires { ⌜ Fits (now file) shape 128 12288 ⌝ }
+    requires { ⌜ Fits (now file) shape 128 (mostQuarters * 128) ⌝ }
     ensures { λ r. ⌜ FileAnswers (verdict group (tableIn (now (file .entry))) request (length (now (out .entry)) / 4)) r (now (out .entry)) (now (out .exit)) ⌝ }
 {
     let mut marks = [0u8; 128];
-    let mut readings = [0u32; 12288];
+    let mut readings = [0u32; QUARTERS * 128];
     loaded_baseline(file, shape, request, &mut marks, &mut readings, out)
 }
 

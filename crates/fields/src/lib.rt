@@ -1,18 +1,6 @@
-// The fields of a record file: where the days stand, and numbers of two and four bytes, the lowest first.
+// The fields of a record file: numbers of two and four bytes, the lowest first.
 ghost use mathlib.Core.Path.{_≡_};
 ghost use Prim.Native.Nat.{_+_, _*_, _<_};
-
-// The bytes of a PF and of an EV, and of a DY.
-pub const SHORT_RECORD: usize = 8;
-
-pub const DAY_RECORD: usize = 390;
-
-// Where the k-th DY starts, counted from 0; after the last DY, where the first EV does.
-pub fn day_start(k: u32) -> usize
-    ensures { λ r. ⌜ r ≡ 8 + 390 * k ⌝ }
-{
-    SHORT_RECORD + DAY_RECORD * (k as usize)
-}
 
 // The number of two bytes.
 pub fn number2(first: u8, second: u8) -> u32

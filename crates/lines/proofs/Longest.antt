@@ -13,12 +13,16 @@ use lib.Dec.{leb}
 use borrow.Author.Tests.{le-leb, lt-leb, ne-eqb}
 use Rattle.lists.proofs.Bools.{lt-or-le}
 use Rattle.lists.specs.Ascii.{ascii}
-use Rattle.record.specs.Reader.{numberAt, opensWith, isRecord, isPF, isDY, isEV, run, isDYof, daysFrom, eventsFrom, firstIn, daysIn, dyLength}
-use Rattle.record.specs.Reader.{eventStart, eventsIn, goodEnd, readFile}
+use Rattle.method.specs.Table.{mostQuarters}
+use Rattle.record.specs.Reader.{numberAt, opensWith, isRecord, isPF, pfLength, isDY, dyBytes, dyLength, dyDay, isEV, evLength, run, isDYof}
+use Rattle.record.specs.declared.Shape.{Shape}
+use Rattle.record.specs.declared.Read.the-variants.{File}
+use Rattle.record.specs.Reader.{daysFrom, eventsFrom, fileBase, mostBase, firstIn, daysIn, eventStart, eventsIn, goodEnd, readFile}
 use Rattle.lines.specs.Listing.{longest}
-use Rattle.record.proofs.Records.{dy-length, day-record, event-record}
+use Rattle.record.proofs.Starts.{size-most, day-start-most, base-most}
+use Rattle.record.proofs.Records.{event-record}
 use Rattle.record.proofs.Runs.{run-most}
-use Rattle.record.proofs.Files.{event-start-is}
+use Rattle.record.proofs.Files.{event-start-first, event-start-more, end-is-length}
 
 drop-take : {A : Type 0} (k n : ℕ) (l : List A) → drop k (take n l) ≡ take (n - k) (drop k l)
 drop-take zero n l = rw sub-zero
@@ -46,60 +50,88 @@ record-cut : (size : ℕ) (mark : List ℕ) (blank n : ℕ) (l : List ℕ) → 2
 unfolding isRecord
 record-cut size mark blank n l two h o = rw (leb-cut size n l h, opens-cut mark n l two, getD-take n l blank 0 o)
 
-day-cut : (n : ℕ) (l : List ℕ) → 390 ≤ n → isDY (take n l) ≡ isDY l
-day-cut n l h = rw (day-record (take n l), day-record l) (record-cut 390 (ascii "DY") 5 n l (omega arith) h (omega arith))
+day-cut : (n : ℕ) (l : List ℕ) → dyBytes mostQuarters ≤ n → isDY (take n l) ≡ isDY l
+unfolding isDY
+day-cut n l h =
+    let most : dyLength (dyDay l) ≤ n = omega (arith, size-most (dyDay l)) in
+    rw (number-cut 2 2 n l (omega arith)) (record-cut (dyLength (dyDay l)) (ascii "DY") 5 n l (omega arith) most (omega arith))
 
-day-of-cut : (day n : ℕ) (l : List ℕ) → 390 ≤ n → isDYof day (take n l) ≡ isDYof day l
+day-of-cut : (day n : ℕ) (l : List ℕ) → dyBytes mostQuarters ≤ n → isDYof day (take n l) ≡ isDYof day l
 unfolding isDYof
 day-of-cut day n l h = rw (day-cut n l h, number-cut 2 2 n l (omega arith))
 
-event-cut : (n : ℕ) (l : List ℕ) → 8 ≤ n → isEV (take n l) ≡ isEV l
-event-cut n l h = rw (event-record (take n l), event-record l) (record-cut 8 (ascii "EV") 7 n l (omega arith) h (omega arith))
+event-cut : (n : ℕ) (l : List ℕ) → evLength ≤ n → isEV (take n l) ≡ isEV l
+event-cut n l h = rw (event-record (take n l), event-record l) (record-cut evLength (ascii "EV") 7 n l (omega arith) h (omega arith))
 
--- ---- nor does a run of records, each of `each` bytes
-module _ (good : ℕ → List ℕ → Bool) (recordLength : ℕ → ℕ) (each : ℕ) (same : (i : ℕ) → recordLength i ≡ each)
+-- ---- nor does a run of records, each of at most `each` bytes
+module _ (good : ℕ → List ℕ → Bool) (recordLength : ℕ → ℕ) (each : ℕ) (most-each : (i : ℕ) → recordLength i ≤ each)
     (seen : (i n : ℕ) (l : List ℕ) → each ≤ n → good i (take n l) ≡ good i l) where
   run-cut : (most i n : ℕ) (l : List ℕ) → most * each ≤ n → run good recordLength most i (take n l) ≡ run good recordLength most i l
   unfolding run
   run-cut zero i n l h = refl
   run-cut (suc most) i n l h =
       let size : suc most * each ≡ most * each + each = suc-mul most each in
-      rw (seen i n l (omega arith), same i, drop-take each n l, run-cut most (suc i) (n - each) (drop each l) (omega arith))
+      let room : most * each ≤ n - recordLength i = omega (arith, most-each i) in
+      rw (seen i n l (omega arith), drop-take (recordLength i) n l, run-cut most (suc i) (n - recordLength i) (drop (recordLength i) l) room)
+
+day-most : (day : ℕ) → dyLength day ≤ dyBytes mostQuarters
+day-most day = omega (arith, size-most day)
 
 days-most : (file : List ℕ) → daysIn file ≤ 128
 unfolding daysIn daysFrom
-days-most file = run-most isDYof dyLength 128 (firstIn file) (drop 8 file)
+days-most file = run-most isDYof dyLength 128 (firstIn file) (drop (fileBase file) file)
 
 events-most : (file : List ℕ) → eventsIn file ≤ 64
 unfolding eventsIn eventsFrom
-events-most file = run-most (λ i. isEV) (λ i. 8) 64 0 (drop (eventStart file 0) file)
+events-most file = run-most (λ i. isEV) (λ i. evLength) 64 0 (drop (eventStart file 0) file)
+
+start-most : (file : List ℕ) → eventStart file 0 ≤ mostBase + 128 * dyBytes mostQuarters
+start-most file =
+    omega (arith, event-start-first file, day-start-most (fileBase file) (firstIn file) (daysIn file), base-most file, days-most file)
 
 end-most : (file : List ℕ) → goodEnd file ≤ longest
 unfolding goodEnd
-end-most file = omega (arith, event-start-is file (eventsIn file), days-most file, events-most file)
+end-most file = omega (arith, event-start-more file (eventsIn file), start-most file, events-most file)
+
+pub file-most : (file : List ℕ) (shape : Shape) → readFile file ≡ File shape → length file ≤ longest
+unfolding goodEnd
+file-most file shape r = omega (arith, end-is-length file shape r, end-most file)
 
 -- ---- nor does the file
 module _ (n : ℕ) (file : List ℕ) (enough : longest < n) where
+  base-cut : fileBase (take n file) ≡ fileBase file
+  unfolding fileBase
+  base-cut = refl
+
+  left-cut : drop (fileBase (take n file)) (take n file) ≡ take (n - fileBase file) (drop (fileBase file) file)
+  left-cut = rw base-cut (drop-take (fileBase file) n file)
+
+  enough-left : 128 * dyBytes mostQuarters ≤ n - fileBase file
+  enough-left = omega (arith, base-most file)
+
   first-cut : firstIn (take n file) ≡ firstIn file
   unfolding firstIn
-  first-cut = rw (drop-take 8 n file, day-cut (n - 8) (drop 8 file) (omega arith), number-cut 2 2 (n - 8) (drop 8 file) (omega arith))
+  first-cut =
+      let left = drop (fileBase file) file in
+      let room = enough-left in
+      rw (left-cut, day-cut (n - fileBase file) left (omega arith), number-cut 2 2 (n - fileBase file) left (omega arith))
 
   days-cut : daysIn (take n file) ≡ daysIn file
   unfolding daysIn daysFrom
   days-cut =
-      rw (first-cut, drop-take 8 n file)
-      (run-cut isDYof dyLength 390 dy-length day-of-cut 128 (firstIn file) (n - 8) (drop 8 file) (omega arith))
+      rw (first-cut, left-cut)
+      (run-cut isDYof dyLength (dyBytes mostQuarters) day-most day-of-cut 128 (firstIn file) (n - fileBase file) (drop (fileBase file) file) enough-left)
 
   start-cut : (i : ℕ) → eventStart (take n file) i ≡ eventStart file i
   unfolding eventStart
-  start-cut i = rw (first-cut, days-cut)
+  start-cut i = rw (base-cut, first-cut, days-cut)
 
   events-cut : eventsIn (take n file) ≡ eventsIn file
   unfolding eventsIn eventsFrom
   events-cut =
-      let start : eventStart file 0 ≤ 8 + 128 * 390 = omega (arith, event-start-is file 0, days-most file) in
+      let start = start-most file in
       rw (start-cut 0, drop-take (eventStart file 0) n file)
-      (run-cut (λ i. isEV) (λ i. 8) 8 (λ i. refl) (λ i. event-cut) 64 0 (n - eventStart file 0) (drop (eventStart file 0) file) (omega arith))
+      (run-cut (λ i. isEV) (λ i. evLength) evLength (λ i. omega arith) (λ i. event-cut) 64 0 (n - eventStart file 0) (drop (eventStart file 0) file) (omega arith))
 
   end-cut : goodEnd (take n file) ≡ goodEnd file
   unfolding goodEnd
@@ -110,7 +142,7 @@ module _ (n : ℕ) (file : List ℕ) (enough : longest < n) where
   read-cut h =
       let size : longest < length (take n file) = rw length-take (omega arith) in
       rw (
-        leb-cut 8 n file (omega arith),
+        leb-cut pfLength n file (omega arith),
         opens-cut (ascii "PF") n file (omega arith),
         end-cut,
         ne-eqb (goodEnd file) (length (take n file)) (λ e. omega (arith, end-most file)),

@@ -7,10 +7,9 @@ use lib.ListN.{length, take}
 use Rattle.record.specs.declared.Read.{Read}
 use Rattle.record.specs.declared.Read.the-variants.{File, Refused}
 use Rattle.record.specs.Reader.{readFile, tableIn, requestAt}
-use Rattle.record.proofs.Files.{shape-fits}
 use Rattle.lines.specs.Lines.{Line, lineText, linesText}
 use Rattle.lines.specs.Listing.{openingLine, repliedLines, eventText, linesFrom, listingLines, listing, eventsOf, eventTexts, longest}
-use Rattle.lines.proofs.Longest.{read-cut}
+use Rattle.lines.proofs.Longest.{read-cut, file-most}
 
 lines-both : (a c : List Line) → linesText (a ++ c) ≡ linesText a ++ linesText c
 unfolding linesText
@@ -41,5 +40,5 @@ unfolding listing listingLines
 listing-cut n file m h = rw (read-cut n file m h) (go (readFile file) refl)
   where
     go : (read : Read) → readFile file ≡ read → linesText (listingLines read (take n file)) ≡ linesText (listingLines read file)
-    go (File shape) e = let q = shape-fits file shape e in absurd (omega arith)
+    go (File shape) e = absurd (omega (arith, file-most file shape e))
     go (Refused at) e = refl

@@ -16,7 +16,7 @@ use Rattle.method.specs.Rules.{methodBy}
 use Rattle.method.specs.Ruler.{rulerStart, rulerEnd, quarterOf, against}
 use Rattle.method.specs.Verdict.{tableRefusals, goodRequest, requestRefusals, closing, firstOf, methodology, verdict}
 use Rattle.record.specs.Layout.{bytes, pfRecord, readingBytes, dyRecord, evRecord, dyRecords, evRecords, fileOf}
-use Rattle.record.specs.Reader.{numberAt, opensWith, isRecord, isPF, isDY, isEV, run, isDYof, daysFrom, eventsFrom, firstIn, daysIn, dayStart}
+use Rattle.record.specs.Reader.{numberAt, opensWith, isRecord, isPF, isDY, isEV, run, isDYof, daysFrom, eventsFrom, fileBase, firstIn, daysIn, dayStart}
 use Rattle.record.specs.Reader.{eventStart, eventsIn, goodEnd, shapeIn, readFile, marksFrom, numbers, readingsFrom, tableIn, eventOf, requestAt}
 use Rattle.lines.specs.Lines.{spaced, lineText, linesText}
 use Rattle.lines.specs.Listing.{refusedLine, headerLine, eventLine, quarterLine, quarterLines, refusalLine, eventLines, repliedLines, linesFrom}
@@ -30,7 +30,7 @@ unfolding keep all any leading member sumOf leastOf leap months newYear dayNumbe
     isHoliday group digits dec decimal size offset dayOf held shaped isExtract daysBefore relevant relevantDays wholeReach seen eligibles spares
     window chosen reach isShort outcome windowEnds latestEnd adjustmentEnd places S A B baselineAt baseline complete eligible spare eventSum
     higher insertBy sortBy methodOf methodBy rulesOf highXofY rulerStart rulerEnd quarterOf against tableRefusals goodRequest requestRefusals closing firstOf methodology verdict bytes pfRecord readingBytes
-    dyRecord evRecord dyRecords evRecords fileOf numberAt opensWith isRecord isPF isDY isEV run isDYof daysFrom eventsFrom firstIn daysIn dayStart
+    dyRecord evRecord dyRecords evRecords fileOf numberAt opensWith isRecord isPF isDY isEV run isDYof daysFrom eventsFrom fileBase firstIn daysIn dayStart
     eventStart eventsIn goodEnd shapeIn readFile marksFrom numbers readingsFrom tableIn eventOf requestAt spaced lineText linesText refusedLine
     headerLine eventLine quarterLine quarterLines refusalLine eventLines repliedLines linesFrom listingLines listing
 definitions = 0

@@ -9,12 +9,12 @@ use Rattle.lists.specs.Ascii.{ascii}
 use Rattle.method.specs.declared.Request.{Request}
 use Rattle.method.specs.declared.Refusal.{Refusal}
 use Rattle.method.specs.Adjustment.{rounded}
-use Rattle.method.specs.Table.{Table}
+use Rattle.method.specs.Table.{Table, mostQuarters}
 use Rattle.method.specs.Verdict.{Reply, refused, answered, number, carries, verdict}
 use Rattle.record.specs.declared.Shape.{Shape}
 use Rattle.record.specs.declared.Read.{Read}
 use Rattle.record.specs.declared.Read.the-variants.{File, Refused}
-use Rattle.record.specs.Reader.{readFile, tableIn, requestAt}
+use Rattle.record.specs.Reader.{dyBytes, evLength, mostBase, readFile, tableIn, requestAt}
 use Rattle.lines.specs.Lines.{Field, Line, linesText}
 
 abbrev pub numbers : List ℕ → List Field
@@ -58,9 +58,9 @@ eventLines r (refused w) = refusalLine r w ∷ []
 eventLines r (answered a) =
     eventLine r (a .days) (a .reach) (a .denominator) (a .adjusted) ∷ quarterLines (a .denominator) (r .s) (a .numerators)
 
--- what a request comes to over a table, with room for a day's 96 quarters: refusal 7 is never shown
+-- what a request comes to over a table, with room for a day's quarters: refusal 7 is never shown
 unfoldable pub repliedLines : Table → Request → List Line
-repliedLines t r = eventLines r (verdict group t r 96)
+repliedLines t r = eventLines r (verdict group t r mostQuarters)
 
 unfoldable pub eventText : Table → Request → List ℕ
 eventText t r = linesText (repliedLines t r)
@@ -92,6 +92,6 @@ unfoldable pub eventTexts : List ℕ → ℕ → ℕ → List ℕ
 eventTexts file zero place = []
 eventTexts file (suc count) place = eventText (tableIn file) (requestAt file place) ++ eventTexts file count (suc place)
 
--- the longest file that is as laid down: 8 bytes, 128 days of 390, and 64 events of 8
+-- the longest file that is as laid down: the most before the days, 128 of the longest days, and 64 events
 abbrev pub longest : ℕ
-longest = 8 + 128 * 390 + 64 * 8
+longest = mostBase + 128 * dyBytes mostQuarters + 64 * evLength

@@ -1,5 +1,5 @@
 -- What holds of a file that is loaded: the event at each place is there, and the buffers are its table.
-use Prim.Native.Nat.{ℕ, _*_, _<_}
+use Prim.Native.Nat.{ℕ, _<_}
 use mathlib.Core.Path.{_≡_, ap, _∙_, refl}
 use mathlib.Core.List.{List}
 use native.Mathlib.Omega.{arith}
@@ -20,8 +20,8 @@ use Rattle.lines.specs.Listing.{eventText}
 use Rattle.lines.specs.Writes.{PutsWithin}
 use Rattle.listing.specs.Holds.{Holds}
 
-pub holds : {file : List ℕ} {shape : Shape} {marks readings : List ℕ} → readFile file ≡ File shape → WithinBuffers shape file marks readings
-    → Holds file shape (take (shape .days) marks) (take (96 * shape .days) readings)
+pub holds : {file : List ℕ} {shape : Shape} {count : ℕ} {marks readings : List ℕ} → readFile file ≡ File shape → WithinBuffers shape file count marks readings
+    → Holds file shape (take (shape .days) marks) (take count readings)
 holds {file} r q =
     record { accepted = r; its-marks = rw (q .its-marks, table-within file r); its-readings = rw (q .its-readings, table-within file r) }
 

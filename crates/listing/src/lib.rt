@@ -9,6 +9,7 @@ ghost use Rattle.lines.specs.Writes.{Writes, PutsWithin};
 ghost use Rattle.event_lines.specs.Room.{linesRoom};
 ghost use Rattle.listing.specs.Holds.{Holds};
 ghost use Rattle.listing.specs.Lists.{mostListing, Lists};
+use method::QUARTERS;
 use record::EventAt;
 use record::Read;
 use record::Shape;
@@ -21,8 +22,6 @@ pub enum Listed {
 
 // The room that any listing fits: 74 bytes for the first line, and 3,330 for each of 64 events.
 pub const MOST_LISTING: usize = 213194;
-
-const QUARTERS: usize = 96;
 
 // The lines of the event at a place of the file, over the file's own table, at the start of the buffer.
 fn put_event(
@@ -71,10 +70,10 @@ fn put_file(file: &[u8], shape: Shape, out: &mut [u8]) -> usize
     ensures { λ r. ⌜ Writes (now (out .entry)) 0 (listing (now (file .entry))) r (now (out .exit)) × (r ≤ mostListing) ⌝ }
 {
     let mut marks = [0u8; 128];
-    let mut readings = [0u32; 12288];
+    let mut readings = [0u32; QUARTERS * 128];
     loading::load_within(file, shape, &mut marks, &mut readings);
     let days = shape.days as usize;
-    let count = QUARTERS * days;
+    let count = record::offset(shape.first, shape.days);
     let next = first_line::opening(Read::File(shape), out);
     put_events(file, shape, &marks[..days], &readings[..count], out, next)
 }

@@ -10,7 +10,8 @@ use borrow.Author.Tests.{le-leb}
 use Rattle.lists.specs.Lists.{all}
 use Rattle.calendar.specs.Holidays.{group}
 use Rattle.method.specs.Verdict.{verdict}
-use Rattle.method.proofs.Tables.{offset-is}
+use Rattle.method.specs.Table.{mostQuarters}
+use Rattle.record.proofs.Starts.{offset-most, day-start-most, base-most}
 use Rattle.numerators.proofs.Windows.{small}
 use Rattle.baseline.proofs.Laws.{sound, never-above}
 use Rattle.record.specs.Layout.{Below, Fits}
@@ -18,9 +19,9 @@ use Rattle.record.specs.Laws.{StopsAt}
 use Rattle.record.specs.declared.Shape.{Shape}
 use Rattle.record.specs.declared.Read.{Read}
 use Rattle.record.specs.declared.Read.the-variants.{File, Refused}
-use Rattle.record.specs.Reader.{isPF, eventStart, shapeIn, readFile, tableIn, eventOf, requestAt, contentsIn}
+use Rattle.record.specs.Reader.{isPF, fileBase, firstIn, daysIn, eventStart, eventsIn, shapeIn, readFile, tableIn, eventOf, requestAt, contentsIn}
 use Rattle.record.proofs.Bytes.{below-drop, number-below}
-use Rattle.record.proofs.Files.{shape-fits}
+use Rattle.record.proofs.Files.{shape-fits, event-start-is}
 use Rattle.record.proofs.Limits.{says-what-fits}
 use Rattle.record.proofs.RefusedWhere.{refused-where}
 use Rattle.lines.specs.Lines.{lineText}
@@ -52,10 +53,10 @@ module _ (file : List ℕ) (bytes : Below 256 file) where
         let event : r .event ≤ 65535 = omega (arith, number-below 2 2 (drop (eventStart file place) file) left) in
         let from-quarter : r .s ≤ 255 = omega (arith, left 4) in
         let to-quarter : r .e ≤ 255 = omega (arith, left 5) in
-        let long : length (t .readings) ≤ 12288 = omega (arith, fits .size, fits .days, offset-is (t .first) (length (t .marks))) in
-        let reply = verdict group t r 96 in
-        reply-most r reply event from-quarter to-quarter (verdict-near group t r (fits .days) long (all-below (t .readings) (fits .readings)) event 96)
-        (λ a e. (sound group t r 96 e, never-above group t r 96 a e))
+        let long : length (t .readings) ≤ mostQuarters * 128 = omega (arith, fits .size, offset-most (t .first) (length (t .marks)) 128 (fits .days)) in
+        let reply = verdict group t r mostQuarters in
+        reply-most r reply event from-quarter to-quarter (verdict-near group t r (fits .days) long (all-below (t .readings) (fits .readings)) event mostQuarters)
+        (λ a e. (sound group t r mostQuarters e, never-above group t r mostQuarters a e))
 
     events-most : (count place : ℕ) → length (eventTexts file count place) ≤ linesRoom * count
     unfolding eventTexts
@@ -85,7 +86,16 @@ module _ (file : List ℕ) (bytes : Below 256 file) where
       nought q = omega (arith, q .1)
 
       stopped : StopsAt file at → at < 2 ^ 32
-      stopped q = omega (arith, q .place, q .days, q .events)
+      stopped q =
+          omega (
+            arith,
+            q .place,
+            q .days,
+            q .events,
+            event-start-is file (eventsIn file),
+            day-start-most (fileBase file) (firstIn file) (daysIn file),
+            base-most file,
+          )
 
   pub listing-most : length (listing file) ≤ mostListing
   listing-most = rw (listing-is file) (go (readFile file) refl)

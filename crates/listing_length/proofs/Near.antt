@@ -19,7 +19,7 @@ use Rattle.calendar.specs.declared.Group.{Group}
 use Rattle.calendar.specs.declared.Group.the-variants.{Weekday, Saturday, HolidayGroup}
 use Rattle.method.specs.declared.Request.{Request}
 use Rattle.method.specs.declared.Refusal.{Refusal}
-use Rattle.method.specs.Table.{Table, Day, History, history, dayOf, held, size, offset, goodMark, goodReading}
+use Rattle.method.specs.Table.{Table, mostQuarters, Day, History, history, dayOf, held, size, offset, goodMark, goodReading}
 use Rattle.method.specs.Ruler.{against}
 use Rattle.method.specs.Relevant.{relevantDays}
 use Rattle.method.specs.Method.{Method, short, few, chose, daysOf, seen, eligibles, spares, window, chosen, reach, wholeReach, isShort, outcome}
@@ -120,7 +120,7 @@ two-small : (m n : ℕ) → m ≤ 4294967295 → n ≤ 4294967295 → all small 
 unfolding all
 two-small m n h k = rw (le-leb m 4294967295 h, le-leb n 4294967295 k)
 
-module _ (group : ℕ → Group) (t : Table) (r : Request) (few-marks : length (t .marks) ≤ 128) (few-readings : length (t .readings) ≤ 12288)
+module _ (group : ℕ → Group) (t : Table) (r : Request) (few-marks : length (t .marks) ≤ 128) (few-readings : length (t .readings) ≤ mostQuarters * 128)
     (good : all small (t .readings) ≡ true) (early : r .event ≤ 65535) where
   abbrev how : Method Day (Option Baseline)
   how = methodOf group r

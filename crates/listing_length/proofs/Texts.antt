@@ -16,6 +16,7 @@ use Rattle.digits.specs.Digits.{dec, decimal}
 use Rattle.digits.proofs.Digits.{dec-length, dec-length-32, decimal-length}
 use Rattle.method.specs.declared.Request.{Request}
 use Rattle.method.specs.declared.Refusal.{Refusal}
+use Rattle.method.specs.Table.{mostQuarters}
 use Rattle.method.specs.declared.Refusal.the-variants.{BadFile, NoEvent, BadTable, BadMark, BadReading, BadRequest, NotHeld}
 use Rattle.method.specs.declared.Refusal.the-variants.{NotYetParticipating, NoRoom, MarginTooShort, TooFew, NoAdjustmentWindow}
 use Rattle.method.specs.Adjustment.{rounded}
@@ -121,7 +122,7 @@ quarters-most over t (k ∷ ns) o h m =
     )
 
 pub reply-most : (r : Request) (reply : Reply) → r .event ≤ 65535 → r .s ≤ 255 → r .e ≤ 255 → Near reply
-    → ((a : Answer) → reply ≡ answered a → Sound r 96 a × (all (λ x. leb x 1200000000) (a .numerators) ≡ true))
+    → ((a : Answer) → reply ≡ answered a → Sound r mostQuarters a × (all (λ x. leb x 1200000000) (a .numerators) ≡ true))
     → length (linesText (eventLines r reply)) ≤ 3330
 unfolding linesText eventLines
 reply-most r (refused w) d s e n q =

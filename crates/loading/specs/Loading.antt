@@ -6,13 +6,13 @@ use lib.ListN.{length, drop}
 use lib.Dec.{leb}
 use Rattle.method.specs.Table.{heldDays}
 use Rattle.record.specs.declared.Shape.{Shape}
-use Rattle.record.specs.Reader.{dayStart, tableWithin}
+use Rattle.record.specs.Reader.{shapeBase, dayStart, tableWithin}
 
 -- the bytes reach to the end of its days, and the buffers have room for its table
 unfoldable pub fitsWithin : Shape → List ℕ → ℕ → ℕ → Bool
 fitsWithin shape file marks readings =
     let table = tableWithin shape file in
-    leb (dayStart (shape .first) (shape .days)) (length file) && (leb (heldDays table) marks && leb (length (table .readings)) readings)
+    leb (dayStart (shapeBase shape) (shape .first) (shape .days)) (length file) && (leb (heldDays table) marks && leb (length (table .readings)) readings)
 
 abbrev pub filledIf : Bool → List ℕ → List ℕ → List ℕ
 filledIf fits values buffer = cond fits (values ++ drop (length values) buffer) buffer

@@ -6,8 +6,8 @@ use mathlib.Core.Bool.{Bool, true, _&&_}
 use mathlib.Core.List.{List, [], _∷_, _++_, map, append-nil, map-append}
 use mathlib.Core.Logic.{⊎-elim}
 use native.Mathlib.Omega.{arith}
-use lib.ListN.{take, length, replicate, length-take, length-append, length-replicate, length-map}
-use lib.Seq.{append-snoc, take-take, take-append-le}
+use lib.ListN.{take, drop, length, replicate, length-take, length-drop, length-append, length-replicate, length-map}
+use lib.Seq.{append-snoc, take-take, take-append-le, drop-append-le}
 use lib.Dec.{leb, ltb}
 use borrow.Author.Tests.{leb-true, ltb-true, le-leb}
 use Rattle.lists.specs.Lists.{all}
@@ -17,9 +17,10 @@ use Rattle.method.specs.Ruler.{against}
 use Rattle.method.specs.Method.{daysOf}
 use Rattle.method.specs.Eligible.{complete, eventSum, higher, sortBy}
 use Rattle.ranking.specs.Words.{word, above, insertDown, sortDown, padded, pushed, insertAll}
-use Rattle.lists.proofs.All.{all-append, all-replicate, all-take}
+use Rattle.lists.proofs.All.{all-append, all-replicate, all-take, all-drop}
 use Rattle.lists.proofs.Bools.{both, lt-or-le}
 use Rattle.lists.proofs.Maps.{map-take}
+use Rattle.lists.proofs.Parts.{take-drop-take}
 use Rattle.method.proofs.Sort.{length-sorted, all-inserted, all-sorted}
 use Rattle.ranking.proofs.Sorting.{map-sorted}
 use Rattle.ranking.proofs.Insertion.{into-none, goes-here, goes-later, smaller-first, none-above, before-noughts}
@@ -126,6 +127,17 @@ length-padded n l = simp (length-take, length-append, length-replicate) (omega a
 pub take-padded : (k n : ℕ) (l : List ℕ) → k ≤ length l → k ≤ n → take k (padded n l) ≡ take k l
 take-padded k n l h o = rw (take-take k n (l ++ replicate n 0) o, take-append-le k l (replicate n 0) h)
 
+-- a part that ends before the noughts
+pub part-padded : (p k n : ℕ) (l : List ℕ) → p + k ≤ length l → p + k ≤ n → take k (drop p (padded n l)) ≡ take k (drop p l)
+part-padded p k n l h o =
+    take-drop-take k p n (l ++ replicate n 0) o
+    ∙ rw (drop-append-le p l (replicate n 0) (omega arith)) (take-append-le k (drop p l) (replicate n 0) (rw length-drop (omega arith)))
+
+map-drop : {A B : Type 0} (f : A → B) (k : ℕ) (l : List A) → map f (drop k l) ≡ drop k (map f l)
+map-drop f zero l = refl
+map-drop f (suc k) [] = refl
+map-drop f (suc k) (x ∷ l) = map-drop f k l
+
 pub insert-padded : (n x : ℕ) (l : List ℕ) → take n (insertDown x (padded n l)) ≡ padded n (insertDown x l)
 insert-padded n x l = keep-top n x (l ++ replicate n 0) ∙ ap (take n) (before-noughts n x l)
 
@@ -139,27 +151,6 @@ insert-all-sorts [] l = insert-none (padded 10 (sortDown l)) ∙ ap (λ (k : Lis
 insert-all-sorts (x ∷ xs) l =
     insert-next x xs (padded 10 (sortDown l)) ∙ ap (insertAll xs) (insert-sorts 10 x l) ∙ insert-all-sorts xs (l ++ (x ∷ []))
     ∙ ap (λ (k : List ℕ). padded 10 (sortDown k)) (append-snoc l x xs)
-
-insert-noughts : (k m : ℕ) (l : List ℕ) → insertAll (take k (replicate m 0)) (padded 10 l) ≡ padded 10 l
-insert-noughts zero m l = insert-none (padded 10 l)
-insert-noughts (suc k) zero l = insert-none (padded 10 l)
-insert-noughts (suc k) (suc m) l =
-    insert-next 0 (take k (replicate m 0)) (padded 10 l) ∙ ap (insertAll (take k (replicate m 0))) (nought-pushed (padded 10 l)) ∙ insert-noughts k m l
-
-insert-all-before-noughts : (k m : ℕ) (b l : List ℕ)
-    → insertAll (take k (b ++ replicate m 0)) (padded 10 (sortDown l)) ≡ padded 10 (sortDown (l ++ take k b))
-insert-all-before-noughts zero m b l = insert-all-sorts [] l
-insert-all-before-noughts (suc k) m [] l =
-    insert-noughts (suc k) m (sortDown l) ∙ ap (λ (j : List ℕ). padded 10 (sortDown j)) (sym (append-nil l))
-insert-all-before-noughts (suc k) m (x ∷ b) l =
-    insert-next x (take k (b ++ replicate m 0)) (padded 10 (sortDown l))
-    ∙ ap (insertAll (take k (b ++ replicate m 0))) (insert-sorts 10 x l)
-    ∙ insert-all-before-noughts k m b (l ++ (x ∷ []))
-    ∙ ap (λ (j : List ℕ). padded 10 (sortDown j)) (append-snoc l x (take k b))
-
-pub insert-all-padded : (k : ℕ) (b l : List ℕ) → k ≤ 10
-    → insertAll (take k (padded 10 b)) (padded 10 (sortDown l)) ≡ padded 10 (sortDown (l ++ take k b))
-insert-all-padded k b l h = rw (take-take k 10 (b ++ replicate 10 0) h) (insert-all-before-noughts k 10 b l)
 
 -- Words rank days
 
@@ -202,27 +193,25 @@ module _ (r : Request) where
       → take k (sortDown (map (word r) l)) ≡ map (word r) (take k (sortBy (higher r) l))
   first-words k l h = ap (take k) (sym (words-sorted l h)) ∙ sym (map-take (word r) k (sortBy (higher r) l))
 
-  pub first-days : (k : ℕ) (l : List (ℕ × Day)) → all (lookedBack r) l ≡ true
-      → map (dayOfWord r) (take k (sortDown (map (word r) l))) ≡ daysOf (take k (sortBy (higher r) l))
-  first-days k l h =
-      ap (map (dayOfWord r)) (first-words k l h)
-      ∙ days-back (take k (sortBy (higher r) l)) (all-take (lookedBack r) k (sortBy (higher r) l) (all-sorted (higher r) (lookedBack r) l ∙ h))
+  -- the ranks from `p` on, in the row of `n` words, are the days that 01 ranks so
+  pub ranks-of-row : (p k n : ℕ) (l : List (ℕ × Day)) → all (lookedBack r) l ≡ true → p + k ≤ length l → p + k ≤ n
+      → map (dayOfWord r) (take k (drop p (padded n (sortDown (map (word r) l))))) ≡ daysOf (take k (drop p (sortBy (higher r) l)))
+  ranks-of-row p k n l h o t =
+      ap (map (dayOfWord r))
+      (part-padded p k n (sortDown (map (word r) l)) (omega (arith, length-sorted above (map (word r) l), length-map l (word r))) t
+      ∙ ap (λ (w : List ℕ). take k (drop p w)) (sym (words-sorted l h)) ∙ ap (take k) (sym (map-drop (word r) p (sortBy (higher r) l)))
+      ∙ sym (map-take (word r) k (drop p (sortBy (higher r) l))))
+      ∙ days-back (take k (drop p (sortBy (higher r) l))) (all-take (lookedBack r) k (drop p (sortBy (higher r) l)) dropped)
+    where
+      dropped : all (lookedBack r) (drop p (sortBy (higher r) l)) ≡ true
+      dropped = all-drop (lookedBack r) p (sortBy (higher r) l) (all-sorted (higher r) (lookedBack r) l ∙ h)
 
-  -- the first of the row of `n` words are the days that 01 ranks first
-  pub first-of-row : (k n : ℕ) (l : List (ℕ × Day)) → all (lookedBack r) l ≡ true → k ≤ length l → k ≤ n
-      → map (dayOfWord r) (take k (padded n (sortDown (map (word r) l)))) ≡ daysOf (take k (sortBy (higher r) l))
-  first-of-row k n l h o t =
-      let s : k ≤ length (sortDown (map (word r) l)) = omega (arith, length-sorted above (map (word r) l), length-map l (word r)) in
-      ap (map (dayOfWord r)) (take-padded k n (sortDown (map (word r) l)) s t) ∙ first-days k l h
-
-  -- the row of the eligible days, with the words of the `k` highest spares put in, is the row of the window
-  pub window-ranked : (k : ℕ) (eligible spare : List (ℕ × Day)) → all (lookedBack r) spare ≡ true → k ≤ 10
-      → insertAll (take k (padded 10 (sortDown (map (word r) spare)))) (padded 10 (sortDown (map (word r) eligible)))
-      ≡ padded 10 (sortDown (map (word r) (eligible ++ take k (sortBy (higher r) spare))))
-  window-ranked k eligible spare hs o =
-      insert-all-padded k (sortDown (map (word r) spare)) (map (word r) eligible) o
-      ∙ ap (λ (l : List ℕ). padded 10 (sortDown l))
-      (ap (λ (l : List ℕ). map (word r) eligible ++ l) (first-words k spare hs) ∙ sym (map-append (word r) eligible (take k (sortBy (higher r) spare))))
+  -- the row of some days, with the words of more put in, is the row of all
+  pub row-with : (days more : List (ℕ × Day))
+      → insertAll (map (word r) more) (padded 10 (sortDown (map (word r) days))) ≡ padded 10 (sortDown (map (word r) (days ++ more)))
+  row-with days more =
+      insert-all-sorts (map (word r) more) (map (word r) days)
+      ∙ ap (λ (l : List ℕ). padded 10 (sortDown l)) (sym (map-append (word r) days more))
 
   -- A word is above 0, and small
 

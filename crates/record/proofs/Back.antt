@@ -10,13 +10,14 @@ use lib.Seq.{drop-at, length-take-le}
 use lib.Dec.{ltb}
 use Rattle.lists.proofs.Bools.{both}
 use Rattle.lists.specs.Lists.{all}
-use Rattle.method.specs.Table.{size}
+use Rattle.lists.specs.Ascii.{ascii}
+use Rattle.method.specs.Table.{size, offset}
 use Rattle.record.specs.Layout.{Below, bytes, readingBytes, dyRecord, Event, evRecord, dyRecords, evRecords, fitsEvent}
-use Rattle.record.specs.Reader.{numberAt, opensWith, isRecord, isDY, isEV, isDYof, dyLength, dyDay, run}
+use Rattle.record.specs.Reader.{numberAt, opensWith, isRecord, isDY, isEV, evLength, isDYof, dyLength, dyDay, run, dayStart}
 use Rattle.record.specs.Reader.{marksFrom, numbers, readingsFrom, eventOf, eventList}
 use Rattle.record.proofs.Bytes.{below-drop, below-take, numbers-bytes}
-use Rattle.method.proofs.Tables.{size-is}
-use Rattle.record.proofs.Records.{dy-length, day-record, day-not}
+use Rattle.record.proofs.Starts.{day-start-none, day-start-cons}
+use Rattle.record.proofs.Records.{day-record, day-of-is, day-not, day-cut}
 use Rattle.record.proofs.Runs.{run-more, run-stops}
 
 pub reading-length : (xs : List ℕ) → length (readingBytes xs) ≡ 4 * length xs
@@ -25,27 +26,29 @@ reading-length [] = refl
 reading-length (x ∷ xs) = omega (arith, reading-length xs)
 
 -- one DY, with anything after it
-module _ (d m : ℕ) (xs rest : List ℕ) (long : length xs ≡ 96) where
-  day-length : length (dyRecord d m xs) ≡ 390
+module _ (d m : ℕ) (xs rest : List ℕ) (long : length xs ≡ size d) where
+  day-length : length (dyRecord d m xs) ≡ dyLength d
   unfolding dyRecord bytes
   day-length = omega (arith, reading-length xs)
 
-  pub day-is : isDY (dyRecord d m xs ++ rest) ≡ true
+  day-record-is : isRecord (dyLength d) (ascii "DY") 5 (dyRecord d m xs ++ rest) ≡ true
   unfolding isRecord opensWith dyRecord bytes
-  day-is =
-      let o : 390 ≤ length (dyRecord d m xs ++ rest) = omega (arith, length-append (readingBytes xs) rest, reading-length xs) in
-      day-record (dyRecord d m xs ++ rest) ∙ (rw (le-leb 390 (length (dyRecord d m xs ++ rest)) o))
+  day-record-is =
+      let o : dyLength d ≤ length (dyRecord d m xs ++ rest) = omega (arith, length-append (readingBytes xs) rest, reading-length xs) in
+      rw (le-leb (dyLength d) (length (dyRecord d m xs ++ rest)) o)
 
   pub day-day : d < 256 ^ 2 → dyDay (dyRecord d m xs ++ rest) ≡ d
   unfolding dyRecord bytes numberAt
   day-day h = omega arith
 
   pub day-good : d < 256 ^ 2 → isDYof d (dyRecord d m xs ++ rest) ≡ true
-  unfolding isDYof
-  day-good h = rw (day-is, day-day h, eq-eqb d d refl)
+  day-good h = rw (day-record d (dyRecord d m xs ++ rest), day-record-is, day-day h, eq-eqb d d refl)
+
+  pub day-is : d < 256 ^ 2 → isDY (dyRecord d m xs ++ rest) ≡ true
+  day-is h = day-of-is d (dyRecord d m xs ++ rest) (day-good h)
 
   pub day-after : drop (dyLength d) (dyRecord d m xs ++ rest) ≡ rest
-  day-after = drop-at (dyRecord d m xs) rest (dyLength d) (day-length ∙ sym (dy-length d))
+  day-after = drop-at (dyRecord d m xs) rest (dyLength d) day-length
 
   pub day-mark : getD (dyRecord d m xs ++ rest) 4 0 ≡ m
   unfolding dyRecord bytes
@@ -53,19 +56,19 @@ module _ (d m : ℕ) (xs rest : List ℕ) (long : length xs ≡ 96) where
 
   pub day-readings : Below (256 ^ 4) xs → numbers (size d) (drop 6 (dyRecord d m xs ++ rest)) ≡ xs
   unfolding dyRecord bytes
-  day-readings h = numbers-bytes (size d) xs rest (long ∙ sym (size-is d)) h
+  day-readings h = numbers-bytes (size d) xs rest long h
 
 -- one EV, with anything after it
 module _ (v : Event) (rest : List ℕ) where
   pub event-good : isEV (evRecord v ++ rest) ≡ true
   unfolding isEV isRecord opensWith evRecord bytes
-  event-good = let o : 8 ≤ length (evRecord v ++ rest) = omega arith in rw (le-leb 8 (length (evRecord v ++ rest)) o)
+  event-good = let o : evLength ≤ length (evRecord v ++ rest) = omega arith in rw (le-leb evLength (length (evRecord v ++ rest)) o)
 
   pub event-no-day : isDY (evRecord v ++ rest) ≡ false
   unfolding isDY isRecord opensWith evRecord bytes
   event-no-day = simp and-false
 
-  pub event-after : drop 8 (evRecord v ++ rest) ≡ rest
+  pub event-after : drop evLength (evRecord v ++ rest) ≡ rest
   unfolding evRecord bytes
   event-after = refl
 
@@ -76,32 +79,35 @@ module _ (v : Event) (rest : List ℕ) where
       λ i. record { day = p i; s = v .s; e = v .e; n = v .n }
 
 -- the readings of the first of several days, and those of the others
-module _ (h : ℕ) (rs : List ℕ) (d : ℕ) (e : length rs ≡ 96 * suc h) where
-  pub first-long : length (take (size d) rs) ≡ 96
-  first-long = let o : 96 ≤ length rs = omega arith in rw size-is (length-take-le 96 rs o)
+module _ (h : ℕ) (rs : List ℕ) (d : ℕ) (e : length rs ≡ offset d (suc h)) where
+  pub first-long : length (take (size d) rs) ≡ size d
+  unfolding offset
+  first-long = let o : size d ≤ length rs = omega arith in length-take-le (size d) rs o
 
-  others-long : length (drop (size d) rs) ≡ 96 * h
-  others-long = rw size-is (length-drop 96 rs ∙ omega arith)
+  others-long : length (drop (size d) rs) ≡ offset (suc d) h
+  unfolding offset
+  others-long = length-drop (size d) rs ∙ omega arith
 
-pub days-length : (ms rs : List ℕ) (d : ℕ) → length rs ≡ 96 * length ms → length (dyRecords d ms rs) ≡ 390 * length ms
+pub days-length : (ms rs : List ℕ) (d : ℕ) → length rs ≡ offset d (length ms) → length (dyRecords d ms rs) ≡ dayStart 0 d (length ms)
 unfolding dyRecords
-days-length [] rs d e = refl
+days-length [] rs d e = sym (day-start-none 0 d)
 days-length (m ∷ ms) rs d e =
     length-append (dyRecord d m (take (size d) rs)) (dyRecords (suc d) ms (drop (size d) rs))
     ∙ (rw (
       day-length d m (take (size d) rs) [] (first-long (length ms) rs d e),
       days-length ms (drop (size d) rs) (suc d) (others-long (length ms) rs d e),
-    ) (omega arith))
+      day-start-cons d (length ms),
+    ))
 
 -- days one after the other, and what comes after them
 module _ (tail : List ℕ) where
-  pub days-back : (ms rs : List ℕ) (most d : ℕ) → length ms ≤ most → length rs ≡ 96 * length ms → d + length ms ≤ 256 ^ 2 → isDY tail ≡ false
+  pub days-back : (ms rs : List ℕ) (most d : ℕ) → length ms ≤ most → length rs ≡ offset d (length ms) → d + length ms ≤ 256 ^ 2 → isDY tail ≡ false
       → run isDYof dyLength most d (dyRecords d ms rs ++ tail) ≡ length ms
   unfolding dyRecords
   days-back [] rs most d h e l n = run-stops isDYof dyLength most d tail (sym (day-not tail d n))
   days-back (m ∷ ms) rs zero d h e l n = let z : _≡_ {A = ℕ} 0 1 = omega arith in absurd (omega arith)
   days-back (m ∷ ms) rs (suc most) d h e l n =
-      let long : length (take (size d) rs) ≡ 96 = first-long (length ms) rs d e in
+      let long : length (take (size d) rs) ≡ size d = first-long (length ms) rs d e in
       let below : d < 256 ^ 2 = omega arith in
       let fewer : length ms ≤ most = omega arith in
       let later : suc d + length ms ≤ 256 ^ 2 = omega arith in
@@ -111,7 +117,7 @@ module _ (tail : List ℕ) where
       ∙ (rw (day-after d m (take (size d) rs) more long)
       (ap suc (days-back ms (drop (size d) rs) most (suc d) fewer (others-long (length ms) rs d e) later n))))
 
-  pub marks-back : (ms rs : List ℕ) (d : ℕ) → length rs ≡ 96 * length ms → marksFrom (length ms) d (dyRecords d ms rs ++ tail) ≡ ms
+  pub marks-back : (ms rs : List ℕ) (d : ℕ) → length rs ≡ offset d (length ms) → marksFrom (length ms) d (dyRecords d ms rs ++ tail) ≡ ms
   unfolding dyRecords marksFrom
   marks-back [] rs d e = refl
   marks-back (m ∷ ms) rs d e =
@@ -123,9 +129,9 @@ module _ (tail : List ℕ) where
       )
       (ap (λ (l : List ℕ). m ∷ l) (marks-back ms (drop (size d) rs) (suc d) (others-long (length ms) rs d e)))
 
-  pub readings-back : (ms rs : List ℕ) (d : ℕ) → length rs ≡ 96 * length ms → Below (256 ^ 4) rs
+  pub readings-back : (ms rs : List ℕ) (d : ℕ) → length rs ≡ offset d (length ms) → Below (256 ^ 4) rs
       → readingsFrom (length ms) d (dyRecords d ms rs ++ tail) ≡ rs
-  unfolding dyRecords readingsFrom
+  unfolding dyRecords readingsFrom offset
   readings-back [] [] d e h = refl
   readings-back [] (r ∷ rs) d e h = let z : _≡_ {A = ℕ} 0 1 = omega arith in absurd (omega arith)
   readings-back (m ∷ ms) rs d e h =
@@ -139,16 +145,16 @@ module _ (tail : List ℕ) where
       ) (take-append-drop (size d) rs)
 
 -- events one after the other, at the file's end
-pub events-back : (es : List Event) (most i : ℕ) → length es ≤ most → run (λ j. isEV) (λ j. 8) most i (evRecords es) ≡ length es
+pub events-back : (es : List Event) (most i : ℕ) → length es ≤ most → run (λ j. isEV) (λ j. evLength) most i (evRecords es) ≡ length es
 unfolding evRecords
-events-back [] most i h = run-stops (λ j. isEV) (λ j. 8) most i [] none
+events-back [] most i h = run-stops (λ j. isEV) (λ j. evLength) most i [] none
   where
     none : isEV [] ≡ false
     none = unfold isEV isRecord in refl
 events-back (v ∷ es) zero i h = let z : _≡_ {A = ℕ} 0 1 = omega arith in absurd (omega arith)
 events-back (v ∷ es) (suc most) i h =
     let fewer : length es ≤ most = omega arith in
-    run-more (λ j. isEV) (λ j. 8) most i (evRecord v ++ evRecords es) (event-good v (evRecords es))
+    run-more (λ j. isEV) (λ j. evLength) most i (evRecord v ++ evRecords es) (event-good v (evRecords es))
     ∙ (rw (event-after v (evRecords es)) (ap suc (events-back es most (suc i) fewer)))
 
 pub event-list-back : (es : List Event) → all fitsEvent es ≡ true → eventList (length es) (evRecords es) ≡ es
@@ -161,12 +167,12 @@ event-list-back (v ∷ es) h =
     let d₃ = both (ltb (v .day) 65536) (ltb (v .s) 256) (d₂ .0) in
     rw (event-back v (evRecords es) (ltb-true (v .day) 65536 (d₃ .0)), event-after v (evRecords es), event-list-back es (k .1))
 
-pub events-length : (es : List Event) → length (evRecords es) ≡ 8 * length es
+pub events-length : (es : List Event) → length (evRecords es) ≡ evLength * length es
 unfolding evRecords evRecord bytes
 events-length [] = refl
 events-length (v ∷ es) = omega (arith, events-length es)
 
 pub no-day-left : (es : List Event) → isDY (evRecords es) ≡ false
 unfolding evRecords
-no-day-left [] = unfold isDY isRecord in rw (dy-length (dyDay []))
+no-day-left [] = day-cut [] (omega arith)
 no-day-left (v ∷ es) = event-no-day v (evRecords es)

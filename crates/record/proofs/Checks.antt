@@ -1,12 +1,12 @@
 -- The checks on bytes: each computes.
 use mathlib.Core.Path.{refl}
-use Rattle.method.specs.Table.{size, offset}
+use Rattle.method.specs.Table.{size}
 use Rattle.record.specs.Layout.{bytes, pfRecord, readingBytes, dyRecord, evRecord, evRecords}
-use Rattle.record.specs.Reader.{numberAt, opensWith, isRecord, isPF, isDY, isEV, run, isDYof, daysFrom, eventsFrom, firstIn, daysIn, dayStart, eventStart, eventsIn, goodEnd, shapeIn, readFile}
+use Rattle.record.specs.Reader.{numberAt, opensWith, isRecord, isPF, isDY, isEV, run, isDYof, daysFrom, eventsFrom, fileBase, firstIn, daysIn, dayStart, eventStart, eventsIn, goodEnd, shapeIn, readFile}
 use Rattle.record.specs.Checks.{pf, ev, flat, Checks}
 
 pub checks : Checks
-unfolding size offset bytes pfRecord readingBytes dyRecord evRecord evRecords numberAt opensWith isRecord isPF isDY isEV run isDYof daysFrom eventsFrom firstIn daysIn dayStart eventStart eventsIn goodEnd shapeIn readFile pf ev flat
+unfolding size bytes pfRecord readingBytes dyRecord evRecord evRecords numberAt opensWith isRecord isPF isDY isEV run isDYof daysFrom eventsFrom fileBase firstIn daysIn dayStart eventStart eventsIn goodEnd shapeIn readFile pf ev flat
 checks =
     record {
       pf-bytes = refl;

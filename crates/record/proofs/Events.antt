@@ -1,6 +1,6 @@
 -- One law for each way out of asking for an event.
 use Prim.Native.Nat.{ℕ, _+_, _*_, _<_, _≤_}
-use mathlib.Core.Path.{_≡_}
+use mathlib.Core.Path.{_≡_, sym}
 use mathlib.Core.List.{List}
 use mathlib.Core.Logic.{⊎-elim}
 use native.Mathlib.Omega.{arith}
@@ -12,10 +12,11 @@ use Rattle.method.specs.declared.Request.{Request}
 use Rattle.record.specs.declared.Shape.{Shape}
 use Rattle.record.specs.declared.Read.the-variants.{File, Refused}
 use Rattle.record.specs.declared.EventAt.the-variants.{Event as AnEvent, NoEvent, Refused as RefusedEvent}
-use Rattle.record.specs.Reader.{numberAt, daysIn, dayStart, eventStart, shapeIn, readFile, eventOf, requestOf, requestAt, eventAtPlace, eventWithin}
+use Rattle.record.specs.Reader.{numberAt, evLength, shapeBase, dayStart, eventStart, shapeIn, readFile, eventOf, requestOf, requestAt, eventAtPlace, eventWithin}
 use Rattle.record.specs.Laws.{Accepted}
 use Rattle.record.proofs.Numbers.{number-drop}
-use Rattle.record.proofs.Files.{shape-fits, day-start-is, event-start-is}
+use Rattle.record.proofs.Starts.{base-is}
+use Rattle.record.proofs.Files.{shape-fits, event-start-is}
 
 pub event-refused : (file : List ℕ) (place : ℕ) {at : ℕ} → readFile file ≡ Refused at → RefusedEvent at ≡ eventAtPlace (readFile file) file place
 event-refused file place r = rw r
@@ -26,18 +27,15 @@ module _ (shape : Shape) (file : List ℕ) (place : ℕ) where
   unfolding eventWithin
   within-past h = rw (le-ltb place (shape .events) h)
 
-  module _ {start : ℕ} (s : start ≡ 8 + 390 * shape .days) (h : place < shape .events) where
-    at-is : dayStart (shape .first) (shape .days) + 8 * place ≡ start + 8 * place
-    at-is = omega (arith, day-start-is (shape .first) (shape .days))
-
-    pub within-cut : length file < start + 8 * place + 8 → NoEvent ≡ eventWithin shape file place
+  module _ {start : ℕ} (s : start ≡ dayStart (shapeBase shape) (shape .first) (shape .days)) (h : place < shape .events) where
+    pub within-cut : length file < start + evLength * place + evLength → NoEvent ≡ eventWithin shape file place
     unfolding eventWithin
-    within-cut k = rw (lt-ltb place (shape .events) h, at-is, lt-leb (start + 8 * place + 8) (length file) k)
+    within-cut k = rw (lt-ltb place (shape .events) h, ← s, lt-leb (start + evLength * place + evLength) (length file) k)
 
-    pub within-there : start + 8 * place + 8 ≤ length file → {request : Request}
-        → request ≡ requestOf (shape .participation) (eventOf (drop (start + 8 * place) file)) → AnEvent request ≡ eventWithin shape file place
+    pub within-there : start + evLength * place + evLength ≤ length file → {request : Request}
+        → request ≡ requestOf (shape .participation) (eventOf (drop (start + evLength * place) file)) → AnEvent request ≡ eventWithin shape file place
     unfolding eventWithin
-    within-there k e = rw (lt-ltb place (shape .events) h, at-is, le-leb (start + 8 * place + 8) (length file) k, e)
+    within-there k e = rw (lt-ltb place (shape .events) h, ← s, le-leb (start + evLength * place + evLength) (length file) k, e)
 
 -- the shape that a file has
 pub within-is : (file : List ℕ) (place : ℕ) {shape : Shape} → readFile file ≡ File shape
@@ -51,11 +49,10 @@ within-is file place {shape} r = ⊎-elim there (λ none. rw (r, le-ltb place (s
     there : place < shape .events → eventWithin shape file place ≡ eventAtPlace (readFile file) file place
     there h =
         let p : shape .participation ≡ numberAt 2 2 file = rw (q .is-shape) in
-        let d : shape .days ≡ daysIn file = rw (q .is-shape) in
-        let at : dayStart (shape .first) (shape .days) + 8 * place ≡ eventStart file place =
-        omega (arith, day-start-is (shape .first) (shape .days), event-start-is file place) in
-        let room : eventStart file place + 8 ≤ length file = omega (arith, q .whole, event-start-is file place) in
-        rw (r, lt-ltb place (shape .events) h, at, le-leb (eventStart file place + 8) (length file) room, p)
+        let at : dayStart (shapeBase shape) (shape .first) (shape .days) + evLength * place ≡ eventStart file place =
+        rw (base-is file (q .is-shape), q .is-shape) (sym (event-start-is file place)) in
+        let room : eventStart file place + evLength ≤ length file = omega (arith, q .whole, at) in
+        rw (r, lt-ltb place (shape .events) h, at, le-leb (eventStart file place + evLength) (length file) room, p)
 
 -- the request that an EV makes
 pub event-read : (file : List ℕ) (at participation : ℕ) {event s e n : ℕ} → event ≡ numberAt 2 (at + 2) file → s ≡ getD file (at + 4) 0

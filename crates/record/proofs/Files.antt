@@ -1,78 +1,99 @@
 -- One law for each way out of reading a file, and what an accepted file has.
-use Prim.Native.Nat.{ℕ, _+_, _*_, _<_, _≤_}
+use Prim.Native.Nat.{ℕ, _+_, _-_, _*_, _<_, _≤_}
 use mathlib.Core.Path.{_≡_, refl, sym, _∙_, ap}
 use mathlib.Core.Bool.{Bool, true, false, cond}
 use mathlib.Core.List.{List}
 use native.Mathlib.Omega.{arith}
-use borrow.Author.Tests.{le-leb, lt-leb, eq-eqb, ne-eqb, eqb-true}
-use lib.ListN.{length, drop}
-use lib.Dec.{eqb}
+use borrow.Author.Tests.{le-leb, lt-leb, leb-true, eq-eqb, ne-eqb, eqb-true}
+use lib.ListN.{length, drop, length-drop}
+use lib.Dec.{leb, eqb}
+use Rattle.lists.proofs.Bools.{both}
 use Rattle.lists.specs.Ascii.{ascii}
 use Rattle.record.specs.declared.Shape.{Shape}
 use Rattle.record.specs.declared.Read.the-variants.{File, Refused}
-use Rattle.record.specs.Reader.{numberAt, opensWith, isPF, isDY, isEV, isDYof, dyLength, daysFrom, eventsFrom, firstIn, daysIn}
-use Rattle.record.specs.Reader.{dayStart, eventStart, eventsIn, goodEnd, shapeIn, readFile}
+use Rattle.record.specs.Reader.{numberAt, opensWith, isPF, pfLength, isDY, isEV, isDYof, dyLength, dyDay, evLength, daysFrom, eventsFrom}
+use Rattle.record.specs.Reader.{fileBase, firstIn, daysIn, dayStart, eventStart, eventsIn, goodEnd, shapeIn, readFile}
 use Rattle.record.specs.Laws.{Accepted}
 use Rattle.record.proofs.Numbers.{number-drop}
-use Rattle.method.proofs.Tables.{offset-is}
+use Rattle.record.proofs.Starts.{base-is}
+use Rattle.record.proofs.Records.{day-cut, named-day}
 use Rattle.record.proofs.Runs.{run-most}
 
-pub first-named : (file : List ℕ) → isDY (drop 8 file) ≡ true → numberAt 2 10 file ≡ firstIn file
+-- the DY start within a file that opens with a PF
+pub base-within : (file : List ℕ) → isPF file ≡ true → fileBase file ≤ length file
+unfolding isPF fileBase
+base-within file t = leb-true pfLength (length file) (both (leb pfLength (length file)) (opensWith (ascii "PF") file) t .0)
+
+-- the first day: of bytes that no DY has room in, of a DY, and of something else
+pub first-cut : (file : List ℕ) → length file - fileBase file < 6 → 0 ≡ firstIn file
 unfolding firstIn
-first-named file t = rw (t, number-drop 2 8 2 file)
+first-cut file h = rw (day-cut (drop (fileBase file) file) (rw (length-drop (fileBase file) file) h))
 
-pub first-none : (file : List ℕ) → isDY (drop 8 file) ≡ false → 0 ≡ firstIn file
-unfolding firstIn
-first-none file t = rw t
+module _ (file : List ℕ) {day : ℕ} (n : day ≡ numberAt 2 (fileBase file + 2) file) where
+  its-day : day ≡ dyDay (drop (fileBase file) file)
+  its-day = n ∙ sym (number-drop 2 (fileBase file) 2 file)
 
--- where the k-th DY starts, for code
-pub day-start-is : (first k : ℕ) → dayStart first k ≡ 8 + 390 * k
-unfolding dayStart
-day-start-is first k = omega (arith, offset-is first k)
+  its-test : isDYof day (drop (fileBase file) file) ≡ isDY (drop (fileBase file) file)
+  its-test = rw its-day (named-day (drop (fileBase file) file))
 
-pub event-start-is : (file : List ℕ) (i : ℕ) → eventStart file i ≡ 8 + 390 * daysIn file + 8 * i
+  pub first-named : isDYof day (drop (fileBase file) file) ≡ true → day ≡ firstIn file
+  unfolding firstIn
+  first-named t = rw (sym its-test ∙ t) its-day
+
+  pub first-none : isDYof day (drop (fileBase file) file) ≡ false → 0 ≡ firstIn file
+  unfolding firstIn
+  first-none t = rw (sym its-test ∙ t)
+
+-- where an EV starts, and where the first does
+pub event-start-is : (file : List ℕ) (i : ℕ) → eventStart file i ≡ dayStart (fileBase file) (firstIn file) (daysIn file) + evLength * i
 unfolding eventStart
-event-start-is file i = omega (arith, day-start-is (firstIn file) (daysIn file))
+event-start-is file i = refl
+
+pub event-start-more : (file : List ℕ) (i : ℕ) → eventStart file i ≡ eventStart file 0 + evLength * i
+event-start-more file i = omega (arith, event-start-is file i, event-start-is file 0)
+
+pub event-start-first : (file : List ℕ) → eventStart file 0 ≡ dayStart (fileBase file) (firstIn file) (daysIn file)
+event-start-first file = omega (arith, event-start-is file 0)
 
 -- refused at 0: an empty or cut file, and a foreign one
-pub file-cut : (file : List ℕ) → length file < 8 → Refused 0 ≡ readFile file
+pub file-cut : (file : List ℕ) → length file < pfLength → Refused 0 ≡ readFile file
 unfolding readFile isPF
-file-cut file h = rw (lt-leb 8 (length file) h)
+file-cut file h = rw (lt-leb pfLength (length file) h)
 
-pub file-foreign : (file : List ℕ) → 8 ≤ length file → opensWith (ascii "PF") file ≡ false → Refused 0 ≡ readFile file
+pub file-foreign : (file : List ℕ) → pfLength ≤ length file → opensWith (ascii "PF") file ≡ false → Refused 0 ≡ readFile file
 unfolding readFile isPF
-file-foreign file h t = rw (le-leb 8 (length file) h, t)
+file-foreign file h t = rw (le-leb pfLength (length file) h, t)
 
-module _ (file : List ℕ) {first days start events : ℕ} (f : first ≡ firstIn file) (d : days ≡ daysFrom first (drop 8 file)) (s : start ≡ 8 + 390 * days)
-    (v : events ≡ eventsFrom (drop start file)) where
+module _ (file : List ℕ) {base first days start events : ℕ} (b : base ≡ fileBase file) (f : first ≡ firstIn file) (d : days ≡ daysFrom first (drop base file))
+    (s : start ≡ dayStart base first days) (v : events ≡ eventsFrom (drop start file)) where
   days-are : days ≡ daysIn file
   unfolding daysIn
-  days-are = d ∙ ap (λ (x : ℕ). daysFrom x (drop 8 file)) f
+  days-are = rw (b, f) at d
+
+  start-is : start ≡ eventStart file 0
+  start-is = s ∙ (rw (b, f, days-are) (sym (event-start-first file)))
 
   events-are : events ≡ eventsIn file
   unfolding eventsIn
   events-are = v ∙ ap (λ (x : ℕ). eventsFrom (drop x file)) start-is
-    where
-      start-is : start ≡ eventStart file 0
-      start-is = omega (arith, event-start-is file 0, days-are)
 
-  end-is : start + 8 * events ≡ goodEnd file
+  end-is : start + evLength * events ≡ goodEnd file
   unfolding goodEnd
-  end-is = omega (arith, event-start-is file (eventsIn file), days-are, events-are)
+  end-is = omega (arith, event-start-more file (eventsIn file), start-is, events-are)
 
   -- the records end where the file does
-  pub file-good : {participation portfolio : ℕ} → 8 ≤ length file → opensWith (ascii "PF") file ≡ true → start + 8 * events ≡ length file
+  pub file-good : {participation portfolio : ℕ} → pfLength ≤ length file → opensWith (ascii "PF") file ≡ true → start + evLength * events ≡ length file
       → participation ≡ numberAt 2 2 file → portfolio ≡ numberAt 4 4 file
       → File (record { participation = participation; portfolio = portfolio; first = first; days = days; events = events }) ≡ readFile file
   unfolding readFile isPF shapeIn
   file-good h t e p n =
-      rw (le-leb 8 (length file) h, t, eq-eqb (goodEnd file) (length file) (sym end-is ∙ e), p, n, f, ← days-are, ← events-are)
+      rw (le-leb pfLength (length file) h, t, eq-eqb (goodEnd file) (length file) (sym end-is ∙ e), p, n, f, ← days-are, ← events-are)
 
-  pub file-bad : 8 ≤ length file → opensWith (ascii "PF") file ≡ true → (start + 8 * events ≡ length file → ⊥)
-      → Refused (start + 8 * events) ≡ readFile file
+  pub file-bad : pfLength ≤ length file → opensWith (ascii "PF") file ≡ true → (start + evLength * events ≡ length file → ⊥)
+      → Refused (start + evLength * events) ≡ readFile file
   unfolding readFile isPF
   file-bad h t e =
-      rw (le-leb 8 (length file) h, t, ne-eqb (goodEnd file) (length file) (λ same. e (end-is ∙ same)), end-is)
+      rw (le-leb pfLength (length file) h, t, ne-eqb (goodEnd file) (length file) (λ same. e (end-is ∙ same)), end-is)
 
 -- what an accepted file has
 pub shape-fits : (file : List ℕ) (shape : Shape) → readFile file ≡ File shape → Accepted file shape
@@ -87,9 +108,15 @@ shape-fits file shape t = go (isPF file) (eqb (goodEnd file) (length file)) refl
         record {
           is-shape = same;
           opens = e;
-          days = rw same (run-most isDYof dyLength 128 (firstIn file) (drop 8 file));
-          events = rw same (run-most (λ i. isEV) (λ i. 8) 64 0 (drop (eventStart file 0) file));
-          whole = rw same (sym (event-start-is file (eventsIn file)) ∙ end);
+          days = rw same (run-most isDYof dyLength 128 (firstIn file) (drop (fileBase file) file));
+          events = rw same (run-most (λ i. isEV) (λ i. evLength) 64 0 (drop (eventStart file 0) file));
+          whole = rw (base-is file same, same) (sym (event-start-is file (eventsIn file)) ∙ end);
         }
     go true false e g r = let z : _≡_ {A = ℕ} 0 1 = cc in absurd (omega arith)
     go false q e g r = let z : _≡_ {A = ℕ} 0 1 = cc in absurd (omega arith)
+
+pub end-is-length : (file : List ℕ) (shape : Shape) → readFile file ≡ File shape → eventStart file (eventsIn file) ≡ length file
+unfolding shapeIn
+end-is-length file shape r =
+    let q : Accepted file shape = shape-fits file shape r in
+    event-start-is file (eventsIn file) ∙ (rw (base-is file (q .is-shape), q .is-shape) at (q .whole))

@@ -1,13 +1,13 @@
 -- How long what a file says is.
-use Prim.Native.Nat.{ℕ, zero, suc, _*_}
+use Prim.Native.Nat.{ℕ, zero, suc}
 use mathlib.Core.Path.{_≡_, refl, ap}
 use mathlib.Core.List.{List}
-use native.Mathlib.Omega.{arith}
 use lib.ListN.{length, drop, length-append}
-use Rattle.method.proofs.Tables.{size-is}
+use Rattle.method.specs.Table.{offset}
 use Rattle.record.specs.declared.Shape.{Shape}
 use Rattle.record.specs.declared.Read.the-variants.{File}
 use Rattle.record.specs.Reader.{dyLength, marksFrom, numbers, readingsFrom, shapeIn, tableIn, tableWithin, readFile}
+use Rattle.record.proofs.Starts.{base-is}
 use Rattle.record.proofs.Files.{shape-fits}
 
 pub numbers-length : (count : ℕ) (left : List ℕ) → length (numbers count left) ≡ count
@@ -20,12 +20,12 @@ unfolding marksFrom
 marks-length zero d left = refl
 marks-length (suc h) d left = ap suc (marks-length h (suc d) (drop (dyLength d) left))
 
-pub readings-length : (h d : ℕ) (left : List ℕ) → length (readingsFrom h d left) ≡ 96 * h
-unfolding readingsFrom
+pub readings-length : (h d : ℕ) (left : List ℕ) → length (readingsFrom h d left) ≡ offset d h
+unfolding readingsFrom offset
 readings-length zero d left = refl
-readings-length (suc h) d left = rw (length-append, numbers-length, readings-length h, size-is) (omega arith)
+readings-length (suc h) d left = rw (length-append, numbers-length, readings-length h)
 
 -- what an accepted file holds, by its shape
 pub table-within : (file : List ℕ) {shape : Shape} → readFile file ≡ File shape → tableWithin shape file ≡ tableIn file
 unfolding tableWithin tableIn shapeIn
-table-within file {shape} r = rw (shape-fits file shape r .is-shape)
+table-within file {shape} r = rw (base-is file (shape-fits file shape r .is-shape), shape-fits file shape r .is-shape)

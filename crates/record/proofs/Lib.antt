@@ -1,5 +1,6 @@
 pub mod Numbers
 pub mod Bytes
+pub mod Starts
 pub mod Records
 pub mod Runs
 pub mod Files

@@ -1,29 +1,28 @@
 -- What a file says its bytes can hold, and what is written is bytes.
-use Prim.Native.Nat.{ℕ, zero, suc, _+_, _*_, _^_, _<_, _≤_}
+use Prim.Native.Nat.{ℕ, zero, suc, _+_, _^_, _<_, _≤_}
 use mathlib.Core.Path.{_≡_, refl, sym, _∙_, ap}
 use mathlib.Core.Bool.{true, false, cond, _&&_}
 use mathlib.Core.List.{List, [], _∷_, _++_}
 use mathlib.Core.Logic.{⊎-elim}
 use native.Mathlib.Omega.{arith}
-use borrow.Author.Tests.{lt-ltb, ltb-true, eqb-true, eq-eqb}
+use borrow.Author.Tests.{lt-ltb, ltb-true}
 use lib.ListN.{length, take, drop, getD}
-use lib.Dec.{ltb, eqb}
+use lib.Dec.{ltb}
 use Rattle.lists.specs.Lists.{all}
 use Rattle.lists.proofs.Bools.{both, bool-cases}
 use Rattle.method.specs.Table.{size}
 use Rattle.record.specs.Layout.{Below, bytes, pfRecord, readingBytes, dyRecord, Event, evRecord, dyRecords, evRecords, Contents, fileOf, Fits, fitsEvent}
 use Rattle.record.specs.declared.Shape.{Shape}
 use Rattle.record.specs.declared.Read.the-variants.{File}
-use Rattle.record.specs.Reader.{numberAt, isDY, isDYof, dyLength, dyDay, run, daysFrom, firstIn, daysIn, eventStart, eventsIn, shapeIn, readFile}
+use Rattle.record.specs.Reader.{numberAt, isDY, evLength, isDYof, dyLength, dyDay, daysFrom, fileBase, firstIn, daysIn, dayStart, eventStart, eventsIn, shapeIn, readFile}
 use Rattle.record.specs.Reader.{marksFrom, numbers, readingsFrom, tableIn, eventOf, eventList, contentsIn}
 use Rattle.record.specs.Laws.{Accepted}
 use Rattle.record.proofs.Bytes.{below-drop, below-append, below-cons, below-none, bytes-below, number-below, reading-bytes-below, numbers-below}
-use Rattle.record.proofs.Records.{dy-length}
+use Rattle.record.proofs.Records.{day-named, named-day}
 use Rattle.record.proofs.Runs.{run-more}
-use Rattle.method.proofs.Tables.{offset-is}
 use Rattle.record.proofs.Files.{shape-fits}
 use Rattle.record.proofs.Lengths.{marks-length, readings-length}
-use Rattle.record.proofs.RefusedWhere.{each}
+use Rattle.record.proofs.RefusedWhere.{each-day-in}
 
 marks-below : (h d : ℕ) (left : List ℕ) → Below 256 left → Below 256 (marksFrom h d left)
 unfolding marksFrom
@@ -43,47 +42,38 @@ unfolding all eventList fitsEvent eventOf
 events-fit zero left b = refl
 events-fit (suc count) left b =
     rw (lt-ltb (numberAt 2 2 left) 65536 (number-below 2 2 left b), lt-ltb (getD left 4 0) 256 (b 4), lt-ltb (getD left 5 0) 256 (b 5), lt-ltb (getD left 6 0) 256 (b 6))
-    (events-fit count (drop 8 left) (below-drop 8 left b))
+    (events-fit count (drop evLength left) (below-drop evLength left b))
 
 events-count : (count : ℕ) (left : List ℕ) → length (eventList count left) ≡ count
 unfolding eventList
 events-count zero left = refl
-events-count (suc count) left = ap suc (events-count count (drop 8 left))
-
-named-day : (left : List ℕ) → isDY left ≡ true → isDYof (dyDay left) left ≡ true
-unfolding isDYof
-named-day left t = rw (t, eq-eqb (dyDay left) (dyDay left) refl)
-
-day-named : (d : ℕ) (left : List ℕ) → isDYof d left ≡ true → dyDay left ≡ d
-unfolding isDYof
-day-named d left t = eqb-true (dyDay left) d (both (isDY left) (eqb (dyDay left) d) t .1)
+events-count (suc count) left = ap suc (events-count count (drop evLength left))
 
 -- a first day is named by a DY
 first-held : (file : List ℕ) → daysIn file ≡ 0 → firstIn file ≡ 0
 unfolding daysIn daysFrom firstIn
-first-held file z = ⊎-elim named unnamed (bool-cases (isDY (drop 8 file)))
+first-held file z = ⊎-elim named unnamed (bool-cases (isDY (drop (fileBase file) file)))
   where
-    unnamed : isDY (drop 8 file) ≡ false → cond (isDY (drop 8 file)) (dyDay (drop 8 file)) 0 ≡ 0
+    unnamed : isDY (drop (fileBase file) file) ≡ false → cond (isDY (drop (fileBase file) file)) (dyDay (drop (fileBase file) file)) 0 ≡ 0
     unnamed t = rw t
 
-    named : isDY (drop 8 file) ≡ true → cond (isDY (drop 8 file)) (dyDay (drop 8 file)) 0 ≡ 0
+    named : isDY (drop (fileBase file) file) ≡ true → cond (isDY (drop (fileBase file) file)) (dyDay (drop (fileBase file) file)) 0 ≡ 0
     named t =
-        let left = drop 8 file in
-        absurd (omega (arith, (rw t at z), run-more isDYof dyLength 127 (dyDay left) left (named-day left t)))
+        let left = drop (fileBase file) file in
+        absurd (omega (arith, (rw t at z), run-more isDYof dyLength 127 (dyDay left) left (named-day left ∙ t)))
 
 last-below : (file : List ℕ) → Below 256 file → firstIn file + daysIn file ≤ 256 ^ 2
-unfolding daysIn daysFrom
 last-below file b = go (daysIn file) refl
   where
     go : (h : ℕ) → daysIn file ≡ h → firstIn file + h ≤ 256 ^ 2
     go zero e = omega (arith, first-held file e)
     go (suc k) e =
-        let o : k < run isDYof dyLength 128 (firstIn file) (drop 8 file) = omega arith in
-        let at = drop (390 * k) (drop 8 file) in
+        let o : k < daysIn file = omega arith in
+        let at = drop (dayStart (fileBase file) (firstIn file) k) file in
         omega (
           arith,
-          day-named (firstIn file + k) at (each isDYof dyLength 390 dy-length 128 (firstIn file) (drop 8 file) k o),
-          number-below 2 2 at (below-drop (390 * k) (drop 8 file) (below-drop 8 file b)),
+          day-named (firstIn file + k) at (each-day-in file k o),
+          number-below 2 2 at (below-drop (dayStart (fileBase file) (firstIn file) k) file b),
         )
 
 pub says-what-fits : (file : List ℕ) (shape : Shape) → Below 256 file → readFile file ≡ File shape → Fits (contentsIn file)
@@ -92,16 +82,16 @@ says-what-fits file shape b r =
     let q : Accepted file shape = shape-fits file shape r in
     let days : shape .days ≡ daysIn file = rw (q .is-shape) in
     let events : shape .events ≡ eventsIn file = rw (q .is-shape) in
-    let held = marks-length (daysIn file) (firstIn file) (drop 8 file) in
+    let held = marks-length (daysIn file) (firstIn file) (drop (fileBase file) file) in
     record {
       participation = number-below 2 2 file b;
       portfolio = number-below 4 4 file b;
       days = rw held (omega arith);
       last = rw held (last-below file b);
       none = λ z. first-held file (sym held ∙ z);
-      marks = marks-below (daysIn file) (firstIn file) (drop 8 file) (below-drop 8 file b);
-      size = rw (held, offset-is) (readings-length (daysIn file) (firstIn file) (drop 8 file));
-      readings = readings-below (daysIn file) (firstIn file) (drop 8 file) (below-drop 8 file b);
+      marks = marks-below (daysIn file) (firstIn file) (drop (fileBase file) file) (below-drop (fileBase file) file b);
+      size = rw held (readings-length (daysIn file) (firstIn file) (drop (fileBase file) file));
+      readings = readings-below (daysIn file) (firstIn file) (drop (fileBase file) file) (below-drop (fileBase file) file b);
       events = rw (events-count (eventsIn file) (drop (eventStart file 0) file)) (omega arith);
       fields = events-fit (eventsIn file) (drop (eventStart file 0) file) (below-drop (eventStart file 0) file b);
     }

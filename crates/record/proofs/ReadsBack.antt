@@ -1,5 +1,5 @@
 -- What is written reads back: the file of any contents that its bytes can hold is accepted, and says those contents.
-use Prim.Native.Nat.{ℕ, suc, _+_, _*_, _^_, _<_, _≤_}
+use Prim.Native.Nat.{ℕ, suc, _+_, _^_, _<_, _≤_}
 use mathlib.Core.Path.{_≡_, refl, sym, _∙_}
 use mathlib.Core.Bool.{true, cond}
 use mathlib.Core.List.{List, [], _∷_, _++_, append-assoc}
@@ -7,18 +7,18 @@ use native.Mathlib.Omega.{arith}
 use borrow.Author.Tests.{le-leb, eq-eqb}
 use lib.ListN.{length, take, drop, length-append}
 use lib.Seq.{drop-at}
-use Rattle.method.specs.Table.{heldDays, size}
+use Rattle.method.specs.Table.{heldDays, size, offset}
 use Rattle.record.specs.Layout.{bytes, pfRecord, dyRecord, Event, dyRecords, evRecords, Contents, fileOf, Fits}
 use Rattle.record.specs.declared.Read.the-variants.{File}
-use Rattle.record.specs.Reader.{numberAt, opensWith, isPF, isDY, dyDay, daysFrom, eventsFrom, firstIn, daysIn, eventStart, eventsIn, goodEnd}
-use Rattle.record.specs.Reader.{shapeIn, readFile, tableIn, contentsIn, shapeOf}
+use Rattle.record.specs.Reader.{numberAt, opensWith, isPF, pfLength, isDY, dyDay, daysFrom, eventsFrom, fileBase, firstIn, daysIn, dayStart}
+use Rattle.record.specs.Reader.{eventStart, eventsIn, goodEnd, shapeIn, readFile, tableIn, contentsIn, shapeOf}
 use Rattle.record.proofs.Numbers.{number-drop}
 use Rattle.record.proofs.Bytes.{number-bytes}
-use Rattle.method.proofs.Tables.{offset-is}
-use Rattle.record.proofs.Files.{event-start-is}
+use Rattle.record.proofs.Starts.{day-start-from}
+use Rattle.record.proofs.Files.{event-start-first, event-start-more}
 use Rattle.record.proofs.Back.{day-is, day-day, days-length, first-long, days-back, marks-back, readings-back, events-back, event-list-back, events-length, no-day-left}
 
-first-of : (d : ℕ) (ms rs : List ℕ) (es : List Event) → (length ms ≡ 0 → d ≡ 0) → d + length ms ≤ 256 ^ 2 → length rs ≡ 96 * length ms
+first-of : (d : ℕ) (ms rs : List ℕ) (es : List Event) → (length ms ≡ 0 → d ≡ 0) → d + length ms ≤ 256 ^ 2 → length rs ≡ offset d (length ms)
     → cond (isDY (dyRecords d ms rs ++ evRecords es)) (dyDay (dyRecords d ms rs ++ evRecords es)) 0 ≡ d
 unfolding dyRecords
 first-of d [] rs es z l e = rw (no-day-left es) (sym (z refl))
@@ -28,17 +28,14 @@ first-of d (m ∷ ms) rs es z l e =
     let more = dyRecords (suc d) ms (drop (size d) rs) ++ evRecords es in
     rw (
       append-assoc (dyRecord d m (take (size d) rs)) (dyRecords (suc d) ms (drop (size d) rs)) (evRecords es),
-      day-is d m (take (size d) rs) more long,
+      day-is d m (take (size d) rs) more long below,
       day-day d m (take (size d) rs) more long below,
     )
 
 module _ (c : Contents) (q : Fits c) where
-  sized : length (c .table .readings) ≡ 96 * heldDays (c .table)
-  sized = q .size ∙ offset-is (c .table .first) (heldDays (c .table))
-
   opens-back : isPF (fileOf c) ≡ true
   unfolding isPF opensWith fileOf pfRecord bytes
-  opens-back = let o : 8 ≤ length (fileOf c) = omega arith in rw (le-leb 8 (length (fileOf c)) o)
+  opens-back = let o : pfLength ≤ length (fileOf c) = omega arith in rw (le-leb pfLength (length (fileOf c)) o)
 
   participation-back : numberAt 2 2 (fileOf c) ≡ c .participation
   unfolding fileOf pfRecord bytes numberAt
@@ -50,30 +47,38 @@ module _ (c : Contents) (q : Fits c) where
       sym (number-drop 4 4 0 (fileOf c))
       ∙ number-bytes 4 (c .portfolio) (dyRecords (c .table .first) (c .table .marks) (c .table .readings) ++ evRecords (c .events)) (q .portfolio)
 
-  rest-is : drop 8 (fileOf c) ≡ dyRecords (c .table .first) (c .table .marks) (c .table .readings) ++ evRecords (c .events)
-  unfolding fileOf pfRecord bytes
+  rest-is : drop (fileBase (fileOf c)) (fileOf c) ≡ dyRecords (c .table .first) (c .table .marks) (c .table .readings) ++ evRecords (c .events)
+  unfolding fileBase fileOf pfRecord bytes
   rest-is = refl
 
   first-back : firstIn (fileOf c) ≡ c .table .first
   unfolding firstIn
-  first-back = rw rest-is (first-of (c .table .first) (c .table .marks) (c .table .readings) (c .events) (q .none) (q .last) sized)
+  first-back = rw rest-is (first-of (c .table .first) (c .table .marks) (c .table .readings) (c .events) (q .none) (q .last) (q .size))
 
   held-back : daysIn (fileOf c) ≡ heldDays (c .table)
   unfolding daysIn daysFrom
   held-back =
       rw (first-back, rest-is)
-      (days-back (evRecords (c .events)) (c .table .marks) (c .table .readings) 128 (c .table .first) (q .days) sized (q .last) (no-day-left (c .events)))
+      (days-back (evRecords (c .events)) (c .table .marks) (c .table .readings) 128 (c .table .first) (q .days) (q .size) (q .last) (no-day-left (c .events)))
 
   before-events : length (pfRecord (c .participation) (c .portfolio) ++ dyRecords (c .table .first) (c .table .marks) (c .table .readings))
-      ≡ 8 + 390 * heldDays (c .table)
-  unfolding pfRecord bytes
-  before-events = omega (arith, days-length (c .table .marks) (c .table .readings) (c .table .first) sized)
+      ≡ dayStart (fileBase (fileOf c)) (c .table .first) (heldDays (c .table))
+  unfolding fileBase pfRecord bytes
+  before-events =
+      omega (
+        arith,
+        days-length (c .table .marks) (c .table .readings) (c .table .first) (q .size),
+        day-start-from pfLength (c .table .first) (heldDays (c .table)),
+      )
+
+  start-back : eventStart (fileOf c) 0 ≡ dayStart (fileBase (fileOf c)) (c .table .first) (heldDays (c .table))
+  start-back = event-start-first (fileOf c) ∙ (rw (first-back, held-back))
 
   events-left : drop (eventStart (fileOf c) 0) (fileOf c) ≡ evRecords (c .events)
   unfolding fileOf
   events-left =
       drop-at (pfRecord (c .participation) (c .portfolio) ++ dyRecords (c .table .first) (c .table .marks) (c .table .readings)) (evRecords (c .events))
-      (eventStart (fileOf c) 0) (before-events ∙ omega (arith, event-start-is (fileOf c) 0, held-back))
+      (eventStart (fileOf c) 0) (before-events ∙ sym start-back)
 
   count-back : eventsIn (fileOf c) ≡ length (c .events)
   unfolding eventsIn eventsFrom
@@ -84,8 +89,8 @@ module _ (c : Contents) (q : Fits c) where
   end-back =
       omega (
         arith,
-        event-start-is (fileOf c) (eventsIn (fileOf c)),
-        held-back,
+        event-start-more (fileOf c) (eventsIn (fileOf c)),
+        start-back,
         count-back,
         before-events,
         events-length (c .events),
@@ -104,8 +109,8 @@ module _ (c : Contents) (q : Fits c) where
       count-back,
       rest-is,
       events-left,
-      marks-back (evRecords (c .events)) (c .table .marks) (c .table .readings) (c .table .first) sized,
-      readings-back (evRecords (c .events)) (c .table .marks) (c .table .readings) (c .table .first) sized (q .readings),
+      marks-back (evRecords (c .events)) (c .table .marks) (c .table .readings) (c .table .first) (q .size),
+      readings-back (evRecords (c .events)) (c .table .marks) (c .table .readings) (c .table .first) (q .size) (q .readings),
       event-list-back (c .events) (q .fields),
     ),
   )

@@ -14,15 +14,15 @@ use Rattle.record.specs.Layout.{Below, bytes, pfRecord, readingBytes, dy
 use Rattle.lists.specs.Ascii.{ascii}
 use Rattle.record.specs.declared.Shape.{Shape}
 use Rattle.record.specs.declared.Read.the-variants.{File}
-use Rattle.record.specs.Reader.{numberAt, opensWith, isRecord, isPF, isDY, isEV, isDYof, dyLength, dyDay, run, daysFrom, eventsFrom, firstIn, daysIn}
-use Rattle.record.specs.Reader.{eventStart, eventsIn, shapeIn, readFile, marksFrom, numbers, readingsFrom, tableIn, eventOf, eventList, contentsIn}
+use Rattle.record.specs.Reader.{numberAt, opensWith, isRecord, isPF, pfLength, isEV, evLength, isDYof, dyLength, dyDay, run, daysFrom, eventsFrom}
+use Rattle.record.specs.Reader.{fileBase, firstIn, daysIn, dayStart, eventStart, eventsIn, shapeIn, readFile, marksFrom, numbers, readingsFrom, tableIn, eventOf, eventList, contentsIn}
 use Rattle.record.specs.Laws.{Accepted}
 use Rattle.record.proofs.Numbers.{number-drop}
 use Rattle.record.proofs.Bytes.{below-drop, bytes-number, bytes-numbers}
-use Rattle.method.proofs.Tables.{size-is}
+use Rattle.record.proofs.Starts.{day-start-none, day-start-from, day-start-cons}
 use Rattle.record.proofs.Records.{day-record, event-record, day-whole, event-whole}
 use Rattle.record.proofs.Runs.{run-more, run-stops, run-full}
-use Rattle.record.proofs.Files.{shape-fits, event-start-is}
+use Rattle.record.proofs.Files.{shape-fits, event-start-first, event-start-more, end-is-length}
 use Rattle.record.proofs.Lengths.{numbers-length}
 
 -- some elements from a place on, one by one
@@ -62,18 +62,19 @@ tested size mark blank left t =
     }
 
 day-again : (d : ℕ) (left : List ℕ) → Below 256 left → isDYof d left ≡ true
-    → dyRecord d (getD left 4 0) (numbers 96 (drop 6 left)) ++ drop 390 left ≡ left
-unfolding dyRecord bytes isDYof
+    → dyRecord d (getD left 4 0) (numbers (size d) (drop 6 left)) ++ drop (dyLength d) left ≡ left
+unfolding dyRecord bytes
 day-again d left b t =
-    let k = both (isDY left) (eqb (dyDay left) d) t in
-    let q : Tested (ascii "DY") 5 left = tested 390 (ascii "DY") 5 left (rw day-record at (k .0)) in
-    let long : 390 ≤ length left = day-whole left (k .0) in
+    let k = both (isRecord (dyLength d) (ascii "DY") 5 left) (eqb (dyDay left) d) (sym (day-record d left) ∙ t) in
+    let q : Tested (ascii "DY") 5 left = tested (dyLength d) (ascii "DY") 5 left (k .0) in
+    let long : dyLength d ≤ length left = day-whole d left t in
     let o : 6 ≤ length left = omega arith in
     let day = two-low left b d (eqb-true (dyDay left) d (k .1)) in
     let six : firsts 6 0 left ++ drop 6 left ≡ left = firsts-are 6 0 left o in
-    let room : 4 * 96 ≤ length (drop 6 left) = omega (arith, length-drop 6 left) in
-    let rest : readingBytes (numbers 96 (drop 6 left)) ++ drop 384 (drop 6 left) ≡ drop 6 left = bytes-numbers 96 (drop 6 left) room (below-drop 6 left b) in
-    let far : drop 384 (drop 6 left) ≡ drop 390 left = drop-drop 384 6 left in
+    let room : 4 * size d ≤ length (drop 6 left) = omega (arith, length-drop 6 left) in
+    let rest : readingBytes (numbers (size d) (drop 6 left)) ++ drop (4 * size d) (drop 6 left) ≡ drop 6 left =
+    bytes-numbers (size d) (drop 6 left) room (below-drop 6 left b) in
+    let far : drop (4 * size d) (drop 6 left) ≡ drop (dyLength d) left = drop-drop (4 * size d) 6 left in
     let one : getD left 0 0 ≡ 68 = q .one in
     let two : getD left 1 0 ≡ 89 = q .two in
     let none : getD left 5 0 ≡ 0 = q .none in
@@ -81,13 +82,13 @@ day-again d left b t =
     let high = day .1 in
     cc
 
-event-again : (left : List ℕ) → Below 256 left → isEV left ≡ true → evRecord (eventOf left) ++ drop 8 left ≡ left
+event-again : (left : List ℕ) → Below 256 left → isEV left ≡ true → evRecord (eventOf left) ++ drop evLength left ≡ left
 unfolding evRecord eventOf bytes
 event-again left b t =
-    let q : Tested (ascii "EV") 7 left = tested 8 (ascii "EV") 7 left (rw event-record at t) in
-    let long : 8 ≤ length left = event-whole left t in
+    let q : Tested (ascii "EV") 7 left = tested evLength (ascii "EV") 7 left (rw event-record at t) in
+    let long : evLength ≤ length left = event-whole left t in
     let day = two-low left b (numberAt 2 2 left) refl in
-    let eight : firsts 8 0 left ++ drop 8 left ≡ left = firsts-are 8 0 left long in
+    let eight : firsts 8 0 left ++ drop evLength left ≡ left = firsts-are 8 0 left long in
     let one : getD left 0 0 ≡ 69 = q .one in
     let two : getD left 1 0 ≡ 86 = q .two in
     let none : getD left 7 0 ≡ 0 = q .none in
@@ -97,78 +98,76 @@ event-again left b t =
 
 -- a day, and the days after it
 day-before : (d : ℕ) (left : List ℕ) (h : ℕ) (ms rs : List ℕ) → Below 256 left → isDYof d left ≡ true
-    → dyRecords (suc d) ms rs ++ drop (390 * h) (drop (dyLength d) left) ≡ drop (dyLength d) left
-    → dyRecords d (getD left 4 0 ∷ ms) (numbers (size d) (drop 6 left) ++ rs) ++ drop (390 * suc h) left ≡ left
+    → dyRecords (suc d) ms rs ++ drop (dayStart 0 (suc d) h) (drop (dyLength d) left) ≡ drop (dyLength d) left
+    → dyRecords d (getD left 4 0 ∷ ms) (numbers (size d) (drop 6 left) ++ rs) ++ drop (dayStart 0 d (suc h)) left ≡ left
 unfolding dyRecords
 day-before d left h ms rs b t later =
-    let xs = numbers 96 (drop 6 left) in
-    let long : length (numbers 96 (drop 6 left)) ≡ 96 = numbers-length 96 (drop 6 left) in
-    let far : 390 * suc h ≡ 390 + 390 * h = omega arith in
+    let xs = numbers (size d) (drop 6 left) in
+    let long : length (numbers (size d) (drop 6 left)) ≡ size d = numbers-length (size d) (drop 6 left) in
     rw (
-      size-is d,
-      take-at xs rs 96 long,
-      drop-at xs rs 96 long,
-      append-assoc (dyRecord d (getD left 4 0) xs) (dyRecords (suc d) ms rs) (drop (390 * suc h) left),
-      far,
-      ← drop-drop (390 * h) 390 left,
-      (rw (size-is d) at later),
+      take-at xs rs (size d) long,
+      drop-at xs rs (size d) long,
+      append-assoc (dyRecord d (getD left 4 0) xs) (dyRecords (suc d) ms rs) (drop (dayStart 0 d (suc h)) left),
+      day-start-cons d h,
+      ← drop-drop (dayStart 0 (suc d) h) (dyLength d) left,
+      later,
     ) (day-again d left b t)
 
 days-again : (most d : ℕ) (left : List ℕ) → Below 256 left
     → dyRecords d (marksFrom (run isDYof dyLength most d left) d left) (readingsFrom (run isDYof dyLength most d left) d left)
-    ++ drop (390 * run isDYof dyLength most d left) left ≡ left
+    ++ drop (dayStart 0 d (run isDYof dyLength most d left)) left ≡ left
 unfolding dyRecords marksFrom readingsFrom
-days-again zero d left b = rw (run-full isDYof dyLength d left)
+days-again zero d left b = rw (run-full isDYof dyLength d left, day-start-none 0 d)
 days-again (suc most) d left b = go (isDYof d left) refl (days-again most (suc d) (drop (dyLength d) left) (below-drop (dyLength d) left b))
   where
     go : (good : Bool) → isDYof d left ≡ good
         → dyRecords (suc d) (marksFrom (run isDYof dyLength most (suc d) (drop (dyLength d) left)) (suc d) (drop (dyLength d) left))
         (readingsFrom (run isDYof dyLength most (suc d) (drop (dyLength d) left)) (suc d) (drop (dyLength d) left))
-        ++ drop (390 * run isDYof dyLength most (suc d) (drop (dyLength d) left)) (drop (dyLength d) left)
+        ++ drop (dayStart 0 (suc d) (run isDYof dyLength most (suc d) (drop (dyLength d) left))) (drop (dyLength d) left)
         ≡ drop (dyLength d) left
         → dyRecords d (marksFrom (run isDYof dyLength (suc most) d left) d left) (readingsFrom (run isDYof dyLength (suc most) d left) d left)
-        ++ drop (390 * run isDYof dyLength (suc most) d left) left ≡ left
-    go false e later = rw (run-stops isDYof dyLength (suc most) d left e)
+        ++ drop (dayStart 0 d (run isDYof dyLength (suc most) d left)) left ≡ left
+    go false e later = rw (run-stops isDYof dyLength (suc most) d left e, day-start-none 0 d)
     go true e later =
         let h = run isDYof dyLength most (suc d) (drop (dyLength d) left) in
         rw (run-more isDYof dyLength most d left e)
         (day-before d left h (marksFrom h (suc d) (drop (dyLength d) left)) (readingsFrom h (suc d) (drop (dyLength d) left)) b e later)
 
 events-again : (most i : ℕ) (left : List ℕ) → Below 256 left
-    → evRecords (eventList (run (λ j. isEV) (λ j. 8) most i left) left) ++ drop (8 * run (λ j. isEV) (λ j. 8) most i left) left ≡ left
+    → evRecords (eventList (run (λ j. isEV) (λ j. evLength) most i left) left) ++ drop (evLength * run (λ j. isEV) (λ j. evLength) most i left) left ≡ left
 unfolding evRecords eventList
-events-again zero i left b = rw (run-full (λ j. isEV) (λ j. 8) i left)
-events-again (suc most) i left b = go (isEV left) refl (events-again most (suc i) (drop 8 left) (below-drop 8 left b))
+events-again zero i left b = rw (run-full (λ j. isEV) (λ j. evLength) i left)
+events-again (suc most) i left b = go (isEV left) refl (events-again most (suc i) (drop evLength left) (below-drop evLength left b))
   where
     go : (good : Bool) → isEV left ≡ good
-        → evRecords (eventList (run (λ j. isEV) (λ j. 8) most (suc i) (drop 8 left)) (drop 8 left))
-        ++ drop (8 * run (λ j. isEV) (λ j. 8) most (suc i) (drop 8 left)) (drop 8 left) ≡ drop 8 left
-        → evRecords (eventList (run (λ j. isEV) (λ j. 8) (suc most) i left) left) ++ drop (8 * run (λ j. isEV) (λ j. 8) (suc most) i left) left ≡ left
-    go false e later = rw (run-stops (λ j. isEV) (λ j. 8) (suc most) i left e)
+        → evRecords (eventList (run (λ j. isEV) (λ j. evLength) most (suc i) (drop evLength left)) (drop evLength left))
+        ++ drop (evLength * run (λ j. isEV) (λ j. evLength) most (suc i) (drop evLength left)) (drop evLength left) ≡ drop evLength left
+        → evRecords (eventList (run (λ j. isEV) (λ j. evLength) (suc most) i left) left) ++ drop (evLength * run (λ j. isEV) (λ j. evLength) (suc most) i left) left ≡ left
+    go false e later = rw (run-stops (λ j. isEV) (λ j. evLength) (suc most) i left e)
     go true e later =
-        let v = run (λ j. isEV) (λ j. 8) most (suc i) (drop 8 left) in
-        let far : 8 * suc v ≡ 8 + 8 * v = omega arith in
+        let v = run (λ j. isEV) (λ j. evLength) most (suc i) (drop evLength left) in
+        let far : evLength * suc v ≡ evLength + evLength * v = omega arith in
         rw (
-          run-more (λ j. isEV) (λ j. 8) most i left e,
-          append-assoc (evRecord (eventOf left)) (evRecords (eventList v (drop 8 left))) (drop (8 * suc v) left),
+          run-more (λ j. isEV) (λ j. evLength) most i left e,
+          append-assoc (evRecord (eventOf left)) (evRecords (eventList v (drop evLength left))) (drop (evLength * suc v) left),
           far,
-          ← drop-drop (8 * v) 8 left,
+          ← drop-drop (evLength * v) evLength left,
           later,
         )
         (event-again left b e)
 
-file-again : (file : List ℕ) → Below 256 file → isPF file ≡ true → pfRecord (numberAt 2 2 file) (numberAt 4 4 file) ++ drop 8 file ≡ file
-unfolding pfRecord isPF opensWith bytes
+file-again : (file : List ℕ) → Below 256 file → isPF file ≡ true → pfRecord (numberAt 2 2 file) (numberAt 4 4 file) ++ drop (fileBase file) file ≡ file
+unfolding fileBase pfRecord isPF opensWith bytes
 file-again file b t =
-    let k = both (leb 8 (length file)) (opensWith (ascii "PF") file) t in
+    let k = both (leb pfLength (length file)) (opensWith (ascii "PF") file) t in
     let m = both (eqb (getD file 0 0) 80) (eqb (getD file 1 0) 70) (k .1) in
-    let long : 8 ≤ length file = leb-true 8 (length file) (k .0) in
+    let long : pfLength ≤ length file = leb-true pfLength (length file) (k .0) in
     let o : 4 ≤ length file = omega arith in
     let four : firsts 4 0 file ++ drop 4 file ≡ file = firsts-are 4 0 file o in
     let room : 4 ≤ length (drop 4 file) = omega (arith, length-drop 4 file) in
     let number : bytes 4 (numberAt 4 0 (drop 4 file)) ++ drop 4 (drop 4 file) ≡ drop 4 file = bytes-number 4 (drop 4 file) room (below-drop 4 file b) in
     let at : numberAt 4 0 (drop 4 file) ≡ numberAt 4 4 file = number-drop 4 4 0 file in
-    let far : drop 4 (drop 4 file) ≡ drop 8 file = drop-drop 4 4 file in
+    let far : drop 4 (drop 4 file) ≡ drop pfLength file = drop-drop 4 4 file in
     let day = two-low file b (numberAt 2 2 file) refl in
     let low = day .0 in
     let high = day .1 in
@@ -183,16 +182,17 @@ written-again file shape b r =
     let q : Accepted file shape = shape-fits file shape r in
     let days : shape .days ≡ daysIn file = rw (q .is-shape) in
     let events : shape .events ≡ eventsIn file = rw (q .is-shape) in
-    let start : 8 + 390 * daysIn file ≡ eventStart file 0 = omega (arith, event-start-is file 0) in
-    let end : length file ≤ eventStart file 0 + 8 * eventsIn file = omega (arith, event-start-is file 0) in
+    let end : length file ≤ eventStart file 0 + evLength * eventsIn file = omega (arith, event-start-more file (eventsIn file), end-is-length file shape r) in
     let left = drop (eventStart file 0) file in
     let ev = evRecords (eventList (eventsIn file) left) in
-    let dy = dyRecords (firstIn file) (marksFrom (daysIn file) (firstIn file) (drop 8 file)) (readingsFrom (daysIn file) (firstIn file) (drop 8 file)) in
-    let nothing : drop (8 * eventsIn file) left ≡ [] = drop-drop (8 * eventsIn file) (eventStart file 0) file ∙ drop-of-length-le file end in
-    let evs : ev ++ drop (8 * eventsIn file) left ≡ left = events-again 64 0 left (below-drop (eventStart file 0) file b) in
+    let dy = dyRecords (firstIn file) (marksFrom (daysIn file) (firstIn file) (drop (fileBase file) file)) (readingsFrom (daysIn file) (firstIn file) (drop (fileBase file) file)) in
+    let nothing : drop (evLength * eventsIn file) left ≡ [] = drop-drop (evLength * eventsIn file) (eventStart file 0) file ∙ drop-of-length-le file end in
+    let evs : ev ++ drop (evLength * eventsIn file) left ≡ left = events-again 64 0 left (below-drop (eventStart file 0) file b) in
     let ev-is : ev ≡ left = sym (append-nil ev) ∙ (rw nothing at evs) in
-    let dys : dy ++ drop (390 * daysIn file) (drop 8 file) ≡ drop 8 file = days-again 128 (firstIn file) (drop 8 file) (below-drop 8 file b) in
-    let after : drop (390 * daysIn file) (drop 8 file) ≡ left = drop-drop (390 * daysIn file) 8 file ∙ ap (λ (n : ℕ). drop n file) start in
+    let dys : dy ++ drop (dayStart 0 (firstIn file) (daysIn file)) (drop (fileBase file) file) ≡ drop (fileBase file) file = days-again 128 (firstIn file) (drop (fileBase file) file) (below-drop (fileBase file) file b) in
+    let after : drop (dayStart 0 (firstIn file) (daysIn file)) (drop (fileBase file) file) ≡ left =
+    drop-drop (dayStart 0 (firstIn file) (daysIn file)) (fileBase file) file
+    ∙ ap (λ (n : ℕ). drop n file) (sym (day-start-from (fileBase file) (firstIn file) (daysIn file)) ∙ sym (event-start-first file)) in
     append-assoc (pfRecord (numberAt 2 2 file) (numberAt 4 4 file)) dy ev
     ∙ ap (λ (l : List ℕ). pfRecord (numberAt 2 2 file) (numberAt 4 4 file) ++ l) (ap (λ (l : List ℕ). dy ++ l) (ev-is ∙ sym after) ∙ dys)
     ∙ file-again file b (q .opens)

@@ -6,7 +6,8 @@ use mathlib.Core.List.{List}
 use mathlib.Core.Logic.{_⊎_}
 use lib.ListN.{length, drop}
 use Rattle.record.specs.Layout.{Contents, fileOf, Fits, Below}
-use Rattle.record.specs.Reader.{isPF, isEV, isDYof, firstIn, daysIn, eventsIn, shapeIn, readFile, contentsIn, shapeOf}
+use Rattle.record.specs.Reader.{isPF, isEV, evLength, isDYof, fileBase, shapeBase, firstIn, daysIn, dayStart, eventStart, eventsIn}
+use Rattle.record.specs.Reader.{shapeIn, readFile, contentsIn, shapeOf}
 use Rattle.record.specs.declared.Shape.{Shape}
 use Rattle.record.specs.declared.Read.the-variants.{File, Refused}
 
@@ -16,17 +17,17 @@ pub record Accepted (file : List ℕ) (shape : Shape) : Type 0 where
   pub opens : isPF file ≡ true
   pub days : shape .days ≤ 128
   pub events : shape .events ≤ 64
-  pub whole : 8 + 390 * shape .days + 8 * shape .events ≡ length file
+  pub whole : dayStart (shapeBase shape) (shape .first) (shape .days) + evLength * shape .events ≡ length file
 
 -- a file refused after its PF: every record before the place is as laid down, there is more, and it is neither the next DY nor an EV, unless one
 -- too many
 pub record StopsAt (file : List ℕ) (at : ℕ) : Type 0 where
   pub opens : isPF file ≡ true
-  pub place : at ≡ 8 + 390 * daysIn file + 8 * eventsIn file
+  pub place : at ≡ eventStart file (eventsIn file)
   pub days : daysIn file ≤ 128
-  pub each-day : (k : ℕ) → k < daysIn file → isDYof (firstIn file + k) (drop (8 + 390 * k) file) ≡ true
+  pub each-day : (k : ℕ) → k < daysIn file → isDYof (firstIn file + k) (drop (dayStart (fileBase file) (firstIn file) k) file) ≡ true
   pub events : eventsIn file ≤ 64
-  pub each-event : (i : ℕ) → i < eventsIn file → isEV (drop (8 + 390 * daysIn file + 8 * i) file) ≡ true
+  pub each-event : (i : ℕ) → i < eventsIn file → isEV (drop (eventStart file i) file) ≡ true
   pub something : at < length file
   pub no-day : daysIn file < 128 → eventsIn file ≡ 0 → isDYof (firstIn file + daysIn file) (drop at file) ≡ false
   pub no-event : eventsIn file < 64 → isEV (drop at file) ≡ false

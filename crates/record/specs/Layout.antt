@@ -67,7 +67,7 @@ Below bound l = (i : ℕ) → getD l i 0 < bound
 unfoldable pub fitsEvent : Event → Bool
 fitsEvent v = ltb (v .day) (256 ^ 2) && ltb (v .s) 256 && ltb (v .e) 256 && ltb (v .n) 256
 
--- what the bytes of a file can hold: at most 128 days and 64 events, 96 readings a day; no days with F other than 0 has no file
+-- what the bytes of a file can hold: at most 128 days and 64 events, each day's readings; no days with F other than 0 has no file
 pub record Fits (c : Contents) : Type 0 where
   pub participation : c .participation < 256 ^ 2
   pub portfolio : c .portfolio < 256 ^ 4

@@ -6,7 +6,7 @@ use mathlib.Core.List.{List, [], _∷_, _++_}
 use lib.ListN.{length, getD, drop}
 use lib.Dec.{leb, ltb, eqb}
 use Rattle.method.specs.declared.Request.{Request}
-use Rattle.method.specs.Table.{Table, heldDays, size, offset}
+use Rattle.method.specs.Table.{Table, heldDays, size}
 use Rattle.record.specs.Layout.{Event, Contents}
 use Rattle.lists.specs.Ascii.{ascii}
 use Rattle.record.specs.declared.Shape.{Shape}
@@ -29,12 +29,18 @@ unfoldable pub isRecord : ℕ → List ℕ → ℕ → List ℕ → Bool
 isRecord size mark zeroByte left = leb size (length left) && opensWith mark left && eqb (getD left zeroByte 0) 0
 
 -- "One PF (8 bytes: mark, P as 2 bytes, portfolio number as 4)"
-unfoldable pub isPF : List ℕ → Bool
-isPF left = leb 8 (length left) && opensWith (ascii "PF") left
+abbrev pub pfLength : ℕ
+pfLength = 8
 
--- "DY (390 bytes: mark, day 2, mark byte 1, zero 1, 96 readings of 4)"
+unfoldable pub isPF : List ℕ → Bool
+isPF left = leb pfLength (length left) && opensWith (ascii "PF") left
+
+-- "DY (390 bytes: mark, day 2, mark byte 1, zero 1, 96 readings of 4)", with so many readings
+abbrev pub dyBytes : ℕ → ℕ
+dyBytes readings = 6 + 4 * readings
+
 abbrev pub dyLength : ℕ → ℕ
-dyLength day = 6 + 4 * size day
+dyLength day = dyBytes (size day)
 
 abbrev pub dyDay : List ℕ → ℕ
 dyDay left = numberAt 2 2 left
@@ -43,8 +49,11 @@ unfoldable pub isDY : List ℕ → Bool
 isDY left = isRecord (dyLength (dyDay left)) (ascii "DY") 5 left
 
 -- "EV (8 bytes: mark, D 2, s, e, n one each, zero 1)"
+abbrev pub evLength : ℕ
+evLength = 8
+
 unfoldable pub isEV : List ℕ → Bool
-isEV left = isRecord 8 (ascii "EV") 7 left
+isEV left = isRecord evLength (ascii "EV") 7 left
 
 -- how many records stand one after the other, at most so many: `good i` tests the one numbered `i`, of `recordLength i` bytes
 module _ (good : ℕ → List ℕ → Bool) (recordLength : ℕ → ℕ) where
@@ -61,22 +70,35 @@ daysFrom first left = run isDYof dyLength 128 first left
 
 -- "then up to 64 EV"
 unfoldable pub eventsFrom : List ℕ → ℕ
-eventsFrom left = run (λ i. isEV) (λ i. 8) 64 0 left
+eventsFrom left = run (λ i. isEV) (λ i. evLength) 64 0 left
+
+-- where the DY start: "One PF ..; then up to 128 DY"
+unfoldable pub fileBase : List ℕ → ℕ
+fileBase file = pfLength
+
+-- the same for a shape that is known
+unfoldable pub shapeBase : Shape → ℕ
+shapeBase shape = pfLength
+
+-- the most that it is
+abbrev pub mostBase : ℕ
+mostBase = pfLength
 
 -- the first day; "No DY ..: F counts as 0"
 unfoldable pub firstIn : List ℕ → ℕ
-firstIn file = cond (isDY (drop 8 file)) (dyDay (drop 8 file)) 0
+firstIn file = cond (isDY (drop (fileBase file) file)) (dyDay (drop (fileBase file) file)) 0
 
 unfoldable pub daysIn : List ℕ → ℕ
-daysIn file = daysFrom (firstIn file) (drop 8 file)
+daysIn file = daysFrom (firstIn file) (drop (fileBase file) file)
 
--- where the k-th DY starts, counted from 0, in a file whose first day is `first`
-unfoldable pub dayStart : ℕ → ℕ → ℕ
-dayStart first k = 8 + 6 * k + 4 * offset first k
+-- where the k-th DY starts, counted from 0, the first day being `first` and its DY starting at `base`: each where the one before it ends
+unfoldable pub dayStart : ℕ → ℕ → ℕ → ℕ
+dayStart base first zero = base
+dayStart base first (suc k) = dayStart base first k + dyLength (first + k)
 
 -- where the i-th EV starts
 unfoldable pub eventStart : List ℕ → ℕ → ℕ
-eventStart file i = dayStart (firstIn file) (daysIn file) + 8 * i
+eventStart file i = dayStart (fileBase file) (firstIn file) (daysIn file) + evLength * i
 
 unfoldable pub eventsIn : List ℕ → ℕ
 eventsIn file = eventsFrom (drop (eventStart file 0) file)
@@ -120,8 +142,8 @@ unfoldable pub tableIn : List ℕ → Table
 tableIn file =
     record {
       first = firstIn file;
-      marks = marksFrom (daysIn file) (firstIn file) (drop 8 file);
-      readings = readingsFrom (daysIn file) (firstIn file) (drop 8 file);
+      marks = marksFrom (daysIn file) (firstIn file) (drop (fileBase file) file);
+      readings = readingsFrom (daysIn file) (firstIn file) (drop (fileBase file) file);
     }
 
 -- the same for a shape that is known, whatever the bytes
@@ -129,8 +151,8 @@ unfoldable pub tableWithin : Shape → List ℕ → Table
 tableWithin shape file =
     record {
       first = shape .first;
-      marks = marksFrom (shape .days) (shape .first) (drop 8 file);
-      readings = readingsFrom (shape .days) (shape .first) (drop 8 file);
+      marks = marksFrom (shape .days) (shape .first) (drop (shapeBase shape) file);
+      readings = readingsFrom (shape .days) (shape .first) (drop (shapeBase shape) file);
     }
 
 -- "mark, D 2, s, e, n one each"
@@ -139,7 +161,7 @@ eventOf left = record { day = numberAt 2 2 left; s = getD left 4 0; e = getD lef
 
 unfoldable pub eventList : ℕ → List ℕ → List Event
 eventList zero left = []
-eventList (suc count) left = eventOf left ∷ eventList count (drop 8 left)
+eventList (suc count) left = eventOf left ∷ eventList count (drop evLength left)
 
 unfoldable pub contentsIn : List ℕ → Contents
 contentsIn file =
@@ -177,5 +199,5 @@ eventAtPlace (Refused at) file place = RefusedEvent at
 -- the same for a shape that is known: no event, too, where the bytes end before it does
 unfoldable pub eventWithin : Shape → List ℕ → ℕ → EventAt
 eventWithin shape file place =
-    let at = dayStart (shape .first) (shape .days) + 8 * place in
-    cond (ltb place (shape .events) && leb (at + 8) (length file)) (AnEvent (requestOf (shape .participation) (eventOf (drop at file)))) NoEvent
+    let at = dayStart (shapeBase shape) (shape .first) (shape .days) + evLength * place in
+    cond (ltb place (shape .events) && leb (at + evLength) (length file)) (AnEvent (requestOf (shape .participation) (eventOf (drop at file)))) NoEvent

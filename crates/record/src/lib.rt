@@ -2,9 +2,10 @@
 ghost use mathlib.Core.Path.{_≡_};
 ghost use Prim.Native.Nat.{_+_, _*_, _≤_, _<_};
 ghost use lib.ListN.{length, drop, getD};
-ghost use Rattle.record.specs.Reader.{numberAt, opensWith, isRecord, isDY, isEV, isDYof, daysFrom, eventsFrom, firstIn, readFile, eventOf, requestOf, eventAtPlace, eventWithin};
-use fields::DAY_RECORD;
-use fields::SHORT_RECORD;
+ghost use Rattle.method.specs.Table.{offset};
+ghost use Rattle.record.specs.Reader.{numberAt, opensWith, isRecord, pfLength, dyLength, isEV, evLength, isDYof, daysFrom, eventsFrom, fileBase, shapeBase, firstIn};
+ghost use Rattle.record.specs.Reader.{dayStart, readFile, eventOf, requestOf, eventAtPlace, eventWithin};
+use method::QUARTERS;
 use method::Request;
 
 // What a whole file holds: P, the portfolio number, the first day, and how many days and events.
@@ -29,9 +30,44 @@ pub enum EventAt {
     Refused(u32),
 }
 
+// The bytes of a PF, of an EV, and of a DY before its readings.
+const PF_LENGTH: usize = 8;
+
+const EV_LENGTH: usize = 8;
+
+pub const BEFORE_READINGS: usize = 6;
+
 const MOST_DAYS: u32 = 128;
 
 const MOST_EVENTS: u32 = 64;
+
+// How many readings stand before the k-th day of a table that starts at `first`.
+pub fn offset(first: u32, k: u32) -> usize
+    ensures { λ r. ⌜ r ≡ offset first k ⌝ }
+{
+    QUARTERS * (k as usize)
+}
+
+// The bytes of the DY of a day.
+fn day_length(day: u32) -> usize
+    ensures { λ r. ⌜ r ≡ dyLength day ⌝ }
+{
+    BEFORE_READINGS + 4 * QUARTERS
+}
+
+// Where the k-th DY starts, counted from 0, the first standing at `base`; after the last DY, where the first EV does.
+pub fn day_start(base: u32, first: u32, k: u32) -> usize
+    ensures { λ r. ⌜ r ≡ dayStart base first k ⌝ }
+{
+    (base as usize) + BEFORE_READINGS * (k as usize) + 4 * offset(first, k)
+}
+
+// Where the DY of a file of this shape start.
+pub fn base(shape: Shape) -> u32
+    ensures { λ r. ⌜ r ≡ shapeBase shape ⌝ }
+{
+    PF_LENGTH as u32
+}
 
 // The byte at a place, as a number.
 fn byte(file: &[u8], at: usize) -> u32
@@ -80,20 +116,12 @@ fn is_record(file: &[u8], at: usize, size: usize, mark: &[u8; 2], blank: usize) 
     }
 }
 
-// Whether a DY as laid down stands at a place, of whatever day.
-fn is_day(file: &[u8], at: usize) -> bool
-    requires { ⌜ at ≤ length (now file) ⌝ }
-    ensures { λ r. ⌜ r ≡ isDY (drop at (now (file .entry))) ⌝ }
-{
-    is_record(file, at, DAY_RECORD, b"DY", 5)
-}
-
 // Whether an EV as laid down stands at a place.
 fn is_event(file: &[u8], at: usize) -> bool
     requires { ⌜ at ≤ length (now file) ⌝ }
     ensures { λ r. ⌜ r ≡ isEV (drop at (now (file .entry))) ⌝ }
 {
-    is_record(file, at, SHORT_RECORD, b"EV", 7)
+    is_record(file, at, EV_LENGTH, b"EV", 7)
 }
 
 // Whether a DY of this day stands at a place.
@@ -101,33 +129,42 @@ fn is_day_of(file: &[u8], at: usize, day: u32) -> bool
     requires { ⌜ at ≤ length (now file) ⌝ }
     ensures { λ r. ⌜ r ≡ isDYof day (drop at (now (file .entry))) ⌝ }
 {
-    if is_day(file, at) {
+    if is_record(file, at, day_length(day), b"DY", 5) {
         number2(file, at + 2) == day
     } else {
         false
     }
 }
 
+// Where the DY of a file start.
+fn file_base(file: &[u8]) -> u32
+    requires { ⌜ pfLength ≤ length (now file) ⌝ }
+    ensures { λ r. ⌜ (r ≡ fileBase (now (file .entry))) × (r ≤ length (now (file .entry))) ⌝ }
+{
+    PF_LENGTH as u32
+}
+
 // The first day, 0 where there is no DY.
-fn first_in(file: &[u8]) -> u32
-    requires { ⌜ 8 ≤ length (now file) ⌝ }
+fn first_in(file: &[u8], base: u32) -> u32
+    requires { ⌜ (base ≡ fileBase (now file)) × (base ≤ length (now file)) ⌝ }
     ensures { λ r. ⌜ (r ≡ firstIn (now (file .entry))) × (r < 65536) ⌝ }
 {
-    if is_day(file, SHORT_RECORD) {
-        number2(file, SHORT_RECORD + 2)
-    } else {
-        0
+    let at = base as usize;
+    if file.len() - at < BEFORE_READINGS {
+        return 0;
     }
+    let day = number2(file, at + 2);
+    if is_day_of(file, at, day) { day } else { 0 }
 }
 
 // How many DY stand one after the other, of consecutive days.
-fn count_days(file: &[u8], first: u32) -> u32
-    requires { ⌜ (8 ≤ length (now file)) × (first < 65536) ⌝ }
-    ensures { λ r. ⌜ (r ≡ daysFrom first (drop 8 (now (file .entry)))) × (r ≤ 128) × (8 + 390 * r ≤ length (now (file .entry))) ⌝ }
+fn count_days(file: &[u8], base: u32, first: u32) -> u32
+    requires { ⌜ (base ≤ length (now file)) × (first < 65536) ⌝ }
+    ensures { λ r. ⌜ (r ≡ daysFrom first (drop base (now (file .entry)))) × (r ≤ 128) × (dayStart base first r ≤ length (now (file .entry))) ⌝ }
 {
     let mut days: u32 = 0;
     while days < MOST_DAYS {
-        if is_day_of(file, fields::day_start(days), first + days) {
+        if is_day_of(file, day_start(base, first, days), first + days) {
             days += 1;
         } else {
             return days;
@@ -139,11 +176,11 @@ fn count_days(file: &[u8], first: u32) -> u32
 // How many EV stand one after the other from a place on.
 fn count_events(file: &[u8], start: usize) -> u32
     requires { ⌜ start ≤ length (now file) ⌝ }
-    ensures { λ r. ⌜ (r ≡ eventsFrom (drop start (now (file .entry)))) × (r ≤ 64) × (start + 8 * r ≤ length (now (file .entry))) ⌝ }
+    ensures { λ r. ⌜ (r ≡ eventsFrom (drop start (now (file .entry)))) × (r ≤ 64) × (start + evLength * r ≤ length (now (file .entry))) ⌝ }
 {
     let mut events: u32 = 0;
     while events < MOST_EVENTS {
-        if is_event(file, start + SHORT_RECORD * (events as usize)) {
+        if is_event(file, start + EV_LENGTH * (events as usize)) {
             events += 1;
         } else {
             return events;
@@ -156,15 +193,16 @@ fn count_events(file: &[u8], start: usize) -> u32
 pub fn read_file(file: &[u8]) -> Read
     ensures { λ r. ⌜ r ≡ readFile (now (file .entry)) ⌝ }
 {
-    if file.len() < SHORT_RECORD {
+    if file.len() < PF_LENGTH {
         return Read::Refused(0);
     }
     if opens(file, 0, b"PF") {
-        let first = first_in(file);
-        let days = count_days(file, first);
-        let start = fields::day_start(days);
+        let base = file_base(file);
+        let first = first_in(file, base);
+        let days = count_days(file, base, first);
+        let start = day_start(base, first, days);
         let events = count_events(file, start);
-        let end = start + SHORT_RECORD * (events as usize);
+        let end = start + EV_LENGTH * (events as usize);
         if end == file.len() {
             Read::File(Shape {
                 participation: number2(file, 2),
@@ -184,7 +222,7 @@ pub fn read_file(file: &[u8]) -> Read
 
 // The request that an EV makes.
 fn request_of(file: &[u8], at: usize, participation: u32) -> Request
-    requires { ⌜ at + 8 ≤ length (now file) ⌝ }
+    requires { ⌜ at + evLength ≤ length (now file) ⌝ }
     ensures { λ r. ⌜ r ≡ requestOf participation (eventOf (drop at (now (file .entry)))) ⌝ }
 {
     Request {
@@ -201,8 +239,8 @@ pub fn event_within(file: &[u8], shape: Shape, place: usize) -> EventAt
     ensures { λ r. ⌜ r ≡ eventWithin shape (now (file .entry)) place ⌝ }
 {
     if place < shape.events as usize {
-        let at = fields::day_start(shape.days) + SHORT_RECORD * place;
-        if at + SHORT_RECORD <= file.len() {
+        let at = day_start(base(shape), shape.first, shape.days) + EV_LENGTH * place;
+        if at + EV_LENGTH <= file.len() {
             return EventAt::Event(request_of(file, at, shape.participation));
         }
     }

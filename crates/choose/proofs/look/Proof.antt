@@ -6,30 +6,26 @@ use borrow.Author.Needs.{needs}
 use lib.ListN.{getD}
 use Rattle.calendar.specs.Holidays.{group as groupOf}
 use Rattle.judging.specs.Judging.{room}
-use Rattle.choose.specs.Look.{roomsOf}
+use Rattle.choose.specs.Steps.{roomsOf}
 use Rattle.choose.proofs.Judging.{room-back, part-most}
 use Rattle.choose.proofs.Looking.{Back, back-start, back-further, back-more, back-full, back-end}
 use Rattle.choose.proofs.look.Statement.{statement}
 use Rattle.choose.proofs.look.Tie as tie
 
 abbrev Inv-loop : tie.InvT-loop
-Inv-loop request group readings before rooms wanted found₀ back₀ found back =
-    Back groupOf request (roomsOf request rooms readings) wanted before back found
+Inv-loop request group rules readings before rooms spares found₀ back₀ found back =
+    Back groupOf request (roomsOf request rooms readings) (rules .most) (rules .spares) before back found
 
 abbrev μ-loop : tie.MeasureT-loop
-μ-loop request group readings before rooms wanted found₀ back₀ found back = before - back
-
-most-requires : tie.Need-most-requires Inv-loop μ-loop
-most-requires c κs = search needs
+μ-loop request group rules readings before rooms spares found₀ back₀ found back = before - back
 
 loop-holds : tie.Need-loop-holds Inv-loop μ-loop
 loop-holds c =
-    let a = c .before .before .args in
-    back-start groupOf (a .request) (roomsOf (a .request) (a .t3) (a .readings .now)) (c .most .result) (a .before)
+    let a = c .before .args in
+    back-start groupOf (a .request) (roomsOf (a .request) (a .t4) (a .readings .now)) (a .rules .most) (a .rules .spares) (a .before)
 
 returns : tie.Need-returns Inv-loop μ-loop
-returns c =
-    rw (c .before .before .before .before .most .ensures) at (back-full (c .before .before .before .loop .inv) (c .before .before .before .before .before .before .pre .1) (c .if1 .taken))
+returns c = back-full (c .before .before .before .before .loop .inv) (c .before .before .before .before .before .before .pre .1) (c .if1 .taken)
 
 add-back : tie.Need-add-back Inv-loop μ-loop
 add-back c = omega arith
@@ -58,11 +54,11 @@ element-copy-out-with-day c = omega arith
 with-day-requires : tie.Need-with-day-requires Inv-loop μ-loop
 with-day-requires c κs =
     let s = c .before .before .before .before .before .before .before .before .before .before .before in
-    let l = c .before .before .before .before .before .before .before .before .loop in (
+    let l = c .before .before .before .before .before .before .before .before .before .loop in (
       s .pre .0,
-      back-further (l .inv) (c .before .before .before .before .before .before .before .loop-test .taken) (s .pre .1) (s .pre .2),
+      back-further (l .inv) (c .before .before .before .before .before .before .before .before .loop-test .taken) (s .pre .1) (s .pre .2),
       rw (c .before .readings-at .ensures .list)
-          (part-most (s .args .readings .now) (getD (s .args .t3 .at) (l .back + 1) 0) (s .args .request .event - (l .back + 1)) (c .before .before .before .size .ensures)),
+          (part-most (s .args .readings .now) (getD (s .args .t4 .at) (l .back + 1) 0) (s .args .request .event - (l .back + 1)) (c .before .before .before .size .ensures)),
     )
 
 loop-less : tie.Need-loop-less Inv-loop μ-loop
@@ -72,14 +68,13 @@ loop-again : tie.Need-loop-again Inv-loop μ-loop
 loop-again c =
     let s = c .before .before .before .before .before .before .before .before .before .before .before .before in
     let a = s .args in
-    let l = c .before .before .before .before .before .before .before .before .before .loop in
-    let part = ap (room (getD (a .t3 .marks) (l .back + 1) 0)) (rw (c .before .before .before .before .size .ensures) at (c .before .before .readings-at .ensures .list)) in
-    let here = room-back (a .request) (a .t3) (a .readings .now) (l .back + 1) (omega arith) in
-    back-more (l .inv) (c .before .before .before .before .before .before .before .before .loop-test .taken) (s .pre .2) (c .before .before .before .before .before .before .if1 .left) (rw (part ∙ here) at (c .with-day .ensures))
+    let l = c .before .before .before .before .before .before .before .before .before .before .loop in
+    let part = ap (room (getD (a .t4 .marks) (l .back + 1) 0)) (rw (c .before .before .before .before .size .ensures) at (c .before .before .readings-at .ensures .list)) in
+    let here = room-back (a .request) (a .t4) (a .readings .now) (l .back + 1) (omega (arith, c .before .before .before .before .before .before .before .before .before .loop-test .taken, s .pre .2)) in
+    back-more (l .inv) (c .before .before .before .before .before .before .before .before .before .loop-test .taken) (s .pre .2) (c .before .before .before .before .before .before .if1 .left) (rw (part ∙ here) at (c .with-day .ensures))
 
 returns-2 : tie.Need-returns-2 Inv-loop μ-loop
-returns-2 c =
-    rw (c .before .before .most .ensures) at (back-end (c .before .loop .inv) (c .before .before .before .before .pre .1) (c .loop-test .left))
+returns-2 c = back-end (c .before .loop .inv) (c .before .before .before .pre .1) (c .loop-test .left)
 
 pub look-spec : {M : Type 1} → statement M
 look-spec =
@@ -87,7 +82,6 @@ look-spec =
     (tie.spec
     Inv-loop
     μ-loop
-    most-requires
     loop-holds
     returns
     add-back

@@ -27,17 +27,17 @@ enum-known-word c = search needs
 insert-requires : tie.Need-insert-requires
 insert-requires c κs = search needs
 
-add-t17 : tie.Need-add-t17
-add-t17 c = search needs
+add-t18 : tie.Need-add-t18
+add-t18 c = search needs
 
 enum-known-word-2 : tie.Need-enum-known-word-2
 enum-known-word-2 c = search needs
 
-insert-requires-2 : tie.Need-insert-requires-2
-insert-requires-2 c κs = search needs
+with-spare-requires : tie.Need-with-spare-requires
+with-spare-requires c κs = search needs
 
-add-t19 : tie.Need-add-t19
-add-t19 c = search needs
+add-t20 : tie.Need-add-t20
+add-t20 c = search needs
 
 enum-told : tie.Need-enum-told
 enum-told c = search needs
@@ -62,7 +62,7 @@ returns-2 c =
     let sure = sym own ∙ sym (c .before .before .before .before .before .before .before .before .before .relevant .ensures) ∙ c .before .before .before .before .before .before .before .before .if1 .taken in
     let next = s .pre .1 in
     let same = same-judged (a .request) (a .back) (a .mark) (a .part .now) (next .some) (next .most) (next .within) (s .pre .2) (λ i. omega (arith, c .before .before .before .before .before .before .before .before .before .before .before .shared-slice-known .given i)) in
-    adds-spare groupOf p next refl sure (sym same ∙ sym (c .before .before .before .before .before .judge .ensures) ∙ c .before .before .before .word2 .given .1) (c .before .insert2 .ensures)
+    adds-spare groupOf p next refl sure (sym same ∙ sym (c .before .before .before .before .before .judge .ensures) ∙ c .before .before .before .word2 .given .1) (c .before .with-spare .ensures)
 
 returns-3 : tie.Need-returns-3
 returns-3 c =
@@ -92,10 +92,10 @@ with-day-spec =
     judge-requires
     enum-known-word
     insert-requires
-    add-t17
+    add-t18
     enum-known-word-2
-    insert-requires-2
-    add-t19
+    with-spare-requires
+    add-t20
     enum-told
     returns
     returns-2

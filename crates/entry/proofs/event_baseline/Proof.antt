@@ -1,11 +1,12 @@
 -- `entry::event_baseline` meets its contract: a file has at most 128 days.
-use Rattle.entry.proofs.Files.{fits-any}
+use native.Mathlib.Omega.{arith}
+use Rattle.entry.proofs.Files.{fits-in, fits-any}
 use borrow.Author.Needs.{needs}
 use Rattle.entry.proofs.event_baseline.Statement.{statement}
 use Rattle.entry.proofs.event_baseline.Tie as tie
 
 in-32-days-requires : tie.Need-in-32-days-requires
-in-32-days-requires c κs = search needs
+in-32-days-requires c κs = fits-in (c .before .before .before .before .before .pre) 32 (omega arith)
 
 same-length : tie.Need-same-length
 same-length c = search needs
@@ -14,7 +15,7 @@ returns : tie.Need-returns
 returns c = search needs
 
 in-64-days-requires : tie.Need-in-64-days-requires
-in-64-days-requires c κs = search needs
+in-64-days-requires c κs = fits-in (c .before .before .before .before .before .before .before .pre) 64 (omega arith)
 
 same-length-2 : tie.Need-same-length-2
 same-length-2 c = search needs

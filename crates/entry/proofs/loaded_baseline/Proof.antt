@@ -7,14 +7,14 @@ use Rattle.entry.proofs.loaded_baseline.Statement.{statement}
 use Rattle.entry.proofs.loaded_baseline.Tie as tie
 
 -- where the file is loaded, the buffers hold its table
-its : (c : tie.After-struct-known) →
-    (let a = c .before .before .before .before .before .before .before .before .before .before .before .before .before .args in
-    let l = c .before .before .before .before .before .before .load-within in
-    WithinBuffers (a .shape) (a .file .now) (l .last .1 .1 .0) (l .last .1 .1 .1 .0))
+its : (c : tie.After-offset) →
+    (let a = c .before .before .before .before .before .before .before .before .before .before .before .before .before .before .args in
+    let l = c .before .before .before .before .before .before .before .load-within in
+    WithinBuffers (a .shape) (a .file .now) (c .offset .result) (l .last .1 .1 .0) (l .last .1 .1 .1 .0))
 its c =
-    let a = c .before .before .before .before .before .before .before .before .before .before .before .before .before .args in
-    let l = c .before .before .before .before .before .before .load-within .ensures in
-    within-buffers (a .shape) (a .file .now) _ _ (l .1 .0) (l .1 .1) (c .before .if1 .taken)
+    let a = c .before .before .before .before .before .before .before .before .before .before .before .before .before .before .args in
+    let l = c .before .before .before .before .before .before .before .load-within .ensures in
+    within-buffers (a .shape) (a .file .now) _ _ (l .1 .0) (l .1 .1) (c .before .before .if1 .taken) (c .offset .ensures)
 
 load-within-requires : tie.Need-load-within-requires
 load-within-requires c κs = search needs
@@ -22,8 +22,8 @@ load-within-requires c κs = search needs
 cast-days : tie.Need-cast-days
 cast-days c = search needs
 
-mul-count : tie.Need-mul-count
-mul-count c = search needs
+offset-requires : tie.Need-offset-requires
+offset-requires c κs = search needs
 
 slice-reshare-prefix-table-baseline : tie.Need-slice-reshare-prefix-table-baseline
 slice-reshare-prefix-table-baseline c = search needs
@@ -53,7 +53,7 @@ same-length-3 : tie.Need-same-length-3
 same-length-3 c = search needs
 
 returns : tie.Need-returns
-returns c = rw (its-table (c .before .before .before .before .before .before .before .before .before .before .before .before .before .before .before .before .before .before .before .pre .laid-down) (its (c .before .before .before .before .before .before))) at (c .before .before .table-baseline .ensures)
+returns c = rw (its-table (c .before .before .before .before .before .before .before .before .before .before .before .before .before .before .before .before .before .before .before .before .pre .laid-down) (its (c .before .before .before .before .before .before))) at (c .before .before .table-baseline .ensures)
 
 same-length-4 : tie.Need-same-length-4
 same-length-4 c = search needs
@@ -70,7 +70,7 @@ loaded-baseline-spec =
     (tie.spec
     load-within-requires
     cast-days
-    mul-count
+    offset-requires
     slice-reshare-prefix-table-baseline
     slice-aggregate-table-baseline
     slice-reshare-prefix-table-baseline-2

@@ -1,7 +1,10 @@
 -- `listing::put_file` meets its contract: the buffers hold the file's table, and the first line and the events are the listing.
+use Prim.Native.Nat.{_*_}
 use mathlib.Core.Path.{sym, _∙_}
 use native.Mathlib.Omega.{arith}
 use borrow.Author.Needs.{needs}
+use Rattle.method.specs.Table.{mostQuarters}
+use Rattle.record.proofs.Starts.{offset-most}
 use Rattle.record.proofs.Files.{shape-fits}
 use Rattle.loading.proofs.Loading.{fits-own}
 use Rattle.loading.proofs.Buffers.{WithinBuffers, within-buffers}
@@ -11,16 +14,16 @@ use Rattle.listing.proofs.put_file.Statement.{statement}
 use Rattle.listing.proofs.put_file.Tie as tie
 
 -- the buffers hold the file's table
-its : (c : tie.After-struct-known) →
-    (let a = c .before .before .before .before .before .before .before .before .args in
-    let l = c .before .before .before .load-within in
-    WithinBuffers (a .shape) (a .file .now) (l .last .1 .1 .0) (l .last .1 .1 .1 .0))
+its : (c : tie.After-offset) →
+    (let a = c .before .before .before .before .before .before .before .before .before .args in
+    let l = c .before .before .before .before .load-within in
+    WithinBuffers (a .shape) (a .file .now) (c .offset .result) (l .last .1 .1 .0) (l .last .1 .1 .1 .0))
 its c =
-    let s = c .before .before .before .before .before .before .before .before in
-    let l = c .before .before .before .load-within .ensures in
+    let s = c .before .before .before .before .before .before .before .before .before in
+    let l = c .before .before .before .before .load-within .ensures in
     let few = shape-fits (s .args .file .now) (s .args .shape) (s .pre .0) .days in
-    let fits = fits-own (s .args .file .now) (s .pre .0) 128 12288 few (omega arith) in
-    within-buffers (s .args .shape) (s .args .file .now) _ _ (l .1 .0) (l .1 .1) (l .0 ∙ fits)
+    let fits = fits-own (s .args .file .now) (s .pre .0) 128 (mostQuarters * 128) few (offset-most (s .args .shape .first) (s .args .shape .days) 128 few) in
+    within-buffers (s .args .shape) (s .args .file .now) _ _ (l .1 .0) (l .1 .1) (l .0 ∙ fits) (c .offset .ensures)
 
 slice-aggregate-load-within : tie.Need-slice-aggregate-load-within
 slice-aggregate-load-within c = search needs
@@ -34,27 +37,30 @@ load-within-requires c κs = search needs
 cast-days : tie.Need-cast-days
 cast-days c = search needs
 
-mul-count : tie.Need-mul-count
-mul-count c = search needs
+offset-requires : tie.Need-offset-requires
+offset-requires c κs = search needs
 
 opening-requires : tie.Need-opening-requires
 opening-requires c κs = search needs
 
 array-share-prefix-marks : tie.Need-array-share-prefix-marks
-array-share-prefix-marks c = let s = c .before .before .before .before .before .before .before .before .before .before .before .before in omega (arith, shape-fits (s .args .file .now) (s .args .shape) (s .pre .0) .days)
+array-share-prefix-marks c = let s = c .before .before .before .before .before .before .before .before .before .before .before .before .before in omega (arith, shape-fits (s .args .file .now) (s .args .shape) (s .pre .0) .days)
 
 slice-aggregate-put-events : tie.Need-slice-aggregate-put-events
 slice-aggregate-put-events c = sym (its (c .before .before .before .before .before) .marks-size)
 
 array-share-prefix-readings : tie.Need-array-share-prefix-readings
-array-share-prefix-readings c = let s = c .before .before .before .before .before .before .before .before .before .before .before .before .before in omega (arith, shape-fits (s .args .file .now) (s .args .shape) (s .pre .0) .days)
+array-share-prefix-readings c =
+    let s = c .before .before .before .before .before .before .before .before .before .before .before .before .before .before in
+    let few = shape-fits (s .args .file .now) (s .args .shape) (s .pre .0) .days in
+    omega (arith, offset-most (s .args .shape .first) (s .args .shape .days) 128 few)
 
 slice-aggregate-put-events-2 : tie.Need-slice-aggregate-put-events-2
 slice-aggregate-put-events-2 c = sym (its (c .before .before .before .before .before .before) .readings-size)
 
 put-events-requires : tie.Need-put-events-requires
 put-events-requires c κs =
-    let s = c .before .before .before .before .before .before .before .before .before .before .before .before .before .before .before in
+    let s = c .before .before .before .before .before .before .before .before .before .before .before .before .before .before .before .before in
     let opening = c .before .before .before .before .before .opening in
     (holds (s .pre .0) (its (c .before .before .before .before .before .before .before)), omega (arith, opening .ensures .most, shape-fits (s .args .file .now) (s .args .shape) (s .pre .0) .events))
 
@@ -63,7 +69,7 @@ same-length c = search needs
 
 returns : tie.Need-returns
 returns c =
-    let s = c .before .before .before .before .before .before .before .before .before .before .before .before .before .before .before .before .before .before in
+    let s = c .before .before .before .before .before .before .before .before .before .before .before .before .before .before .before .before .before .before .before in
     let opening = c .before .before .before .before .before .before .before .before .opening in
     let events = c .before .before .put-events .ensures in
     let fits = shape-fits (s .args .file .now) (s .args .shape) (s .pre .0) in
@@ -77,7 +83,7 @@ put-file-spec =
     slice-aggregate-load-within-2
     load-within-requires
     cast-days
-    mul-count
+    offset-requires
     opening-requires
     array-share-prefix-marks
     slice-aggregate-put-events

@@ -4,14 +4,20 @@ use borrow.Author.Needs.{needs}
 use Rattle.loading.proofs.has_room.Statement.{statement}
 use Rattle.loading.proofs.has_room.Tie as tie
 
+base-requires : tie.Need-base-requires
+base-requires c κs = search needs
+
 day-start-requires : tie.Need-day-start-requires
 day-start-requires c κs = search needs
 
-mul-result : tie.Need-mul-result
-mul-result c = search needs
+offset-requires : tie.Need-offset-requires
+offset-requires c κs = search needs
+
+cast-result : tie.Need-cast-result
+cast-result c = search needs
 
 returns : tie.Need-returns
-returns c = rw (c .day-start .ensures) refl
+returns c = rw (c .before .before .day-start .ensures, c .before .before .before .base .ensures, c .before .offset .ensures) refl
 
 pub has-room-spec : {M : Type 1} → statement M
-has-room-spec = tie.close (tie.spec day-start-requires mul-result returns)
+has-room-spec = tie.close (tie.spec base-requires day-start-requires offset-requires cast-result returns)

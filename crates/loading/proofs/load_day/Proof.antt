@@ -1,9 +1,9 @@
 -- `loading::load_day` meets its contract. The loop's invariant: the readings written and those left to write are the whole (`Filling`).
 use Prim.Native.Nat.{_+_, _*_, _-_, _≤_}
 use native.Mathlib.Omega.{arith}
-use native.Mathlib.Nat.{add-zero}
+use native.Mathlib.Nat.{sub-zero, add-zero}
 use borrow.Author.Needs.{needs}
-use lib.ListN.{drop}
+use lib.ListN.{length, drop}
 use Rattle.filling.proofs.Filling.{Filling, filling-none}
 use Rattle.record.specs.Reader.{numbers}
 use Rattle.loading.proofs.Loading.{reading-put, day-loaded}
@@ -11,13 +11,13 @@ use Rattle.loading.proofs.load_day.Statement.{statement}
 use Rattle.loading.proofs.load_day.Tie as tie
 
 abbrev Inv-loop : tie.InvT-loop
-Inv-loop file at readings₀ q₀ readings q = (q ≤ 96) × Filling readings₀ (numbers 96 (drop at file)) readings (numbers (96 - q) (drop (at + 4 * q) file)) q
+Inv-loop file at readings₀ count q₀ readings q = (q ≤ length readings₀) × Filling readings₀ (numbers (length readings₀) (drop at file)) readings (numbers (length readings₀ - q) (drop (at + 4 * q) file)) q
 
 abbrev μ-loop : tie.MeasureT-loop
-μ-loop file at readings₀ q₀ readings q = 96 - q
+μ-loop file at readings₀ count q₀ readings q = length readings₀ - q
 
 loop-holds : tie.Need-loop-holds Inv-loop μ-loop
-loop-holds c = (omega arith, rw (add-zero) (filling-none _ _))
+loop-holds c = (omega arith, rw (sub-zero, add-zero) (filling-none _ _))
 
 mul-p : tie.Need-mul-p Inv-loop μ-loop
 mul-p c = omega arith
@@ -65,7 +65,7 @@ loop-again : tie.Need-loop-again Inv-loop μ-loop
 loop-again c =
     let l = c .before .before .before .before .before .before .loop in
     let a = c .before .before .before .before .before .before .before .before .before .args in
-    (omega arith, reading-put (a .file .now) (a .at) (l .q) (l .inv .1) (omega arith) (omega arith) (c .number4 .ensures))
+    (omega arith, reading-put (a .file .now) (length (a .readings .now)) (a .at) (l .q) (l .inv .1) (omega arith) (omega arith) (c .number4 .ensures))
 
 same-length : tie.Need-same-length Inv-loop μ-loop
 same-length c = c .before .loop .inv .1 .long
@@ -74,7 +74,7 @@ returns : tie.Need-returns Inv-loop μ-loop
 returns c =
     let a = c .before .before .before .before .args in
     let q = c .before .loop .q in
-    day-loaded (a .file .now) (a .readings .now) (c .before .loop .readings) (a .at) (a .at + 4 * q) q (omega arith) (c .before .loop .inv .1) (omega arith)
+    day-loaded (a .file .now) (a .readings .now) (c .before .loop .readings) (a .at) (a .at + 4 * q) q (omega arith) (c .before .loop .inv .1)
 
 pub load-day-spec : {M : Type 1} → statement M
 load-day-spec =

@@ -13,13 +13,13 @@ has-room-requires c κs = search needs
 load-marks-requires : tie.Need-load-marks-requires
 load-marks-requires c κs =
     let a = c .before .before .before .before .before .before .args in
-    let room = room-is (a .shape .days) (length (a .file .now)) (length (a .marks .now)) (length (a .readings .now)) (sym (c .before .before .has-room .ensures) ∙ c .before .if1 .taken) in
+    let room = room-is (a .shape) (a .file .now) (length (a .marks .now)) (length (a .readings .now)) (fits-is (a .shape) (a .file .now) (length (a .marks .now)) (length (a .readings .now)) ∙ sym (c .before .before .has-room .ensures) ∙ c .before .if1 .taken) in
     (room .0, room .1)
 
 load-readings-requires : tie.Need-load-readings-requires
 load-readings-requires c κs =
     let a = c .before .before .before .before .before .before .before .before .before .before .args in
-    let room = room-is (a .shape .days) (length (a .file .now)) (length (a .marks .now)) (length (a .readings .now)) (sym (c .before .before .before .before .before .before .has-room .ensures) ∙ c .before .before .before .before .before .if1 .taken) in
+    let room = room-is (a .shape) (a .file .now) (length (a .marks .now)) (length (a .readings .now)) (fits-is (a .shape) (a .file .now) (length (a .marks .now)) (length (a .readings .now)) ∙ sym (c .before .before .before .before .before .before .has-room .ensures) ∙ c .before .before .before .before .before .if1 .taken) in
     (room .0, room .2)
 
 same-length : tie.Need-same-length

@@ -1,6 +1,7 @@
 -- `record::read_file` meets its contract: one law for each way out.
 use mathlib.Core.Path.{sym, _∙_}
 use native.Mathlib.Omega.{arith}
+use Rattle.record.proofs.Starts.{base-most, day-start-most}
 use Rattle.record.proofs.Files.{file-cut, file-foreign, file-good, file-bad}
 use borrow.Author.Needs.{needs}
 use Rattle.record.proofs.read_file.Statement.{statement}
@@ -11,6 +12,9 @@ returns c = file-cut (c .before .before .args .file .now) (omega arith)
 
 opens-requires : tie.Need-opens-requires
 opens-requires c κs = search needs
+
+file-base-requires : tie.Need-file-base-requires
+file-base-requires c κs = search needs
 
 first-in-requires : tie.Need-first-in-requires
 first-in-requires c κs = search needs
@@ -40,15 +44,19 @@ number4-requires : tie.Need-number4-requires
 number4-requires c κs = search needs
 
 cast-at : tie.Need-cast-at
-cast-at c = search needs
+cast-at c =
+    let base = c .before .before .before .before .before .file-base in
+    let first = c .before .before .before .before .first-in .result in
+    let days = c .before .before .before .count-days .result in
+    omega (arith, base .ensures .0, base-most (c .before .before .before .before .before .before .before .before .before .before .before .args .file .now), c .before .before .day-start .ensures, day-start-most (base .result) first days)
 
 returns-2 : tie.Need-returns-2
 returns-2 c =
-    file-good (c .before .before .before .before .before .before .before .before .before .before .before .before .args .file .now) (c .before .before .before .before .before .before .first-in .ensures .0) (c .before .before .before .before .before .count-days .ensures .0) (c .before .before .before .before .day-start .ensures) (c .before .before .before .count-events .ensures .0) (omega arith) (sym (c .before .before .before .before .before .before .before .before .opens .ensures) ∙ c .before .before .before .before .before .before .before .if2 .taken) (c .before .before .if3 .taken) (c .before .number2 .ensures .0) (c .number4 .ensures)
+    file-good (c .before .before .before .before .before .before .before .before .before .before .before .before .before .args .file .now) (c .before .before .before .before .before .before .before .file-base .ensures .0) (c .before .before .before .before .before .before .first-in .ensures .0) (c .before .before .before .before .before .count-days .ensures .0) (c .before .before .before .before .day-start .ensures) (c .before .before .before .count-events .ensures .0) (omega arith) (sym (c .before .before .before .before .before .before .before .before .before .opens .ensures) ∙ c .before .before .before .before .before .before .before .before .if2 .taken) (c .before .before .if3 .taken) (c .before .number2 .ensures .0) (c .number4 .ensures)
 
 returns-3 : tie.Need-returns-3
 returns-3 c =
-    file-bad (c .before .before .before .before .before .before .before .before .before .before .args .file .now) (c .before .before .before .before .first-in .ensures .0) (c .before .before .before .count-days .ensures .0) (c .before .before .day-start .ensures) (c .before .count-events .ensures .0) (omega arith) (sym (c .before .before .before .before .before .before .opens .ensures) ∙ c .before .before .before .before .before .if2 .taken) (c .if3 .left)
+    file-bad (c .before .before .before .before .before .before .before .before .before .before .before .args .file .now) (c .before .before .before .before .before .file-base .ensures .0) (c .before .before .before .before .first-in .ensures .0) (c .before .before .before .count-days .ensures .0) (c .before .before .day-start .ensures) (c .before .count-events .ensures .0) (omega arith) (sym (c .before .before .before .before .before .before .before .opens .ensures) ∙ c .before .before .before .before .before .before .if2 .taken) (c .if3 .left)
 
 returns-4 : tie.Need-returns-4
 returns-4 c = file-foreign (c .before .before .before .before .before .args .file .now) (omega arith) (sym (c .before .opens .ensures) ∙ c .if2 .left)
@@ -59,6 +67,7 @@ read-file-spec =
     (tie.spec
     returns
     opens-requires
+    file-base-requires
     first-in-requires
     count-days-requires
     day-start-requires

@@ -1,27 +1,30 @@
--- `choose::days_of` meets its contract. The invariant: the days of the first `i` words stand in their places, and noughts after them.
+-- `choose::days_in` meets its contract. The invariant: the days of the first `i` words stand in their places, and noughts after them.
 use Prim.Native.Nat.{ℕ, _≤_, _-_}
 use mathlib.Core.Path.{_≡_, refl, ap, _∙_}
 use mathlib.Core.List.{List, map}
 use native.Mathlib.Omega.{arith}
 use borrow.Author.Needs.{needs}
-use lib.ListN.{take, set}
+use lib.ListN.{set}
 use Rattle.choose.specs.Choice.{inFive}
-use Rattle.choose.specs.Look.{wordDay}
-use Rattle.choose.proofs.Five.{five-more}
-use Rattle.choose.proofs.days_of.Statement.{statement}
-use Rattle.choose.proofs.days_of.Tie as tie
+use Rattle.choose.specs.Steps.{wordDay, daysIn}
+use Rattle.choose.proofs.Five.{five-from}
+use Rattle.choose.proofs.days_in.Statement.{statement}
+use Rattle.choose.proofs.days_in.Tie as tie
 
 abbrev Inv-loop : tie.InvT-loop
-Inv-loop event count row days₀ i₀ days i = (i ≤ count) × (days ≡ inFive (map (wordDay event) (take i row)))
+Inv-loop event passed count row days₀ i₀ days i = (i ≤ count) × (days ≡ inFive (daysIn event row passed i))
 
 abbrev μ-loop : tie.MeasureT-loop
-μ-loop event count row days₀ i₀ days i = count - i
+μ-loop event passed count row days₀ i₀ days i = count - i
 
 loop-holds : tie.Need-loop-holds Inv-loop μ-loop
 loop-holds c = (omega arith, refl)
 
+add-day-of : tie.Need-add-day-of Inv-loop μ-loop
+add-day-of c = omega arith
+
 mul-day-of : tie.Need-mul-day-of Inv-loop μ-loop
-mul-day-of c = search needs
+mul-day-of c = omega arith
 
 array-read-day-of : tie.Need-array-read-day-of Inv-loop μ-loop
 array-read-day-of c = omega arith
@@ -30,7 +33,7 @@ day-of-requires : tie.Need-day-of-requires Inv-loop μ-loop
 day-of-requires c κs = search needs
 
 mul-days : tie.Need-mul-days Inv-loop μ-loop
-mul-days c = search needs
+mul-days c = omega arith
 
 array-write-days : tie.Need-array-write-days Inv-loop μ-loop
 array-write-days c = omega arith
@@ -43,10 +46,11 @@ loop-less c = omega arith
 
 loop-again : tie.Need-loop-again Inv-loop μ-loop
 loop-again c =
-    let l = c .before .before .loop in (
+    let l = c .before .before .loop in
+    let a = c .before .before .before .args in (
       omega arith,
       ap (λ (ds : List ℕ). set ds (l .i) (c .day-of .result)) (l .inv .1)
-          ∙ five-more (wordDay (c .before .before .before .args .event)) (c .before .before .before .args .t2) (l .i) (c .day-of .result) (omega arith) (omega arith) (c .day-of .ensures),
+          ∙ five-from (wordDay (a .event)) (a .t2) (a .passed) (l .i) (c .day-of .result) (omega arith) (c .day-of .ensures),
     )
 
 returns : tie.Need-returns Inv-loop μ-loop
@@ -54,13 +58,14 @@ returns c =
     let e : c .before .loop .i ≡ c .before .before .args .count = omega arith in
     rw (← e) (c .before .loop .inv .1)
 
-pub days-of-spec : {M : Type 1} → statement M
-days-of-spec =
+pub days-in-spec : {M : Type 1} → statement M
+days-in-spec =
     tie.close
     (tie.spec
     Inv-loop
     μ-loop
     loop-holds
+    add-day-of
     mul-day-of
     array-read-day-of
     day-of-requires
