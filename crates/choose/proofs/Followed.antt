@@ -3,21 +3,24 @@ use Prim.Native.Nat.{ℕ, _+_, _≤_, _<_}
 use mathlib.Core.Path.{_≡_, refl, sym, ap, _∙_, subst}
 use mathlib.Core.Bool.{Bool, true}
 use mathlib.Core.List.{List, map}
+use mathlib.Core.Logic.{⊎-elim}
 use native.Mathlib.Nat.{zero-add}
 use native.Mathlib.Omega.{arith}
 use lib.Dec.{leb}
 use borrow.Author.Tests.{leb-true}
-use lib.ListN.{length, getD, replicate, getD-replicate}
+use lib.ListN.{length, getD, replicate, getD-replicate, length-take}
 use Rattle.lists.specs.Lists.{member}
+use Rattle.lists.proofs.Bools.{lt-or-le}
 use Rattle.calendar.specs.declared.Group.{Group}
 use Rattle.method.specs.declared.Request.{Request}
-use Rattle.method.specs.Table.{Day}
+use Rattle.method.specs.Table.{Day, History}
 use Rattle.method.specs.Adjustment.{places}
 use Rattle.method.specs.Eligible.{higher}
-use Rattle.method.specs.Method.{daysOf}
+use Rattle.method.specs.Method.{daysOf, eligibles, window, chosen}
 use Rattle.method.specs.Rules.{Rules, methodBy}
 use Rattle.method.specs.Requested.{methodOf}
 use Rattle.method.specs.Lawful.{Lawful}
+use Rattle.method.proofs.Window.{full-size, size-below}
 use Rattle.method.proofs.Sort.{member-sorted, length-sorted}
 use Rattle.method.proofs.HighXofY.{lawful}
 use Rattle.places.proofs.Places.{at-place}
@@ -82,3 +85,18 @@ module _ {r : Request} {rules : Rules} {numbers : Numbers} (f : Follows r rules 
             (f .order) (order-only r (numbers .spares));
         needs = omega (arith, taken-within 0 (omega arith));
       }
+
+  -- a window has at most ten days, and of it at most five are chosen
+  module _ (group : ℕ → Group) (h : History Day) where
+    window-most : length (window (methodBy group r rules) h) ≤ 10
+    unfolding methodBy
+    window-most =
+        ⊎-elim (λ few. omega (arith, size-below (methodBy group r rules) (lawful-by group) h few, f .most, f .sound .ten))
+        (λ full. omega (arith, full-size (methodBy group r rules) (lawful-by group) h full, f .most, f .sound .ten))
+        (lt-or-le (length (eligibles (methodBy group r rules) h)) (rules .most))
+
+    pub chosen-most : length (chosen (methodBy group r rules) h) ≤ 5
+    unfolding chosen methodBy
+    chosen-most =
+        let size : ℕ = length (window (methodBy group r rules) h) in
+        rw length-take (omega (arith, taken-at size window-most, f .sound .five size window-most))

@@ -1,5 +1,5 @@
 -- What is judged of the day so far back is what the dated day is.
-use Prim.Native.Nat.{ℕ, _+_, _-_, _*_, _^_, _≤_, _<_}
+use Prim.Native.Nat.{ℕ, _-_, _*_, _^_, _≤_, _<_}
 use mathlib.Core.Path.{_≡_}
 use mathlib.Core.List.{List}
 use native.Mathlib.Omega.{arith}
@@ -11,14 +11,12 @@ use Rattle.lists.proofs.Sums.{sum-most}
 use Rattle.method.specs.declared.Request.{Request}
 use Rattle.method.specs.Table.{size, mostQuarters, missing}
 use Rattle.method.specs.Ruler.{against}
-use Rattle.method.specs.Eligible.{eligible, spare, eventSum}
+use Rattle.method.specs.Eligible.{eventSum}
 use Rattle.method.proofs.Tables.{size-is}
 use Rattle.ranking.specs.Words.{word}
 use Rattle.rooms.specs.declared.Directory.{Directory}
 use Rattle.rooms.specs.Rooms.{readingsAt, roomDay}
 use Rattle.rooms.proofs.Parts.{part-few}
-use Rattle.judging.specs.declared.Judged.{Judged}
-use Rattle.judging.specs.declared.Judged.the-variants.{Eligible, Spare, Neither}
 use Rattle.judging.specs.Judging.{room, wordAt, judgedAt}
 use Rattle.choose.specs.Steps.{roomsOf, judged}
 

@@ -4,5 +4,6 @@ pub mod Looking
 pub mod Five
 pub mod Followed
 pub mod HighXofY
+pub mod Requested
 pub mod WholeChoice
 pub mod Rooms

@@ -1,16 +1,16 @@
 -- The choice by any rules: what was found gives the window, its size, its ranks and the reach.
 use Prim.Native.Nat.{ℕ, _+_, _-_, _≤_, _<_, min}
-use mathlib.Core.Path.{_≡_, refl, sym, ap, _∙_}
+use mathlib.Core.Path.{_≡_, sym, ap, _∙_}
 use mathlib.Core.Bool.{true, false, cond}
 use mathlib.Core.Logic.{⊎-elim}
 use mathlib.Core.List.{List, _++_, map}
 use mathlib.Core.Option.{Option}
 use native.Mathlib.Omega.{arith}
-use lib.ListN.{length, getD, take, drop, length-append, length-take, length-drop, length-map}
+use lib.ListN.{length, getD, take, length-append, length-take, length-drop, length-map}
 use lib.Seq.{take-all}
 use lib.Dec.{ltb, eqb}
 use borrow.Author.Tests.{lt-ltb, le-ltb, eq-eqb, ne-eqb}
-use Rattle.lists.specs.Lists.{all, keep, any}
+use Rattle.lists.specs.Lists.{all, keep}
 use Rattle.lists.proofs.All.{all-append, all-take}
 use Rattle.lists.proofs.Bools.{lt-or-le}
 use Rattle.lists.proofs.Maps.{map-take}
@@ -19,7 +19,7 @@ use Rattle.calendar.specs.declared.Group.{Group}
 use Rattle.method.specs.declared.Request.{Request}
 use Rattle.method.specs.Table.{Day, History}
 use Rattle.method.specs.Method.{Method, daysOf, wholeReach, seen, eligibles, spares, window, chosen, reach, isShort}
-use Rattle.method.specs.Eligible.{eligible, spare, higher, sortBy}
+use Rattle.method.specs.Eligible.{eligible, spare, higher}
 use Rattle.method.specs.Adjustment.{Baseline}
 use Rattle.method.specs.Rules.{Rules, methodBy}
 use Rattle.method.specs.Requested.{rulesOf, methodOf}

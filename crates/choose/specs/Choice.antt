@@ -1,12 +1,11 @@
 -- What the choice of days gives back, of a method over a history.
 use Prim.Native.Nat.{ℕ}
 use mathlib.Core.Bool.{cond}
-use mathlib.Core.List.{List, [], _∷_, _++_}
+use mathlib.Core.List.{List, [], _++_}
 use lib.ListN.{length, take, replicate}
 use lib.Dec.{eqb}
 use Rattle.method.specs.Table.{History}
 use Rattle.method.specs.Method.{Method, daysOf, wholeReach, window, chosen, reach, isShort}
-use Rattle.choose.specs.declared.Chosen.{Chosen}
 use Rattle.choose.specs.declared.Choosing.{Choosing}
 use Rattle.choose.specs.declared.Choosing.the-variants.{Short, Few, Days}
 use Rattle.choose.specs.declared.Choice.{Choice}

@@ -1,6 +1,6 @@
 -- The laws of ranking. A row of ten falling words, into which words are put one by one as they come, holds at every moment the ten highest of
 -- all that came, and the words of the days before an event rank as 01 ranks the days.
-use Prim.Native.Nat.{ℕ, zero, suc, _+_, _-_, _%_, _^_, _<_, _≤_}
+use Prim.Native.Nat.{ℕ, zero, suc, _+_, _-_, _%_, _<_, _≤_}
 use mathlib.Core.Path.{_≡_, refl, ap, ap₂, sym, _∙_}
 use mathlib.Core.Bool.{Bool, true, _&&_}
 use mathlib.Core.List.{List, [], _∷_, _++_, map, append-nil, map-append}
@@ -12,10 +12,9 @@ use lib.Dec.{leb, ltb}
 use borrow.Author.Tests.{leb-true, ltb-true, le-leb}
 use Rattle.lists.specs.Lists.{all}
 use Rattle.method.specs.declared.Request.{Request}
-use Rattle.method.specs.Table.{Day, mostQuarters, goodReading}
-use Rattle.method.specs.Ruler.{against}
+use Rattle.method.specs.Table.{Day}
 use Rattle.method.specs.Method.{daysOf}
-use Rattle.method.specs.Eligible.{complete, eventSum, higher, sortBy}
+use Rattle.method.specs.Eligible.{eventSum, higher, sortBy}
 use Rattle.ranking.specs.Words.{word, above, insertDown, sortDown, padded, pushed, insertAll}
 use Rattle.lists.proofs.All.{all-append, all-replicate, all-take, all-drop}
 use Rattle.lists.proofs.Bools.{both, lt-or-le}
@@ -26,7 +25,7 @@ use Rattle.ranking.proofs.Sorting.{map-sorted}
 use Rattle.ranking.proofs.Insertion.{into-none, goes-here, goes-later, smaller-first, none-above, before-noughts}
 use Rattle.ranking.proofs.Carry.{keeps-hand, keeps-own}
 use Rattle.ranking.proofs.OneByOne.{insert-none, insert-next}
-use Rattle.ranking.proofs.Numbers.{sums-then-nearness, later-is-nearer, day-back, part-small}
+use Rattle.ranking.proofs.Numbers.{sums-then-nearness, later-is-nearer, day-back}
 
 -- The order in which words come does not matter
 
@@ -212,17 +211,3 @@ module _ (r : Request) where
   row-with days more =
       insert-all-sorts (map (word r) more) (map (word r) days)
       ∙ ap (λ (l : List ℕ). padded 10 (sortDown l)) (sym (map-append (word r) days more))
-
-  -- A word is above 0, and small
-
-  pub word-above-nought : (p : ℕ × Day) → lookedBack r p ≡ true → 0 < word r p
-  unfolding word
-  word-above-nought p h = omega (arith, from-45 p h)
-
-  pub word-small : (p : ℕ × Day) → lookedBack r p ≡ true → eventSum r (p .1) ≤ 960000000 → word r p < 2 ^ 36
-  unfolding word
-  word-small p h s = omega (arith, before-event p h)
-
-  pub sum-small : (d : Day) → length (d .readings) ≤ mostQuarters → all goodReading (d .readings) ≡ true → complete d ≡ true → eventSum r d ≤ 960000000
-  unfolding eventSum complete
-  sum-small d n good there = omega (arith, part-small (against (r .event) (r .s)) (r .e - r .s) (d .readings) good there)

@@ -1,5 +1,4 @@
 -- `choose::rules_of` meets its contract: one law a group.
-use mathlib.Core.Path.{sym}
 use borrow.Author.Needs.{needs}
 use Rattle.method.specs.Requested.{rulesOf}
 use Rattle.choose.proofs.HighXofY.{on-weekdays, on-saturdays, on-holidays}
