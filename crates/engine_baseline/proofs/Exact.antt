@@ -25,9 +25,9 @@ use Rattle.method.proofs.Stable.{yesterday-held}
 use Rattle.places.proofs.Places.{over-same}
 use Rattle.window.proofs.Laws.{all-in-range, window-most, adjustment-holds}
 use Rattle.numerators.proofs.Signed.{numerator-is}
+use Rattle.choose.proofs.Requested.{chosen-five}
 use Rattle.engine_baseline.specs.Engine.{withDays, inWords}
 use Rattle.engine_baseline.specs.Store.{GoodDays}
-use Rattle.engine_baseline.proofs.HighXofY.{chosen-few}
 use Rattle.engine_baseline.proofs.Choosing.{Every, Whole, chosen-whole, chosen-again}
 use Rattle.engine_baseline.proofs.Answered.{line, end, adj, ch, n, fits, enough, size, days-are, some-end, adjusted-is, numerators-are}
 
@@ -73,12 +73,12 @@ module _ (h : History Day) (good : GoodDays h) where
         window-most (line group h r) (end group h r) line-good (adjustment-holds (line group h r) r (some-end group h r room e))
 
     sum-most : (t : ℕ) → S (r .event) days t ≤ 50000000
-    sum-most t = omega (arith, S-most (r .event) t days (chosen-whole group r h), chosen-few group r h)
+    sum-most t = omega (arith, S-most (r .event) t days (chosen-whole group r h), chosen-five group r h)
 
     numerator : (t : ℕ) → floored (unfloored (S (r .event) days t) moved) ≤ 1200000000
     numerator t =
         let own = A (line group h r) (end group h r) in
-        let scaled : n group h r * own ≤ 5 * own = mul-le-mul-right own (omega (arith, size group h r room e, chosen-few group r h)) in
+        let scaled : n group h r * own ≤ 5 * own = mul-le-mul-right own (omega (arith, size group h r room e, chosen-five group r h)) in
         rw (numerator-is (S (r .event) days t) (n group h r) own (B (r .event) days (end group h r)))
         (omega (arith, sum-most t, scaled, own-most))
 
