@@ -1,7 +1,6 @@
 -- A lent table as a store: the engine over its directory gives the verdict.
 use Prim.Native.Nat.{ℕ, _-_}
 use mathlib.Core.Path.{_≡_, sym, ap, _∙_}
-use mathlib.Core.List.{List}
 use Rattle.calendar.specs.declared.Group.{Group}
 use Rattle.method.specs.declared.Request.{Request}
 use Rattle.method.specs.declared.Refusal.{Refusal}

@@ -1,5 +1,4 @@
 // The baseline over a lent table: its refusals, its directory, and the engine.
-ghost use mathlib.Core.Path.{_≡_};
 ghost use lib.ListN.{length};
 ghost use Rattle.calendar.specs.Holidays.{group};
 ghost use Rattle.method.specs.Verdict.{verdict};

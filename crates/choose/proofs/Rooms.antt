@@ -5,7 +5,6 @@ use mathlib.Core.Bool.{true, false, _&&_}
 use mathlib.Core.List.{List}
 use mathlib.Core.Logic.{⊎-elim}
 use native.Mathlib.Omega.{arith}
-use borrow.Author.Tests.{lt-leb}
 use lib.ListN.{length}
 use lib.Dec.{ltb}
 use Rattle.lists.specs.Lists.{keep, any, member}
@@ -18,13 +17,14 @@ use Rattle.method.specs.Method.{Method, seen, eligibles, window, chosen, reach,
 use Rattle.method.specs.Rules.{methodBy}
 use Rattle.method.specs.Requested.{rulesOf, methodOf}
 use Rattle.method.proofs.LookBack.{daysBefore-is}
-use Rattle.method.proofs.Histories.{held-first, held-last, is-held}
+use Rattle.method.proofs.Histories.{held-first, held-last}
 use Rattle.method.proofs.Stable.{window-of-seen, outcome-same}
 use Rattle.method.proofs.HighXofY.{lawful}
 use Rattle.lists.proofs.Bools.{bool-cases, same-test}
 use Rattle.rooms.specs.declared.Directory.{Directory}
 use Rattle.rooms.specs.Rooms.{heldRooms, roomHistory}
 use Rattle.rooms.specs.Agree.{Agree}
+use Rattle.rooms.proofs.Held.{event-held, event-not}
 use Rattle.choose.specs.Choice.{choiceOf}
 use Rattle.choose.specs.Steps.{nearest, roomsOf}
 use Rattle.choose.proofs.Days.{seen-nearest}
@@ -67,15 +67,6 @@ module _ (group : ℕ → Group) (r : Request) where
           let o : r .event - d ≤ k = omega arith in
           ap (λ (x : Day). (d, x)) (rw e at (same (r .event - d) o))
 
-module _ (r : Request) (rooms : Directory) (readings : List ℕ) where
-  holds-event : 0 < rooms .held → held (roomHistory r rooms readings) (r .event) ≡ true
-  unfolding roomHistory heldRooms
-  holds-event some = is-held (roomHistory r rooms readings) (r .event) (omega arith) (omega arith)
-
-  holds-nothing : rooms .held ≡ 0 → held (roomHistory r rooms readings) (r .event) ≡ false
-  unfolding held roomHistory heldRooms
-  holds-nothing e = let o : r .event < r .event + 1 - min (rooms .held) (min 45 (r .event) + 1) = omega arith in rw (lt-leb (r .event + 1 - min (rooms .held) (min 45 (r .event) + 1)) (r .event) o)
-
 width-before : (r : Request) (rooms : Directory) (first : ℕ) → first ≤ r .event → rooms .held ≡ min 46 (r .event + 1 - first)
     → roomsBefore r rooms ≡ min 45 (r .event - first)
 unfolding roomsBefore heldRooms
@@ -92,10 +83,10 @@ module _ (group : ℕ → Group) {r : Request} {rooms : Directory} {readings : L
   rooms-held = ⊎-elim (λ e. some e ∙ sym e) (λ e. none e ∙ sym e) (bool-cases (held h (r .event)))
     where
       some : held h (r .event) ≡ true → held (roomHistory r rooms readings) (r .event) ≡ true
-      some e = holds-event r rooms readings (omega (arith, rw e at (agree .width), held-first h (r .event) e))
+      some e = event-held r rooms readings (λ n. omega (arith, rw e at (agree .width), held-first h (r .event) e))
 
       none : held h (r .event) ≡ false → held (roomHistory r rooms readings) (r .event) ≡ false
-      none e = holds-nothing r rooms readings (rw e at (agree .width))
+      none e = event-not r rooms readings (rw e at (agree .width))
 
   module _ (holds : held h (r .event) ≡ true) where
     width-is : rooms .held ≡ min 46 (r .event + 1 - h .first)

@@ -13,7 +13,7 @@ use borrow.Author.Tests.{eqb-false}
 use Rattle.calendar.specs.declared.Group.{Group}
 use Rattle.method.specs.declared.Request.{Request}
 use Rattle.method.specs.Table.{Day, History}
-use Rattle.method.specs.Method.{Method, Outcome, short, few, chose, outcome, window, chosen, reach, isShort, wholeReach, daysOf}
+use Rattle.method.specs.Method.{Method, short, few, chose, outcome, window, chosen, reach, isShort, wholeReach, daysOf}
 use Rattle.method.specs.Adjustment.{ruler, places, adjustmentEnd, A, B, S, adjustment, unfloored, Baseline, floored, baseline, baselineAt}
 use Rattle.method.specs.HighXofY.{N}
 use Rattle.method.specs.Rules.{methodBy}
@@ -24,7 +24,8 @@ use Rattle.engine_refusals.specs.declared.Tested.the-variants.{Passed}
 use Rattle.engine_refusals.specs.Tests.{tested}
 use Rattle.engine_refusals.proofs.FirstRefusal.{GoodRequest, good-request, Fits, request-passed}
 use Rattle.engine_refusals.proofs.Replies.{never-both, answered-past}
-use Rattle.engine_baseline.proofs.HighXofY.{finish-is, chosen-few, chosen-size}
+use Rattle.choose.proofs.Requested.{chosen-five}
+use Rattle.engine_baseline.proofs.HighXofY.{finish-is, chosen-size}
 
 -- an answer is of chosen days and of what was worked out of them
 record Closed (a : Answer) (tooFew : Bool) (days : List ℕ) (worked : Option Baseline) : Type 0 where
@@ -119,7 +120,7 @@ pub sound : (group : ℕ → Group) (h : History Day) (r : Request) (room : ℕ)
     → Sound r room a
 sound group h r room e =
     record {
-      few = rw (days-are group h r room e, length-map) (chosen-few group r h);
+      few = rw (days-are group h r room e, length-map) (chosen-five group r h);
       quarters = rw (numerators-are group h r room e, length-map) (length-over _ (r .e - r .s) (r .s));
       ranges = good-request r (fits group h r room e .request);
       enough = fits group h r room e .enough;

@@ -27,9 +27,10 @@ use Rattle.choose.specs.declared.Chosen.{Chosen}
 use Rattle.choose.specs.declared.Choosing.the-variants.{Short, Few, Days}
 use Rattle.choose.specs.declared.Choice.{Choice}
 use Rattle.choose.specs.Choice.{choiceOf, noDays, inFive}
+use Rattle.choose.proofs.Requested.{chosen-five}
 use Rattle.engine_baseline.specs.Engine.{withDays}
 use Rattle.engine_baseline.specs.Steps.{Fit, Ready, replyOf}
-use Rattle.engine_baseline.proofs.HighXofY.{order-is, finish-is, chosen-few, chosen-size}
+use Rattle.engine_baseline.proofs.HighXofY.{order-is, finish-is, chosen-size}
 
 -- ---- a choice and its outcome
 module _ {A O : Type 0} (m : Method A O) (h : History A) where
@@ -222,7 +223,7 @@ module _ (group : ℕ → Group) (r : Request) (h : History Day) (room : ℕ) (f
   same-count = length-map ch (λ (p : ℕ × Day). p .0)
 
   listed : take (c .chosen .count) (c .chosen .days) ≡ daysOf ch
-  listed = rw (x .chosen, ← same-count) (five-take (daysOf ch) (omega (arith, same-count, chosen-few group r h)))
+  listed = rw (x .chosen, ← same-count) (five-take (daysOf ch) (omega (arith, same-count, chosen-five group r h)))
 
   -- the event is not on day 0
   some-before : 0 < r .event
@@ -235,7 +236,7 @@ module _ (group : ℕ → Group) (r : Request) (h : History Day) (room : ℕ) (f
         request = fit .request;
         enough = fit .enough;
         some = some-before;
-        few = rw (x .chosen) (chosen-few group r h);
+        few = rw (x .chosen) (chosen-five group r h);
         five = rw listed (rw (x .chosen));
       }
 

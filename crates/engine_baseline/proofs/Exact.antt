@@ -1,8 +1,8 @@
 -- Over good readings no sum and no numerator wraps: each stays below 1,200,000,001.
-use Prim.Native.Nat.{ℕ, _+_, _-_, _*_, _%_, _^_, _≤_, _<_}
-use mathlib.Core.Path.{_≡_, refl, sym, ap, _∙_}
+use Prim.Native.Nat.{ℕ, _-_, _*_, _%_, _^_, _≤_}
+use mathlib.Core.Path.{_≡_, refl, sym, _∙_}
 use mathlib.Core.Bool.{Bool, true}
-use mathlib.Core.List.{List, [], _∷_, _++_, map}
+use mathlib.Core.List.{List, [], _∷_, map, map-map}
 use native.Mathlib.Nat.{mul-suc, mul-le-mul-right}
 use native.Mathlib.Omega.{arith}
 use borrow.Author.Tests.{leb-true, le-leb}
@@ -13,7 +13,7 @@ use Rattle.lists.specs.Lists.{all, sumOf}
 use Rattle.lists.proofs.All.{all-at, all-append}
 use Rattle.calendar.specs.declared.Group.{Group}
 use Rattle.method.specs.declared.Request.{Request}
-use Rattle.method.specs.Table.{Day, History, held, goodReading}
+use Rattle.method.specs.Table.{Day, History, goodReading}
 use Rattle.method.specs.Ruler.{against}
 use Rattle.method.specs.Adjustment.{places, S, A, B, unfloored, floored}
 use Rattle.method.specs.Eligible.{complete}
@@ -22,27 +22,20 @@ use Rattle.method.specs.Requested.{methodOf}
 use Rattle.method.specs.Verdict.{Answer, Reply, refused, answered, methodology}
 use Rattle.method.proofs.HighXofY.{lawful}
 use Rattle.method.proofs.Stable.{yesterday-held}
+use Rattle.places.proofs.Places.{over-same}
 use Rattle.window.proofs.Laws.{all-in-range, window-most, adjustment-holds}
 use Rattle.numerators.proofs.Signed.{numerator-is}
+use Rattle.choose.proofs.Requested.{chosen-five}
 use Rattle.engine_baseline.specs.Engine.{withDays, inWords}
 use Rattle.engine_baseline.specs.Store.{GoodDays}
-use Rattle.engine_baseline.proofs.HighXofY.{chosen-few}
 use Rattle.engine_baseline.proofs.Choosing.{Every, Whole, chosen-whole, chosen-again}
 use Rattle.engine_baseline.proofs.Answered.{line, end, adj, ch, n, fits, enough, size, days-are, some-end, adjusted-is, numerators-are}
-
-pub map-map : {A B C : Type 0} (f : B → C) (g : A → B) (xs : List A) → map f (map g xs) ≡ map (λ x. f (g x)) xs
-map-map f g [] = refl
-map-map f g (x ∷ xs) = ap (λ l. f (g x) ∷ l) (map-map f g xs)
 
 -- a rule of every value
 all-map : {A : Type 0} (p : ℕ → Bool) (f : A → ℕ) → ((x : A) → p (f x) ≡ true) → (xs : List A) → all p (map f xs) ≡ true
 unfolding all
 all-map p f h [] = refl
 all-map p f h (x ∷ xs) = rw (h x) (all-map p f h xs)
-
-map-each : {A B : Type 0} (f g : A → B) → ((x : A) → f x ≡ g x) → (xs : List A) → map f xs ≡ map g xs
-map-each f g h [] = refl
-map-each f g h (x ∷ xs) = rw (h x, map-each f g h xs)
 
 module _ (h : History Day) (good : GoodDays h) where
   -- a whole day's readings are in range
@@ -80,12 +73,12 @@ module _ (h : History Day) (good : GoodDays h) where
         window-most (line group h r) (end group h r) line-good (adjustment-holds (line group h r) r (some-end group h r room e))
 
     sum-most : (t : ℕ) → S (r .event) days t ≤ 50000000
-    sum-most t = omega (arith, S-most (r .event) t days (chosen-whole group r h), chosen-few group r h)
+    sum-most t = omega (arith, S-most (r .event) t days (chosen-whole group r h), chosen-five group r h)
 
     numerator : (t : ℕ) → floored (unfloored (S (r .event) days t) moved) ≤ 1200000000
     numerator t =
         let own = A (line group h r) (end group h r) in
-        let scaled : n group h r * own ≤ 5 * own = mul-le-mul-right own (omega (arith, size group h r room e, chosen-few group r h)) in
+        let scaled : n group h r * own ≤ 5 * own = mul-le-mul-right own (omega (arith, size group h r room e, chosen-five group r h)) in
         rw (numerator-is (S (r .event) days t) (n group h r) own (B (r .event) days (end group h r)))
         (omega (arith, sum-most t, scaled, own-most))
 
@@ -105,7 +98,7 @@ module _ (h : History Day) (good : GoodDays h) where
         ≡ a .numerators
     same =
         rw (days-are group h r room e, chosen-again group r h, adjusted-is group h r room e, numerators-are group h r room e)
-        (map-each _ _ exact-at (places (r .e - r .s) (r .s)) ∙
+        (over-same _ _ (r .e - r .s) (r .s) (λ t a b. exact-at t) ∙
         sym (map-map floored (λ t. unfloored (S (r .event) days t) moved) (places (r .e - r .s) (r .s))))
 
     pub exact-answer : inWords r h (answered a) ≡ answered a

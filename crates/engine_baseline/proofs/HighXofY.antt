@@ -7,9 +7,8 @@ use mathlib.Core.Option.{Option}
 use native.Mathlib.Omega.{arith}
 use borrow.Author.Tests.{ltb-false}
 use lib.Dec.{ltb, eqb}
-use lib.ListN.{length, take, drop, length-take}
+use lib.ListN.{length, length-take}
 use Rattle.calendar.specs.declared.Group.{Group}
-use Rattle.calendar.specs.declared.Group.the-variants.{Weekday, Saturday, HolidayGroup}
 use Rattle.method.specs.declared.Request.{Request}
 use Rattle.method.specs.Table.{Day, History}
 use Rattle.method.specs.Adjustment.{Baseline, baseline}
@@ -19,11 +18,6 @@ use Rattle.method.specs.Rules.{methodBy}
 use Rattle.method.specs.Requested.{rulesOf, methodOf}
 use Rattle.method.specs.Method.{Method, window, chosen}
 use Rattle.method.proofs.Sort.{length-sorted}
-
-few-days : (g : Group) → N g ≤ 5
-few-days Weekday = omega arith
-few-days Saturday = omega arith
-few-days HolidayGroup = omega arith
 
 module _ (group : ℕ → Group) (r : Request) where
   abbrev how : Method Day (Option Baseline)
@@ -50,26 +44,12 @@ module _ (group : ℕ → Group) (r : Request) where
       go true f = absurd (true≢false (rw f at e))
       go false f = (rw f, ltb-false size n f)
 
-  taken-most : (size : ℕ) → how .taken size ≤ n
-  unfolding methodOf methodBy rulesOf highXofY
-  taken-most size = go (ltb size n)
-    where
-      go : (b : Bool) → cond b 0 n ≤ n
-      go true = omega arith
-      go false = omega arith
-
   passed-none : (size : ℕ) → how .passed size ≡ 0
   unfolding methodOf methodBy rulesOf highXofY
   passed-none size = refl
 
-  module _ (h : History Day) where
-    -- how many are chosen: never above five, and N where the window is not too small
-    pub chosen-few : length (chosen how h) ≤ 5
-    unfolding chosen
-    chosen-few = rw length-take (omega (arith, taken-most (length (window how h)), few-days (group (r .event))))
-
-    pub chosen-size : eqb (how .taken (length (window how h))) 0 ≡ false → length (chosen how h) ≡ n
-    unfolding chosen methodOf methodBy
-    chosen-size e =
-        let w = taken-is (length (window how h)) e in
-        rw (length-take, passed-none (length (window how h)), length-sorted (higher r) (window how h)) (omega (arith, w))
+  pub chosen-size : (h : History Day) → eqb (how .taken (length (window how h))) 0 ≡ false → length (chosen how h) ≡ n
+  unfolding chosen methodOf methodBy
+  chosen-size h e =
+      let w = taken-is (length (window how h)) e in
+      rw (length-take, passed-none (length (window how h)), length-sorted (higher r) (window how h)) (omega (arith, w))

@@ -1,6 +1,6 @@
 -- The steps of the engine, over plain variables: what each asks and gives.
 use Prim.Native.Nat.{ℕ, _+_, _-_, _*_, _%_, _^_, _≤_, _<_, min}
-use mathlib.Core.Path.{_≡_, refl, sym, ap, ap₂, _∙_}
+use mathlib.Core.Path.{_≡_, sym, ap, ap₂, _∙_}
 use mathlib.Core.Bool.{true}
 use mathlib.Core.List.{List, _++_, map}
 use native.Mathlib.Nat.{mul-le-mul-right}
@@ -20,7 +20,7 @@ use Rattle.method.specs.declared.Request.{Request}
 use Rattle.method.specs.declared.Refusal.{Refusal}
 use Rattle.method.specs.declared.Refusal.the-variants.{NoAdjustmentWindow}
 use Rattle.method.specs.Table.{Day, History, size}
-use Rattle.method.specs.Ruler.{rulerStart, against}
+use Rattle.method.specs.Ruler.{against}
 use Rattle.method.specs.Adjustment.{places, ruler, adjustmentEnd, A, B, S, adjustment, unfloored, floored, baselineAt, baseline}
 use Rattle.method.specs.Method.{outcome}
 use Rattle.method.specs.Requested.{methodOf}
@@ -39,7 +39,7 @@ use Rattle.numerators.proofs.Standing.{S-placed, B-placed}
 use Rattle.choose.specs.declared.Chosen.{Chosen}
 use Rattle.engine_refusals.specs.declared.Tested.the-variants.{Passed, Failed}
 use Rattle.engine_refusals.specs.Tests.{tested}
-use Rattle.engine_refusals.proofs.FirstRefusal.{GoodRequest, good-request, Fits, request-passed, first-failed, first-passed}
+use Rattle.engine_refusals.proofs.FirstRefusal.{GoodRequest, good-request, request-passed, first-failed, first-passed}
 use Rattle.answer.specs.declared.Answer.{Answer}
 use Rattle.answer.specs.declared.Given.the-variants.{Answered}
 use Rattle.answer.specs.Answer.{answerOf, Answers}

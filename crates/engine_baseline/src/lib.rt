@@ -1,6 +1,5 @@
 // The baseline over any directory of rooms and any lent readings: refusals 4 to 10, or the answer. A table, a ring and a shared store call it
 // with their own directory.
-ghost use mathlib.Core.Path.{_≡_};
 ghost use lib.ListN.{length};
 ghost use Rattle.calendar.specs.Holidays.{group};
 ghost use Rattle.method.specs.Method.{outcome};

@@ -1,7 +1,7 @@
 -- The rooms of two days that lie apart say what the table of the two holds.
-use Prim.Native.Nat.{ℕ, suc, zero, _+_, _-_, _≤_, _<_, min}
-use mathlib.Core.Path.{_≡_, refl, sym, ap, _∙_}
-use mathlib.Core.Bool.{Bool, true, false, cond, and-false}
+use Prim.Native.Nat.{ℕ, suc, zero, _+_, _-_, _≤_, _<_}
+use mathlib.Core.Path.{_≡_, sym, ap, _∙_}
+use mathlib.Core.Bool.{true, false, and-false}
 use mathlib.Core.List.{List, [], _∷_, _++_}
 use native.Mathlib.Omega.{arith}
 use borrow.Author.Tests.{le-leb, lt-leb, ne-eqb, eq-eqb, le-ltb}
@@ -9,7 +9,7 @@ use lib.Dec.{leb, ltb}
 use lib.ListN.{length, getD, take, drop, length-take, length-drop}
 use lib.Seq.{take-take, take-append-seam, drop-at}
 use Rattle.method.specs.declared.Request.{Request}
-use Rattle.method.specs.Table.{Day, Table, size, offset, dayOf, held, history}
+use Rattle.method.specs.Table.{Table, size, offset, dayOf, held, history}
 use Rattle.method.proofs.Histories.{is-held}
 use Rattle.rooms.specs.declared.Directory.{Directory}
 use Rattle.rooms.specs.Rooms.{readingsAt, roomDay}

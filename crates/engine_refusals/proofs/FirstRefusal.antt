@@ -45,31 +45,6 @@ unfolding firstOf
 first-passed [] reply e = refl
 first-passed (t ∷ ts) reply e = let w = passed-next (t .0) (t .1) ts e in rw (w .0) (first-passed ts reply (w .1))
 
--- refusals and then others
-pub tested-failed : (a b : List (Bool × Refusal)) {w : Refusal} → tested a ≡ Failed w → tested (a ++ b) ≡ Failed w
-unfolding tested
-tested-failed [] b e = absurd (let z : _≡_ {A = ℕ} 0 1 = cc in omega arith)
-tested-failed (t ∷ ts) b {w} e = go (t .0) e (λ x. tested-failed ts b x)
-  where
-    go : (x : Bool) → cond x (Failed (t .1)) (tested ts) ≡ Failed w → (tested ts ≡ Failed w → tested (ts ++ b) ≡ Failed w)
-        → cond x (Failed (t .1)) (tested (ts ++ b)) ≡ Failed w
-    go true e f = e
-    go false e f = f e
-
-pub tested-passed : (a b : List (Bool × Refusal)) → tested a ≡ Passed → tested (a ++ b) ≡ tested b
-unfolding tested
-tested-passed [] b e = refl
-tested-passed (t ∷ ts) b e = let w = passed-next (t .0) (t .1) ts e in rw (w .0) (tested-passed ts b (w .1))
-
--- where all pass, each of the two does
-pub passed-both : (a b : List (Bool × Refusal)) → tested (a ++ b) ≡ Passed → (tested a ≡ Passed) × (tested b ≡ Passed)
-unfolding tested
-passed-both [] b e = (refl, e)
-passed-both (t ∷ ts) b e =
-    let w = passed-next (t .0) (t .1) (ts ++ b) e in
-    let v = passed-both ts b (w .1) in
-    (rw (w .0) (v .0), v .1)
-
 -- the tests of refusal 4, in code's form
 pub good-is : (r : Request) {start end : ℕ} → start ≡ rulerStart (r .event) → end ≡ rulerEnd (r .event)
     → ((((leb (r .participation) lastDay && (leb start (r .s) && ltb (r .s) end)) && (ltb (r .s) (r .e) && leb (r .e) end)) && leb (r .n) (r .s)))

@@ -1,6 +1,6 @@
 -- `engine_example::rooms_apart` meets its contract: each way out is a law of `Apart`.
-use Prim.Native.Nat.{_-_}
-use mathlib.Core.Path.{refl}
+use Prim.Native.Nat.{_+_, _-_}
+use mathlib.Core.Path.{refl, ap}
 use native.Mathlib.Omega.{arith}
 use borrow.Author.Needs.{needs}
 use Rattle.method.proofs.Tables.{size-is}
@@ -42,7 +42,7 @@ returns c =
     let a = c .before .before .before .before .before .args in
     let start = c .before .before .before .size .ensures in
     both-agree (a .request) (a .before) (a .today) (a .gap) (a .readings .now) (c .before .before .if1 .taken)
-    (omega (arith, c .if2 .taken, start, c .before .size2 .ensures)) _ refl refl (rw start) refl refl
+    (omega (arith, c .if2 .taken, start, c .before .size2 .ensures)) _ refl refl (ap (λ n. n + a .gap) start) refl refl
 
 returns-2 : tie.Need-returns-2
 returns-2 c =

@@ -1,7 +1,6 @@
 -- `table::offset` meets its contract.
 use native.Mathlib.Omega.{arith}
 use borrow.Author.Needs.{needs}
-use mathlib.Core.Path.{_∙_}
 use Rattle.table.proofs.Extracts.{offset-even, offset-small}
 use Rattle.table.proofs.offset.Statement.{statement}
 use Rattle.table.proofs.offset.Tie as tie
