@@ -10,7 +10,7 @@ PREFIX ?= /usr/local
 FUZZ_SECONDS ?= 600
 FIRST ?= 5000000
 CRATES ?= method vectors
-proved_from := crates.txt $(shell find crates -name '*.rt' -o -name '*.antt' -o -path '*/list/std*')
+proved_from := crates.txt $(shell find crates -name '*.rt' -o -name '*.antt' -o -path '*/program_list/std*')
 version := $(shell sed -n 's/^\#define HP_VERSION "\(.*\)"/\1/p' include/honeyplank.h)
 library := build/lib/libhoneyplank.a build/include/honeyplank.h build/lib/pkgconfig/honeyplank.pc
 program := build/bin/honeyplank-list
@@ -44,7 +44,7 @@ test: ## the gate: everything from nothing; the last line is 'N passed, 0 failed
 	$(call need,rt gcc cargo python3)
 	@tests/gate
 
-part: ## prove some crates and what they are built on, and try their must-fail edits (CRATES='method vectors')
+part: ## prove some crates and what they are built on, and try their must-fail edits (CRATES='method program_vectors')
 	$(call need,rt)
 	rt must-fail $(CRATES)
 
@@ -94,17 +94,17 @@ clean: ## remove what was built
 	rm -rf target build
 
 # rt makes the archive each time, but the program only where its stamp does not stand; a program that is gone or empty has no stamp
-target/staticlib/libhost.a: $(proved_from)
-	$(call prove,staticlib host)
+target/staticlib/libhost_entries.a: $(proved_from)
+	$(call prove,staticlib host_entries)
 	@test -s $@ && touch $@
 
-target/bin/list: $(proved_from)
-	@[ -s $@ ] || rm -f target/stamp/list
-	$(call prove,check list)
+target/bin/program_list: $(proved_from)
+	@[ -s $@ ] || rm -f target/stamp/program_list
+	$(call prove,check program_list)
 	@test -s $@ && touch $@
 
-build/lib/libhoneyplank.a: target/staticlib/libhost.a
-build/bin/honeyplank-list: target/bin/list
+build/lib/libhoneyplank.a: target/staticlib/libhost_entries.a
+build/bin/honeyplank-list: target/bin/program_list
 build/include/honeyplank.h: include/honeyplank.h
 build/lib/libhoneyplank.a build/bin/honeyplank-list build/include/honeyplank.h:
 	@mkdir -p $(@D) && cp $< $@

@@ -1,5 +1,5 @@
 #!/usr/bin/env python3
-"""Makes crates/vectors/stdout, which the program `vectors` has to write: make_stdout.py > crates/vectors/stdout
+"""Makes crates/program_vectors/stdout, which the program `program_vectors` has to write: make_stdout.py > crates/program_vectors/stdout
 
 It shares nothing with the project's code. Weekdays, month lengths and dates are those of Python's datetime. The holidays
 are listed by name, after section 2 of document 003. Easter is worked out as the Church does: the Sunday after the paschal

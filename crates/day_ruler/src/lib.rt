@@ -2,7 +2,7 @@
 ghost use mathlib.Core.Path.{_≡_};
 ghost use Rattle.method.specs.Table.{size as sizeOf};
 ghost use Rattle.method.specs.Ruler.{rulerStart, rulerEnd, against as standsAgainst};
-use numbers::counts;
+use base_numbers::counts;
 
 // How many readings a day has.
 pub fn size(day: u32) -> u32

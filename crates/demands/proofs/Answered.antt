@@ -6,10 +6,10 @@ use mathlib.Core.List.{List, [], _∷_}
 use native.Mathlib.Omega.{arith}
 use lib.ListN.{length, length-map, length-take}
 use borrow.Author.Tests.{ltb-false, le-ltb}
-use Rattle.lists.specs.Lists.{any, member}
-use Rattle.lists.proofs.Bools.{or-none-left, or-none-right}
-use Rattle.calendar.specs.declared.Group.{Group}
-use Rattle.calendar.specs.declared.Group.the-variants.{Weekday, Saturday, HolidayGroup}
+use Rattle.base_lists.specs.Lists.{any, member}
+use Rattle.base_lists.proofs.Bools.{or-none-left, or-none-right}
+use Rattle.calendar_groups.specs.declared.Group.{Group}
+use Rattle.calendar_groups.specs.declared.Group.the-variants.{Weekday, Saturday, HolidayGroup}
 use Rattle.method.specs.declared.Request.{Request}
 use Rattle.method.specs.declared.Refusal.{Refusal}
 use Rattle.method.specs.Table.{Table}
@@ -19,7 +19,7 @@ use Rattle.method.specs.HighXofY.{N, highXofY}
 use Rattle.method.specs.Rules.{methodBy}
 use Rattle.method.specs.Requested.{rulesOf, methodOf}
 use Rattle.method.proofs.Sort.{length-sorted}
-use Rattle.places.proofs.Places.{length-places}
+use Rattle.base_lists.proofs.Places.{length-places}
 use Rattle.demands.specs.Calls.{Call, overTable, ofFile, extract, request, perQuarter, room}
 use Rattle.demands.specs.Rows.{windowOf, chosenOf, NOf, numeratorsOf, dayRows, earlier, rows, applies}
 use Rattle.demands.proofs.Passing.{none-after}

@@ -8,8 +8,8 @@ use native.Mathlib.Omega.{arith}
 use lib.ListN.{length, take, drop, length-append, length-drop}
 use lib.Seq.{take-at, drop-at}
 use borrow.Author.Tests.{eqb-true, eq-eqb}
-use Rattle.lists.specs.Lists.{any, member}
-use Rattle.calendar.specs.Holidays.{group}
+use Rattle.base_lists.specs.Lists.{any, member}
+use Rattle.calendar_groups.specs.Holidays.{group}
 use Rattle.method.specs.declared.Request.{Request}
 use Rattle.method.specs.declared.Refusal.{Refusal}
 use Rattle.method.specs.declared.Refusal.the-variants.{MarginTooShort}
@@ -22,11 +22,11 @@ use Rattle.method.proofs.Replies.{none-early}
 use Rattle.method.proofs.Settled.{settled-margin}
 use Rattle.method.proofs.Extract.{none-of-table, verdict-stable, verdict-margin, reach-within, reach-same, reach-fewest}
 use Rattle.method.proofs.NoPart.{no-part}
-use Rattle.answer.specs.declared.Given.the-variants.{Answered, Refused}
-use Rattle.answer.specs.declared.Answer.{Answer}
-use Rattle.answer.specs.Answer.{answerOf}
+use Rattle.engine_answer.specs.declared.Given.the-variants.{Answered, Refused}
+use Rattle.engine_answer.specs.declared.Answer.{Answer}
+use Rattle.engine_answer.specs.Answer.{answerOf}
 use Rattle.engine_refusals.proofs.Replies.{one-outcome}
-use Rattle.baseline.proofs.Laws.{sound, never-above}
+use Rattle.table_baseline.proofs.Laws.{sound, never-above}
 use Rattle.demands.specs.Calls.{Call, extract, request, stand, room, Gets, result, reported}
 use Rattle.demands.specs.Rows.{earlier, rows, applies, answerOver, numeratorsOf}
 use Rattle.demands.specs.Demands.{quarters, Demand1, Demand2, Settled, Demand3, NoPart, Demands}

@@ -8,9 +8,9 @@ use lib.ListN.{length, replicate}
 use lib.Dec.{ltb, eqb}
 use lib.IntN.{ℤ, pos}
 use borrow.Author.Tests.{eq-eqb}
-use Rattle.lists.specs.Lists.{all}
-use Rattle.lists.proofs.Unique.{unique}
-use Rattle.calendar.specs.Holidays.{group}
+use Rattle.base_lists.specs.Lists.{all}
+use Rattle.base_lists.proofs.Unique.{unique}
+use Rattle.calendar_groups.specs.Holidays.{group}
 use Rattle.method.specs.declared.Request.{Request}
 use Rattle.method.specs.declared.Refusal.{Refusal}
 use Rattle.method.specs.declared.Refusal.the-variants.{BadFile, NoEvent, BadTable, BadMark, BadReading, BadRequest, NotHeld}
@@ -21,16 +21,16 @@ use Rattle.method.specs.Requested.{methodOf}
 use Rattle.method.specs.Verdict.{Reply, refused, answered, number, goodRequest, tableRefusals, requestRefusals, closing, firstOf, methodology, verdict}
 use Rattle.method.specs.Verdict.{written}
 use Rattle.method.proofs.Replies.{other, none-early}
-use Rattle.answer.specs.declared.Answer.{Answer}
-use Rattle.answer.specs.Answer.{answerOf}
-use Rattle.answer.proofs.Laws.{answers-unique}
-use Rattle.bytewise.specs.Bytewise.{bytesWritten}
-use Rattle.bytewise.proofs.Laws.{file-answers-unique}
-use Rattle.bytewise.proofs.Rooms.{room-enough}
-use Rattle.entry.specs.Entry.{fileReply}
-use Rattle.telling.specs.Names.{byName, refusalRow, rowFrom}
-use Rattle.telling.specs.Telling.{answerRow, toldBy}
-use Rattle.host.specs.Host.{mostBytes, FileCall, TableCall}
+use Rattle.engine_answer.specs.declared.Answer.{Answer}
+use Rattle.engine_answer.specs.Answer.{answerOf}
+use Rattle.engine_answer.proofs.Laws.{answers-unique}
+use Rattle.file_baseline.specs.Bytewise.{bytesWritten}
+use Rattle.file_baseline.proofs.Laws.{file-answers-unique}
+use Rattle.file_baseline.proofs.Rooms.{room-enough}
+use Rattle.file_baseline.specs.Entry.{fileReply}
+use Rattle.host_telling.specs.Names.{byName, refusalRow, rowFrom}
+use Rattle.host_telling.specs.Telling.{answerRow, toldBy}
+use Rattle.host_entries.specs.Host.{mostBytes, FileCall, TableCall}
 use Rattle.demands.specs.Calls.{Call, overTable, ofFile, extract, request, room, result}
 use Rattle.demands.specs.Rows.{fileRows}
 use Rattle.demands.specs.Demands.{Demands}

@@ -5,8 +5,8 @@ use mathlib.Core.Bool.{Bool, true, false, cond, _||_, false≢true}
 use mathlib.Core.List.{List, [], _∷_}
 use mathlib.Core.Logic.{⊎-elim}
 use lib.ListN.{getD, take}
-use Rattle.lists.specs.Lists.{any}
-use Rattle.lists.proofs.Bools.{bool-cases, or-none-left, or-none-right}
+use Rattle.base_lists.specs.Lists.{any}
+use Rattle.base_lists.proofs.Bools.{bool-cases, or-none-left, or-none-right}
 use Rattle.method.specs.declared.Refusal.{Refusal}
 use Rattle.method.specs.Verdict.{Reply, Answer, refused, answered, firstOf}
 use Rattle.engine_refusals.proofs.Replies.{never-both}

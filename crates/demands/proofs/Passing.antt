@@ -6,9 +6,9 @@ use mathlib.Core.List.{List, [], _∷_, _++_}
 use mathlib.Core.Logic.{⊎-elim}
 use lib.Dec.{eqb}
 use lib.ListN.{length}
-use Rattle.lists.specs.Lists.{all, any, member}
-use Rattle.lists.proofs.Bools.{bool-cases, clash, or-none-left, or-none-right}
-use Rattle.calendar.specs.Holidays.{group}
+use Rattle.base_lists.specs.Lists.{all, any, member}
+use Rattle.base_lists.proofs.Bools.{bool-cases, clash, or-none-left, or-none-right}
+use Rattle.calendar_groups.specs.Holidays.{group}
 use Rattle.method.specs.declared.Refusal.{Refusal}
 use Rattle.method.specs.Table.{Table, held, history, isExtract}
 use Rattle.method.specs.Verdict.{Reply, answered, firstOf, verdict, wellFormed}

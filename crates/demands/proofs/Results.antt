@@ -7,8 +7,8 @@ use native.Mathlib.Omega.{arith}
 use native.Mathlib.Nat.{one-mul}
 use lib.ListN.{length, drop}
 use lib.Dec.{ltb, eqb}
-use Rattle.lists.specs.Lists.{member}
-use Rattle.calendar.specs.Holidays.{group}
+use Rattle.base_lists.specs.Lists.{member}
+use Rattle.calendar_groups.specs.Holidays.{group}
 use Rattle.method.specs.declared.Request.{Request}
 use Rattle.method.specs.declared.Refusal.{Refusal}
 use Rattle.method.specs.declared.Refusal.the-variants.{BadFile, NoEvent, BadTable, BadMark, BadReading, BadRequest, NotHeld}
@@ -17,17 +17,17 @@ use Rattle.method.specs.Table.{Table}
 use Rattle.method.specs.Verdict.{Reply, Answer as Numbers, refused, answered, number, firstOf, verdict, written}
 use Rattle.method.specs.Demands.{isMargin, isSettled, reported as reportedIn}
 use Rattle.engine_refusals.proofs.FirstRefusal.{first-append}
-use Rattle.record.specs.Reader.{requestAt}
-use Rattle.record.proofs.Back.{reading-length}
-use Rattle.answer.specs.declared.Given.the-variants.{Answered, Refused}
-use Rattle.answer.specs.declared.Answer.{Answer}
-use Rattle.answer.specs.Answer.{answerOf, Answers}
-use Rattle.bytewise.specs.Bytewise.{FileAnswers, bytesWritten}
-use Rattle.bytewise.proofs.Laws.{below-four}
-use Rattle.entry.specs.Entry.{fileReply}
+use Rattle.file_record.specs.Reader.{requestAt}
+use Rattle.engine_answer.specs.declared.Given.the-variants.{Answered, Refused}
+use Rattle.engine_answer.specs.declared.Answer.{Answer}
+use Rattle.engine_answer.specs.Answer.{answerOf, Answers}
+use Rattle.file_baseline.specs.Bytewise.{FileAnswers, bytesWritten}
+use Rattle.file_baseline.proofs.Laws.{below-four}
+use Rattle.file_baseline.specs.Entry.{fileReply}
 use Rattle.demands.specs.Calls.{Call, overTable, ofFile, extract, request, perQuarter, stand, room, Gets, result, reported}
 use Rattle.demands.specs.Rows.{fileRows, tableRows, requestRows, dayRows, earlier, rows, answerOver}
 use Rattle.demands.proofs.Rows.{verdict-rows, file-rows}
+use Rattle.base_bytes.proofs.Bytes.{reading-length}
 
 -- the reply of a call by its rows
 abbrev pub replyOf : Call → List ℕ → Reply

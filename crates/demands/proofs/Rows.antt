@@ -6,11 +6,10 @@ use mathlib.Core.List.{List, [], _∷_, map}
 use mathlib.Core.Option.{none, some}
 use lib.ListN.{length}
 use lib.Dec.{leb, ltb, eqb}
-use Rattle.dates.specs.Days.{lastDay}
-use Rattle.calendar.specs.Holidays.{group}
+use Rattle.calendar_dates.specs.Days.{lastDay}
+use Rattle.calendar_groups.specs.Holidays.{group}
 use Rattle.method.specs.declared.Request.{Request}
-use Rattle.method.specs.declared.Refusal.the-variants.{BadFile, NoEvent}
-use Rattle.method.specs.declared.Refusal.the-variants.{MarginTooShort, TooFew, NoAdjustmentWindow}
+use Rattle.method.specs.declared.Refusal.the-variants.{BadFile, NoEvent, MarginTooShort, TooFew, NoAdjustmentWindow}
 use Rattle.method.specs.Table.{Table, heldDays, offset, history, shaped, isExtract, goodMark, goodReading, missing}
 use Rattle.method.specs.Ruler.{rulerStart, rulerEnd}
 use Rattle.method.specs.Method.{short, few, chose, daysOf, wholeReach, isShort, outcome}
@@ -20,10 +19,10 @@ use Rattle.method.specs.HighXofY.{highXofY}
 use Rattle.method.specs.Requested.{rulesOf, methodOf}
 use Rattle.method.specs.Verdict.{Reply, refused, answered, tableRefusals, goodRequest, requestRefusals, closing, firstOf, methodology, verdict}
 use Rattle.engine_baseline.proofs.Laws.{numerators-are}
-use Rattle.record.specs.declared.EventAt.the-variants.{Event, NoEvent as NoneThere}
-use Rattle.record.specs.declared.Read.the-variants.{File, Refused}
-use Rattle.record.specs.Reader.{isPF, goodEnd, eventsIn, shapeIn, readFile, tableIn, requestAt, eventAtPlace}
-use Rattle.entry.specs.Entry.{replyTo, fileReply}
+use Rattle.file_record.specs.declared.EventAt.the-variants.{Event, NoEvent as NoneThere}
+use Rattle.file_record.specs.declared.Read.the-variants.{File, Refused}
+use Rattle.file_record.specs.Reader.{isPF, goodEnd, eventsIn, shapeIn, readFile, tableIn, requestAt, eventAtPlace}
+use Rattle.file_baseline.specs.Entry.{replyTo, fileReply}
 use Rattle.demands.specs.Calls.{ofFile}
 use Rattle.demands.specs.Rows.{chosenOf, windowOf, reachOf, endOf, AOf, BOf, NOf, numeratorsOf, answerOver}
 use Rattle.demands.specs.Rows.{fileRows, tableRows, requestRows, dayRows}

@@ -7,10 +7,10 @@ use mathlib.Core.Logic.{⊎-elim}
 use native.Mathlib.Omega.{arith}
 use lib.Dec.{leb, ltb, eqb}
 use borrow.Author.Tests.{lt-ltb, le-ltb, le-leb, lt-leb, ne-eqb}
-use Rattle.lists.specs.Lists.{all, any}
-use Rattle.lists.proofs.Bools.{lt-or-le}
-use Rattle.calendar.specs.declared.Group.{Group}
-use Rattle.calendar.specs.declared.Group.the-variants.{Weekday, Saturday, HolidayGroup}
+use Rattle.base_lists.specs.Lists.{all, any}
+use Rattle.base_lists.proofs.Bools.{lt-or-le}
+use Rattle.calendar_groups.specs.declared.Group.{Group}
+use Rattle.calendar_groups.specs.declared.Group.the-variants.{Weekday, Saturday, HolidayGroup}
 use Rattle.method.specs.HighXofY.{N}
 
 pub below-not : (a b : ℕ) → ltb a b ≡ not (leb b a)

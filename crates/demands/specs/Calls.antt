@@ -5,16 +5,16 @@ use lib.ListN.{length, getD}
 use Rattle.method.specs.declared.Request.{Request}
 use Rattle.method.specs.Table.{Table}
 use Rattle.method.specs.Verdict.{Reply, carries}
-use Rattle.record.specs.Layout.{readingBytes}
-use Rattle.record.specs.Reader.{tableIn, requestAt}
-use Rattle.answer.specs.declared.Given.{Given}
-use Rattle.answer.specs.declared.Given.the-variants.{Answered, Refused}
-use Rattle.answer.specs.declared.Answer.{Answer}
-use Rattle.answer.specs.Answer.{Answers}
-use Rattle.bytewise.specs.Bytewise.{FileAnswers}
-use Rattle.telling.specs.Telling.{numberOf}
+use Rattle.file_record.specs.Reader.{tableIn, requestAt}
+use Rattle.engine_answer.specs.declared.Given.{Given}
+use Rattle.engine_answer.specs.declared.Given.the-variants.{Answered, Refused}
+use Rattle.engine_answer.specs.declared.Answer.{Answer}
+use Rattle.engine_answer.specs.Answer.{Answers}
+use Rattle.file_baseline.specs.Bytewise.{FileAnswers}
+use Rattle.host_telling.specs.Telling.{numberOf}
+use Rattle.base_bytes.specs.Bytes.{readingBytes}
 
--- a request over a lent table (`baseline::baseline`, and `hp_baseline_table` for C), or the event at a place of a file (`entry::file_baseline`, and
+-- a request over a lent table (`table_baseline::baseline`, and `hp_baseline_table` for C), or the event at a place of a file (`file_baseline::file_baseline`, and
 -- `hp_baseline` for C)
 pub data Call : Type 0 where
   overTable : Table → Request → Call

@@ -7,8 +7,8 @@ use mathlib.Core.Bool.{true, false}
 use mathlib.Core.List.{List, [], _∷_}
 use lib.ListN.{length, take, drop}
 use lib.Dec.{leb}
-use Rattle.lists.specs.Lists.{all, any, member}
-use Rattle.calendar.specs.Holidays.{group}
+use Rattle.base_lists.specs.Lists.{all, any, member}
+use Rattle.calendar_groups.specs.Holidays.{group}
 use Rattle.method.specs.declared.Request.{Request}
 use Rattle.method.specs.declared.Refusal.{Refusal}
 use Rattle.method.specs.declared.Refusal.the-variants.{MarginTooShort}
@@ -19,9 +19,9 @@ use Rattle.method.specs.Ruler.{rulerStart}
 use Rattle.method.specs.Requested.{methodOf}
 use Rattle.method.specs.Verdict.{answered, refused, firstOf, methodology, verdict}
 use Rattle.method.specs.Demands.{LongerFormed, heldBefore, cutTo, Undecided, Parted}
-use Rattle.choose.specs.Choice.{inFive}
-use Rattle.answer.specs.declared.Given.the-variants.{Answered, Refused}
-use Rattle.answer.specs.declared.Answer.{Answer}
+use Rattle.engine_choice.specs.Choice.{inFive}
+use Rattle.engine_answer.specs.declared.Given.the-variants.{Answered, Refused}
+use Rattle.engine_answer.specs.declared.Answer.{Answer}
 use Rattle.demands.specs.Calls.{Call, extract, request, perQuarter, stand, room, Gets, result, reported}
 use Rattle.demands.specs.Rows.{fileRows, tableRows, earlier, rows, applies, FirstIn, answerOver, numeratorsOf, chosenOf, reachOf, AOf, BOf, NOf}
 

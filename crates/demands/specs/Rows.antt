@@ -5,9 +5,9 @@ use mathlib.Core.Bool.{Bool, true, false, not, cond, _&&_, _||_}
 use mathlib.Core.List.{List, [], _∷_, _++_, map}
 use lib.ListN.{length, getD, take}
 use lib.Dec.{leb, ltb, eqb}
-use Rattle.lists.specs.Lists.{any, leading, leastOf}
-use Rattle.dates.specs.Days.{lastDay}
-use Rattle.calendar.specs.Holidays.{group}
+use Rattle.base_lists.specs.Lists.{any, leading, leastOf, places}
+use Rattle.calendar_dates.specs.Days.{lastDay}
+use Rattle.calendar_groups.specs.Holidays.{group}
 use Rattle.method.specs.declared.Request.{Request}
 use Rattle.method.specs.declared.Refusal.{Refusal}
 use Rattle.method.specs.declared.Refusal.the-variants.{BadFile, NoEvent, BadTable, BadMark, BadReading, BadRequest, NotHeld}
@@ -16,11 +16,11 @@ use Rattle.method.specs.Table.{Table, Day, heldDays, offset, dayOf, held, histo
 use Rattle.method.specs.Ruler.{rulerStart, rulerEnd}
 use Rattle.method.specs.Relevant.{relevantDays}
 use Rattle.method.specs.Method.{eligibles, window, chosen, reach, daysOf}
-use Rattle.method.specs.Adjustment.{ruler, adjustmentEnd, places, S, A, B, adjustment}
+use Rattle.method.specs.Adjustment.{ruler, adjustmentEnd, S, A, B, adjustment}
 use Rattle.method.specs.HighXofY.{Y, N}
 use Rattle.method.specs.Requested.{methodOf}
 use Rattle.method.specs.Verdict.{Answer}
-use Rattle.record.specs.Reader.{isPF, goodEnd, eventsIn}
+use Rattle.file_record.specs.Reader.{isPF, goodEnd, eventsIn}
 use Rattle.demands.specs.Calls.{Call, overTable, ofFile, extract, request, perQuarter}
 
 -- the methodology of an extract and a request: window, chosen days and reach; the ruler, where the adjustment window ends, A and B

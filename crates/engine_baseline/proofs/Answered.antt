@@ -10,22 +10,23 @@ use lib.ListN.{length, length-map}
 use lib.IntN.{ℤ}
 use lib.Dec.{eqb}
 use borrow.Author.Tests.{eqb-false}
-use Rattle.calendar.specs.declared.Group.{Group}
+use Rattle.calendar_groups.specs.declared.Group.{Group}
 use Rattle.method.specs.declared.Request.{Request}
 use Rattle.method.specs.Table.{Day, History}
 use Rattle.method.specs.Method.{Method, short, few, chose, outcome, window, chosen, reach, isShort, wholeReach, daysOf}
-use Rattle.method.specs.Adjustment.{ruler, places, adjustmentEnd, A, B, S, adjustment, unfloored, Baseline, floored, baseline, baselineAt}
+use Rattle.method.specs.Adjustment.{ruler, adjustmentEnd, A, B, S, adjustment, unfloored, Baseline, floored, baseline, baselineAt}
 use Rattle.method.specs.HighXofY.{N}
 use Rattle.method.specs.Rules.{methodBy}
 use Rattle.method.specs.Requested.{methodOf}
 use Rattle.method.specs.Verdict.{Answer, answered, requestRefusals, closing, methodology}
-use Rattle.places.proofs.Places.{length-over}
+use Rattle.base_lists.proofs.Places.{length-over}
 use Rattle.engine_refusals.specs.declared.Tested.the-variants.{Passed}
 use Rattle.engine_refusals.specs.Tests.{tested}
 use Rattle.engine_refusals.proofs.FirstRefusal.{GoodRequest, good-request, Fits, request-passed}
 use Rattle.engine_refusals.proofs.Replies.{never-both, answered-past}
-use Rattle.choose.proofs.Requested.{chosen-five}
+use Rattle.engine_choice.proofs.Requested.{chosen-five}
 use Rattle.engine_baseline.proofs.HighXofY.{finish-is, chosen-size}
+use Rattle.base_lists.specs.Lists.{places}
 
 -- an answer is of chosen days and of what was worked out of them
 record Closed (a : Answer) (tooFew : Bool) (days : List ℕ) (worked : Option Baseline) : Type 0 where

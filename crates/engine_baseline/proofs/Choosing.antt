@@ -8,9 +8,9 @@ use native.Mathlib.Omega.{arith}
 use lib.Dec.{eqb}
 use lib.ListN.{length, take, drop, replicate, length-map}
 use lib.Seq.{take-take, take-append-seam}
-use Rattle.lists.specs.Lists.{keep}
-use Rattle.lists.proofs.Bools.{both}
-use Rattle.calendar.specs.declared.Group.{Group}
+use Rattle.base_lists.specs.Lists.{keep}
+use Rattle.base_lists.proofs.Bools.{both}
+use Rattle.calendar_groups.specs.declared.Group.{Group}
 use Rattle.method.specs.declared.Request.{Request}
 use Rattle.method.specs.Table.{Day, History, held, eventBit, outageBit}
 use Rattle.method.specs.Adjustment.{Baseline, baseline}
@@ -23,11 +23,11 @@ use Rattle.method.specs.Method.{reach, isShort}
 use Rattle.method.proofs.HighXofY.{lawful}
 use Rattle.method.proofs.Stable.{yesterday-held}
 use Rattle.method.specs.Verdict.{closing}
-use Rattle.choose.specs.declared.Chosen.{Chosen}
-use Rattle.choose.specs.declared.Choosing.the-variants.{Short, Few, Days}
-use Rattle.choose.specs.declared.Choice.{Choice}
-use Rattle.choose.specs.Choice.{choiceOf, noDays, inFive}
-use Rattle.choose.proofs.Requested.{chosen-five}
+use Rattle.engine_choice.specs.declared.Chosen.{Chosen}
+use Rattle.engine_choice.specs.declared.Choosing.the-variants.{Short, Few, Days}
+use Rattle.engine_choice.specs.declared.Choice.{Choice}
+use Rattle.engine_choice.specs.Choice.{choiceOf, noDays, inFive}
+use Rattle.engine_choice.proofs.Requested.{chosen-five}
 use Rattle.engine_baseline.specs.Engine.{withDays}
 use Rattle.engine_baseline.specs.Steps.{Fit, Ready, replyOf}
 use Rattle.engine_baseline.proofs.HighXofY.{order-is, finish-is, chosen-size}

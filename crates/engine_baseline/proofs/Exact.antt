@@ -9,23 +9,23 @@ use borrow.Author.Tests.{leb-true, le-leb}
 use lib.Dec.{leb}
 use lib.ListN.{length, getD}
 use lib.IntN.{ℤ}
-use Rattle.lists.specs.Lists.{all, sumOf}
-use Rattle.lists.proofs.All.{all-at, all-append}
-use Rattle.calendar.specs.declared.Group.{Group}
+use Rattle.base_lists.specs.Lists.{all, sumOf, places}
+use Rattle.base_lists.proofs.All.{all-at, all-append}
+use Rattle.calendar_groups.specs.declared.Group.{Group}
 use Rattle.method.specs.declared.Request.{Request}
 use Rattle.method.specs.Table.{Day, History, goodReading}
 use Rattle.method.specs.Ruler.{against}
-use Rattle.method.specs.Adjustment.{places, S, A, B, unfloored, floored}
+use Rattle.method.specs.Adjustment.{S, A, B, unfloored, floored}
 use Rattle.method.specs.Eligible.{complete}
 use Rattle.method.specs.Rules.{methodBy}
 use Rattle.method.specs.Requested.{methodOf}
 use Rattle.method.specs.Verdict.{Answer, Reply, refused, answered, methodology}
 use Rattle.method.proofs.HighXofY.{lawful}
 use Rattle.method.proofs.Stable.{yesterday-held}
-use Rattle.places.proofs.Places.{over-same}
-use Rattle.window.proofs.Laws.{all-in-range, window-most, adjustment-holds}
-use Rattle.numerators.proofs.Signed.{numerator-is}
-use Rattle.choose.proofs.Requested.{chosen-five}
+use Rattle.base_lists.proofs.Places.{over-same}
+use Rattle.engine_window.proofs.Laws.{all-in-range, window-most, adjustment-holds}
+use Rattle.engine_numerators.proofs.Signed.{numerator-is}
+use Rattle.engine_choice.proofs.Requested.{chosen-five}
 use Rattle.engine_baseline.specs.Engine.{withDays, inWords}
 use Rattle.engine_baseline.specs.Store.{GoodDays}
 use Rattle.engine_baseline.proofs.Choosing.{Every, Whole, chosen-whole, chosen-again}

@@ -4,8 +4,9 @@ use mathlib.Core.Path.{_≡_, refl}
 use mathlib.Core.List.{List, [], _∷_, map}
 use Rattle.method.specs.declared.Request.{Request}
 use Rattle.method.specs.Table.{Day}
-use Rattle.method.specs.Adjustment.{places, S, adjustment, unfloored, floored, baselineAt}
-use Rattle.numerators.proofs.Signed.{numerator-is}
+use Rattle.method.specs.Adjustment.{S, adjustment, unfloored, floored, baselineAt}
+use Rattle.engine_numerators.proofs.Signed.{numerator-is}
+use Rattle.base_lists.specs.Lists.{places}
 
 -- a numerator over 12N is max(0, initial + adjustment), that is max(0, S/N + (N·A - B)/(12N)): cut-off subtraction floors it at zero
 pub numerators-are : (r : Request) (n : ℕ) (chosen : List (ℕ × Day)) (a b : ℕ)

@@ -13,36 +13,36 @@ use lib.Signed.{mag}
 use mir.Syntax.{w64}
 use mir.Val.{toZ, ofZ}
 use mir.ValLaws.{toZ-ofZ}
-use Rattle.lists.specs.Lists.{all}
-use Rattle.lists.proofs.Maps.{map-take}
-use Rattle.calendar.specs.declared.Group.{Group}
+use Rattle.base_lists.specs.Lists.{all, places}
+use Rattle.base_lists.proofs.Maps.{map-take}
+use Rattle.calendar_groups.specs.declared.Group.{Group}
 use Rattle.method.specs.declared.Request.{Request}
 use Rattle.method.specs.declared.Refusal.{Refusal}
 use Rattle.method.specs.declared.Refusal.the-variants.{NoAdjustmentWindow}
 use Rattle.method.specs.Table.{Day, History, size}
 use Rattle.method.specs.Ruler.{against}
-use Rattle.method.specs.Adjustment.{places, ruler, adjustmentEnd, A, B, S, adjustment, unfloored, floored, baselineAt, baseline}
+use Rattle.method.specs.Adjustment.{ruler, adjustmentEnd, A, B, S, adjustment, unfloored, floored, baselineAt, baseline}
 use Rattle.method.specs.Method.{outcome}
 use Rattle.method.specs.Requested.{methodOf}
 use Rattle.method.specs.Verdict.{Reply, refused, answered, requestRefusals, closing, methodology, written}
 use Rattle.method.proofs.Tables.{size-is}
 use Rattle.method.proofs.Ruler.{start-size, quarter-from}
-use Rattle.rooms.specs.declared.Directory.{Directory}
-use Rattle.rooms.specs.Rooms.{readingsAt, roomDay, roomHistory}
-use Rattle.places.proofs.Places.{length-over, over-same, over-shift, over-list}
-use Rattle.quarters.specs.Quarters.{quarterSum}
-use Rattle.numerators.specs.declared.Places.{Places}
-use Rattle.numerators.specs.Numerators.{windowSums, placedOf, chosenAt, adjustmentOf, numeratorsOf, Written}
-use Rattle.numerators.proofs.Signed.{mag-difference}
-use Rattle.numerators.proofs.Windows.{small, part-all, ruler-most, windows-most}
-use Rattle.numerators.proofs.Standing.{S-placed, B-placed}
-use Rattle.choose.specs.declared.Chosen.{Chosen}
+use Rattle.engine_rooms.specs.declared.Directory.{Directory}
+use Rattle.engine_rooms.specs.Rooms.{readingsAt, roomDay, roomHistory}
+use Rattle.base_lists.proofs.Places.{length-over, over-same, over-shift, over-list}
+use Rattle.engine_numerators.specs.Quarters.{quarterSum}
+use Rattle.engine_numerators.specs.declared.Places.{Places}
+use Rattle.engine_numerators.specs.Numerators.{windowSums, placedOf, chosenAt, adjustmentOf, numeratorsOf, Written}
+use Rattle.engine_numerators.proofs.Signed.{mag-difference}
+use Rattle.engine_numerators.proofs.Windows.{small, part-all, ruler-most, windows-most}
+use Rattle.engine_numerators.proofs.Standing.{S-placed, B-placed}
+use Rattle.engine_choice.specs.declared.Chosen.{Chosen}
 use Rattle.engine_refusals.specs.declared.Tested.the-variants.{Passed, Failed}
 use Rattle.engine_refusals.specs.Tests.{tested}
 use Rattle.engine_refusals.proofs.FirstRefusal.{GoodRequest, good-request, request-passed, first-failed, first-passed}
-use Rattle.answer.specs.declared.Answer.{Answer}
-use Rattle.answer.specs.declared.Given.the-variants.{Answered}
-use Rattle.answer.specs.Answer.{answerOf, Answers}
+use Rattle.engine_answer.specs.declared.Answer.{Answer}
+use Rattle.engine_answer.specs.declared.Given.the-variants.{Answered}
+use Rattle.engine_answer.specs.Answer.{answerOf, Answers}
 use Rattle.engine_baseline.specs.Engine.{withDays, inWords, overRooms}
 use Rattle.engine_baseline.specs.Steps.{startOf, Fit, Ready, replyOf}
 

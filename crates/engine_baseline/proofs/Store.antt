@@ -5,8 +5,8 @@ use mathlib.Core.Bool.{false}
 use mathlib.Core.List.{List}
 use mathlib.Core.Logic.{⊎-elim}
 use mathlib.Core.Option.{Option}
-use Rattle.lists.proofs.Bools.{bool-cases}
-use Rattle.calendar.specs.declared.Group.{Group}
+use Rattle.base_lists.proofs.Bools.{bool-cases}
+use Rattle.calendar_groups.specs.declared.Group.{Group}
 use Rattle.method.specs.declared.Request.{Request}
 use Rattle.method.specs.Table.{Day, History, held}
 use Rattle.method.specs.Adjustment.{Baseline}
@@ -14,10 +14,10 @@ use Rattle.method.specs.Method.{Method, chosen}
 use Rattle.method.specs.Requested.{methodOf}
 use Rattle.method.specs.Verdict.{Answer, Reply, refused, answered, requestRefusals, firstOf, methodology}
 use Rattle.method.proofs.Stable.{window-of-seen}
-use Rattle.rooms.specs.declared.Directory.{Directory}
-use Rattle.rooms.specs.Rooms.{roomHistory}
-use Rattle.rooms.specs.Agree.{Agree}
-use Rattle.choose.proofs.Rooms.{rooms-held, rooms-seen, rooms-outcome}
+use Rattle.engine_rooms.specs.declared.Directory.{Directory}
+use Rattle.engine_rooms.specs.Rooms.{roomHistory}
+use Rattle.engine_rooms.specs.Agree.{Agree}
+use Rattle.engine_choice.proofs.Rooms.{rooms-held, rooms-seen, rooms-outcome}
 use Rattle.engine_baseline.specs.Engine.{withDays, inWords, overRooms}
 use Rattle.engine_baseline.specs.Store.{GoodDays, Store}
 use Rattle.engine_baseline.proofs.Choosing.{chosen-again}

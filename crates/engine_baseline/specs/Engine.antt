@@ -1,13 +1,14 @@
 -- The baseline over rooms: what the methodology gives over the history that a directory and lent readings are, whatever they hold.
 use Prim.Native.Nat.{ℕ, _-_, _%_, _^_}
 use mathlib.Core.List.{List, map}
-use Rattle.calendar.specs.declared.Group.{Group}
+use Rattle.calendar_groups.specs.declared.Group.{Group}
 use Rattle.method.specs.declared.Request.{Request}
 use Rattle.method.specs.Table.{Day, History}
-use Rattle.method.specs.Adjustment.{places, S, unfloored, floored}
+use Rattle.method.specs.Adjustment.{S, unfloored, floored}
 use Rattle.method.specs.Verdict.{Reply, refused, answered, methodology}
-use Rattle.rooms.specs.declared.Directory.{Directory}
-use Rattle.rooms.specs.Rooms.{roomHistory}
+use Rattle.engine_rooms.specs.declared.Directory.{Directory}
+use Rattle.engine_rooms.specs.Rooms.{roomHistory}
+use Rattle.base_lists.specs.Lists.{places}
 
 -- days, each with what a history holds of it
 unfoldable pub withDays : History Day → List ℕ → List (ℕ × Day)

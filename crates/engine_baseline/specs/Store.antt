@@ -3,14 +3,14 @@ use Prim.Native.Nat.{ℕ}
 use mathlib.Core.Path.{_≡_}
 use mathlib.Core.Bool.{true}
 use mathlib.Core.List.{List}
-use Rattle.lists.specs.Lists.{all}
-use Rattle.calendar.specs.declared.Group.{Group}
+use Rattle.base_lists.specs.Lists.{all}
+use Rattle.calendar_groups.specs.declared.Group.{Group}
 use Rattle.method.specs.declared.Request.{Request}
 use Rattle.method.specs.Table.{Day, History, held, goodReading}
 use Rattle.method.specs.Verdict.{methodology}
-use Rattle.rooms.specs.declared.Directory.{Directory}
-use Rattle.rooms.specs.Rooms.{roomHistory}
-use Rattle.rooms.specs.Agree.{Agree}
+use Rattle.engine_rooms.specs.declared.Directory.{Directory}
+use Rattle.engine_rooms.specs.Rooms.{roomHistory}
+use Rattle.engine_rooms.specs.Agree.{Agree}
 use Rattle.engine_baseline.specs.Engine.{inWords, overRooms}
 
 -- no held day has a reading that refusal 3 would turn away

@@ -1,22 +1,22 @@
 // The baseline over any directory of rooms and any lent readings: refusals 4 to 10, or the answer. A table, a ring and a shared store call it
 // with their own directory.
 ghost use lib.ListN.{length};
-ghost use Rattle.calendar.specs.Holidays.{group};
+ghost use Rattle.calendar_groups.specs.Holidays.{group};
 ghost use Rattle.method.specs.Method.{outcome};
 ghost use Rattle.method.specs.Requested.{methodOf};
 ghost use Rattle.method.specs.Verdict.{closing};
-ghost use Rattle.rooms.specs.Rooms.{roomHistory};
-ghost use Rattle.answer.specs.Answer.{Answers};
+ghost use Rattle.engine_rooms.specs.Rooms.{roomHistory};
+ghost use Rattle.engine_answer.specs.Answer.{Answers};
 ghost use Rattle.engine_baseline.specs.Engine.{inWords, overRooms};
 ghost use Rattle.engine_baseline.specs.Steps.{Fit, Ready, replyOf};
-use answer::Answer;
-use answer::Given;
-use choose::Choosing;
-use choose::Chosen;
+use engine_answer::Answer;
+use engine_answer::Given;
+use engine_choice::Choosing;
+use engine_choice::Chosen;
 use engine_refusals::Tested;
+use engine_rooms::Directory;
 use method::Refusal;
 use method::Request;
-use rooms::Directory;
 
 // Days are chosen: refusal 10, or the answer, with the numerators in the output.
 fn finish(
@@ -30,17 +30,17 @@ fn finish(
     ensures { λ r. ⌜ Answers (inWords request (roomHistory request rooms (now (readings .entry))) (replyOf request (roomHistory request rooms (now (readings .entry))) chosen)) r (now (out .entry)) (now (out .exit)) ⌝ }
 {
     let event = request.event;
-    let yesterday = rooms::readings_at(readings, rooms.at[1], day_ruler::size(event - 1));
-    let today = rooms::readings_at(readings, rooms.at[0], day_ruler::size(event));
-    let end = window::adjustment_end(request, yesterday, today);
+    let yesterday = engine_rooms::readings_at(readings, rooms.at[1], day_ruler::size(event - 1));
+    let today = engine_rooms::readings_at(readings, rooms.at[0], day_ruler::size(event));
+    let end = engine_window::adjustment_end(request, yesterday, today);
     if end == 0 {
-        return answer::refuse(Refusal::NoAdjustmentWindow(chosen.reach));
+        return engine_answer::refuse(Refusal::NoAdjustmentWindow(chosen.reach));
     }
     let days = chosen.days;
-    let places = numerators::placed(request, rooms, days, chosen.count, end);
+    let places = engine_numerators::placed(request, rooms, days, chosen.count, end);
     let length = (request.e - request.s) as usize;
     let part = &mut out[..length];
-    let adjustment = numerators::write(readings, places, yesterday, today, part);
+    let adjustment = engine_numerators::write(readings, places, yesterday, today, part);
     Answer {
         given: Given::Answered,
         chosen: chosen,
@@ -54,11 +54,11 @@ fn choose_days(request: Request, rooms: Directory, readings: &[u32], out: &mut [
     requires { ⌜ Fit request (roomHistory request rooms (now readings)) (length (now out)) ⌝ }
     ensures { λ r. ⌜ Answers (inWords request (roomHistory request rooms (now (readings .entry))) (closing (outcome (methodOf group request) (roomHistory request rooms (now (readings .entry)))))) r (now (out .entry)) (now (out .exit)) ⌝ }
 {
-    let choice = choose::choose(request, rooms, readings);
+    let choice = engine_choice::choose(request, rooms, readings);
     let choosing = choice.choosing;
     match choosing {
-        Choosing::Short(days) => answer::refuse(Refusal::MarginTooShort(days)),
-        Choosing::Few { size, reach } => answer::refuse(Refusal::TooFew {
+        Choosing::Short(days) => engine_answer::refuse(Refusal::MarginTooShort(days)),
+        Choosing::Few { size, reach } => engine_answer::refuse(Refusal::TooFew {
             size: size,
             reach: reach,
         }),
@@ -80,7 +80,7 @@ pub fn baseline_over(
 {
     let of_request = engine_refusals::of_request(request, rooms, out.len());
     match of_request {
-        Tested::Failed(refusal) => answer::refuse(refusal),
+        Tested::Failed(refusal) => engine_answer::refuse(refusal),
         Tested::Passed => choose_days(request, rooms, readings, out),
     }
 }

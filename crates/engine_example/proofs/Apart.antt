@@ -11,9 +11,9 @@ use lib.Seq.{take-take, take-append-seam, drop-at}
 use Rattle.method.specs.declared.Request.{Request}
 use Rattle.method.specs.Table.{Table, size, offset, dayOf, held, history}
 use Rattle.method.proofs.Histories.{is-held}
-use Rattle.rooms.specs.declared.Directory.{Directory}
-use Rattle.rooms.specs.Rooms.{readingsAt, roomDay}
-use Rattle.rooms.specs.Agree.{Agree}
+use Rattle.engine_rooms.specs.declared.Directory.{Directory}
+use Rattle.engine_rooms.specs.Rooms.{readingsAt, roomDay}
+use Rattle.engine_rooms.specs.Agree.{Agree}
 use Rattle.engine_example.specs.Apart.{isApart, apart}
 
 module _ (r : Request) (before today gap : ℕ) (readings : List ℕ) where

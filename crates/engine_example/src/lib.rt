@@ -1,15 +1,15 @@
 // An example of a store of one's own: a directory that is no table's, and the law that the engine asks of it.
 ghost use lib.ListN.{length};
-ghost use Rattle.calendar.specs.Holidays.{group};
+ghost use Rattle.calendar_groups.specs.Holidays.{group};
 ghost use Rattle.method.specs.Table.{history};
 ghost use Rattle.method.specs.Verdict.{methodology};
-ghost use Rattle.rooms.specs.Agree.{Agree};
-ghost use Rattle.answer.specs.Answer.{Answers};
+ghost use Rattle.engine_rooms.specs.Agree.{Agree};
+ghost use Rattle.engine_answer.specs.Answer.{Answers};
 ghost use Rattle.engine_baseline.specs.Engine.{inWords};
 ghost use Rattle.engine_example.specs.Apart.{apart};
-use answer::Answer;
+use engine_answer::Answer;
+use engine_rooms::Directory;
 use method::Request;
-use rooms::Directory;
 
 // Where two days stand that lie apart: the event day's readings first, and after a gap those of the day before.
 fn rooms_apart(request: Request, before: u8, today: u8, gap: u16, readings: &[u32]) -> Directory

@@ -7,8 +7,8 @@ use native.Mathlib.Omega.{arith}
 use native.Mathlib.Numerals.{add-one}
 use borrow.Author.Tests.{leb-true, ltb-true, ltb-false, lt-ltb, le-ltb, not-false}
 use lib.Dec.{leb, ltb}
-use Rattle.lists.proofs.Bools.{both}
-use Rattle.dates.specs.Days.{lastDay}
+use Rattle.base_lists.proofs.Bools.{both}
+use Rattle.calendar_dates.specs.Days.{lastDay}
 use Rattle.method.specs.declared.Request.{Request}
 use Rattle.method.specs.declared.Refusal.{Refusal}
 use Rattle.method.specs.declared.Refusal.the-variants.{BadRequest, NotHeld, NotYetParticipating, NoRoom}

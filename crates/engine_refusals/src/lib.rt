@@ -3,11 +3,11 @@ ghost use mathlib.Core.Path.{_≡_};
 ghost use mathlib.Core.List.{List};
 ghost use Prim.Native.Nat.{ℕ};
 ghost use Rattle.method.specs.Verdict.{goodRequest, requestRefusals};
-ghost use Rattle.rooms.specs.Rooms.{roomHistory};
+ghost use Rattle.engine_rooms.specs.Rooms.{roomHistory};
 ghost use Rattle.engine_refusals.specs.Tests.{tested};
+use engine_rooms::Directory;
 use method::Refusal;
 use method::Request;
-use rooms::Directory;
 
 // What refusals that are tested one after the other come to.
 pub enum Tested {
@@ -23,7 +23,7 @@ fn is_good(request: Request) -> bool
     let e = request.e;
     let start = day_ruler::start(request.event);
     let end = day_ruler::end(request.event);
-    (((request.participation <= dates::LAST_DAY) & ((start <= s) & (s < end)))
+    (((request.participation <= calendar_dates::LAST_DAY) & ((start <= s) & (s < end)))
         & ((s < e) & (e <= end)))
         & (request.n <= s)
 }

@@ -7,28 +7,28 @@ use mathlib.Core.Logic.{⊎-elim}
 use native.Mathlib.Omega.{arith}
 use lib.ListN.{length, drop, length-append}
 use borrow.Author.Tests.{le-leb}
-use Rattle.lists.specs.Lists.{all}
-use Rattle.calendar.specs.Holidays.{group}
+use Rattle.base_lists.specs.Lists.{all}
+use Rattle.calendar_groups.specs.Holidays.{group}
 use Rattle.method.specs.Verdict.{verdict}
 use Rattle.method.specs.Table.{mostQuarters}
-use Rattle.record.proofs.Starts.{offset-most, day-start-most, base-most}
-use Rattle.numerators.proofs.Windows.{small}
-use Rattle.baseline.proofs.Laws.{sound, never-above}
-use Rattle.record.specs.Layout.{Below, Fits}
-use Rattle.record.specs.Laws.{StopsAt}
-use Rattle.record.specs.declared.Shape.{Shape}
-use Rattle.record.specs.declared.Read.{Read}
-use Rattle.record.specs.declared.Read.the-variants.{File, Refused}
-use Rattle.record.specs.Reader.{isPF, fileBase, firstIn, daysIn, eventStart, eventsIn, shapeIn, readFile, tableIn, eventOf, requestAt, contentsIn}
-use Rattle.record.proofs.Bytes.{below-drop, number-below}
-use Rattle.record.proofs.Files.{shape-fits, event-start-is}
-use Rattle.record.proofs.Limits.{says-what-fits}
-use Rattle.record.proofs.RefusedWhere.{refused-where}
-use Rattle.lines.specs.Lines.{lineText}
-use Rattle.lines.specs.Listing.{openingLine, repliedLines, eventText, eventTexts, eventsOf, listing}
-use Rattle.lines.proofs.Whole.{listing-is}
-use Rattle.event_lines.specs.Room.{linesRoom}
-use Rattle.listing.specs.Lists.{mostListing}
+use Rattle.file_record.proofs.Starts.{offset-most, day-start-most, base-most}
+use Rattle.engine_numerators.proofs.Windows.{small}
+use Rattle.table_baseline.proofs.Laws.{sound, never-above}
+use Rattle.file_record.specs.Layout.{Below, Fits}
+use Rattle.file_record.specs.Laws.{StopsAt}
+use Rattle.file_record.specs.declared.Shape.{Shape}
+use Rattle.file_record.specs.declared.Read.{Read}
+use Rattle.file_record.specs.declared.Read.the-variants.{File, Refused}
+use Rattle.file_record.specs.Reader.{isPF, fileBase, firstIn, daysIn, eventStart, eventsIn, shapeIn, readFile, tableIn, eventOf, requestAt, contentsIn}
+use Rattle.file_record.proofs.Bytes.{below-drop, number-below}
+use Rattle.file_record.proofs.Files.{shape-fits, event-start-is}
+use Rattle.file_record.proofs.Limits.{says-what-fits}
+use Rattle.file_record.proofs.RefusedWhere.{refused-where}
+use Rattle.listing_lines.specs.Lines.{lineText}
+use Rattle.listing_lines.specs.Listing.{openingLine, repliedLines, eventText, eventTexts, eventsOf, listing}
+use Rattle.listing_lines.proofs.Whole.{listing-is}
+use Rattle.listing_event_lines.specs.Room.{linesRoom}
+use Rattle.listing_whole.specs.Lists.{mostListing}
 use Rattle.listing_length.specs.Most.{Most}
 use Rattle.listing_length.proofs.Near.{verdict-near}
 use Rattle.listing_length.proofs.Texts.{reply-most, header-most, refused-most}

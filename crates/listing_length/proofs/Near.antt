@@ -10,20 +10,20 @@ use lib.ListN.{length, drop, getD, length-append, length-take}
 use lib.Dec.{ltb, eqb}
 use lib.Signed.{mag}
 use borrow.Author.Tests.{le-leb, lt-ltb, leb-true, ltb-true}
-use Rattle.lists.specs.Lists.{all, leading, sumOf, keep, member, leastOf}
-use Rattle.lists.proofs.Bools.{both}
-use Rattle.lists.proofs.All.{all-append, all-take, all-drop, all-at}
-use Rattle.lists.proofs.Keep.{kept-member}
-use Rattle.lists.proofs.Leading.{leading-most}
-use Rattle.calendar.specs.declared.Group.{Group}
-use Rattle.calendar.specs.declared.Group.the-variants.{Weekday, Saturday, HolidayGroup}
+use Rattle.base_lists.specs.Lists.{all, leading, sumOf, keep, member, leastOf, places}
+use Rattle.base_lists.proofs.Bools.{both}
+use Rattle.base_lists.proofs.All.{all-append, all-take, all-drop, all-at}
+use Rattle.base_lists.proofs.Keep.{kept-member}
+use Rattle.base_lists.proofs.Leading.{leading-most}
+use Rattle.calendar_groups.specs.declared.Group.{Group}
+use Rattle.calendar_groups.specs.declared.Group.the-variants.{Weekday, Saturday, HolidayGroup}
 use Rattle.method.specs.declared.Request.{Request}
 use Rattle.method.specs.declared.Refusal.{Refusal}
 use Rattle.method.specs.Table.{Table, mostQuarters, Day, History, history, dayOf, held, size, offset, goodMark, goodReading}
 use Rattle.method.specs.Ruler.{against}
 use Rattle.method.specs.Relevant.{relevantDays}
 use Rattle.method.specs.Method.{Method, short, few, chose, daysOf, seen, eligibles, spares, window, chosen, reach, wholeReach, isShort, outcome}
-use Rattle.method.specs.Adjustment.{ruler, adjustmentEnd, places, S, A, B, adjustment, Baseline, baselineAt, baseline}
+use Rattle.method.specs.Adjustment.{ruler, adjustmentEnd, S, A, B, adjustment, Baseline, baselineAt, baseline}
 use Rattle.method.specs.Eligible.{eligible, spare, higher, sortBy}
 use Rattle.method.specs.HighXofY.{Y, N, highXofY}
 use Rattle.method.specs.Rules.{methodBy}
@@ -32,10 +32,10 @@ use Rattle.method.specs.Verdict.{Answer, Reply, refused, answered, carries, tab
 use Rattle.method.proofs.LookBack.{lookBack-is}
 use Rattle.method.proofs.HighXofY.{relevant-lookBack}
 use Rattle.method.proofs.Sort.{all-sorted}
-use Rattle.choose.proofs.Days.{all-keep, all-mapped}
-use Rattle.places.proofs.Places.{length-places}
-use Rattle.numerators.proofs.Signed.{mag-difference}
-use Rattle.numerators.proofs.Windows.{small, ruler-most}
+use Rattle.engine_choice.proofs.Days.{all-keep, all-mapped}
+use Rattle.base_lists.proofs.Places.{length-places}
+use Rattle.engine_numerators.proofs.Signed.{mag-difference}
+use Rattle.engine_numerators.proofs.Windows.{small, ruler-most}
 
 -- ---- Y and N
 ten-most : (g : Group) → Y g + N g ≤ 15

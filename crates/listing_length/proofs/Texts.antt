@@ -8,12 +8,12 @@ use native.Mathlib.Nat.{div-le-self}
 use lib.ListN.{length, length-append, length-map}
 use lib.Dec.{leb}
 use borrow.Author.Tests.{le-leb, leb-true}
-use Rattle.lists.specs.Lists.{all}
-use Rattle.lists.specs.Ascii.{ascii}
-use Rattle.lists.proofs.Bools.{both}
-use Rattle.lists.proofs.All.{all-append}
-use Rattle.digits.specs.Digits.{dec, decimal}
-use Rattle.digits.proofs.Digits.{dec-length, dec-length-32, decimal-length}
+use Rattle.base_lists.specs.Lists.{all}
+use Rattle.base_lists.specs.Ascii.{ascii}
+use Rattle.base_lists.proofs.Bools.{both}
+use Rattle.base_lists.proofs.All.{all-append}
+use Rattle.base_text.specs.Digits.{dec, decimal}
+use Rattle.base_text.proofs.Digits.{dec-length, dec-length-32, decimal-length}
 use Rattle.method.specs.declared.Request.{Request}
 use Rattle.method.specs.declared.Refusal.{Refusal}
 use Rattle.method.specs.Table.{mostQuarters}
@@ -21,11 +21,11 @@ use Rattle.method.specs.declared.Refusal.the-variants.{BadFile, NoEvent, BadTab
 use Rattle.method.specs.declared.Refusal.the-variants.{NotYetParticipating, NoRoom, MarginTooShort, TooFew, NoAdjustmentWindow}
 use Rattle.method.specs.Adjustment.{rounded}
 use Rattle.method.specs.Verdict.{Answer, Reply, refused, answered, number, carries}
-use Rattle.numerators.proofs.Windows.{small}
+use Rattle.engine_numerators.proofs.Windows.{small}
 use Rattle.engine_baseline.proofs.Answered.{Sound}
-use Rattle.record.specs.declared.Shape.{Shape}
-use Rattle.lines.specs.Lines.{Field, Line, newline, spaced, lineText, linesText}
-use Rattle.lines.specs.Listing.{headerLine, refusedLine, eventLine, quarterLine, quarterLines, refusalLine, eventLines}
+use Rattle.file_record.specs.declared.Shape.{Shape}
+use Rattle.listing_lines.specs.Lines.{Field, Line, newline, spaced, lineText, linesText}
+use Rattle.listing_lines.specs.Listing.{headerLine, refusedLine, eventLine, quarterLine, quarterLines, refusalLine, eventLines}
 use Rattle.listing_length.proofs.Near.{NearAnswer, Near}
 
 -- ---- lines of fields of at most 20 bytes

@@ -3,9 +3,9 @@ use Prim.Native.Nat.{ℕ, _≤_}
 use mathlib.Core.Path.{_≡_}
 use mathlib.Core.List.{List}
 use lib.ListN.{length}
-use Rattle.record.specs.Layout.{Below}
-use Rattle.lines.specs.Listing.{listing}
-use Rattle.listing.specs.Lists.{mostListing}
+use Rattle.file_record.specs.Layout.{Below}
+use Rattle.listing_lines.specs.Listing.{listing}
+use Rattle.listing_whole.specs.Lists.{mostListing}
 
 pub record Most : Type 0 where
   -- a file is bytes

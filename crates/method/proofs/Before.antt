@@ -5,8 +5,8 @@ use mathlib.Core.Bool.{true}
 use mathlib.Core.List.{List}
 use Prim.Native.Nat.{ℕ, _-_, _<_}
 use native.Mathlib.Omega.{arith}
-use Rattle.lists.specs.Lists.{keep, member}
-use Rattle.lists.proofs.Keep.{kept-holds, kept-member, keep-same, map-same}
+use Rattle.base_lists.specs.Lists.{keep, member}
+use Rattle.base_lists.proofs.Keep.{kept-holds, kept-member, keep-same, map-same}
 use Rattle.method.specs.Table.{History, held}
 use Rattle.method.specs.Method.{Method, seen, eligibles, isShort, outcome}
 use Rattle.method.specs.Lawful.{Lawful}

@@ -1,13 +1,13 @@
 -- Every line of the table of checks holds, by computation of the definitions.
 use mathlib.Core.Path.{refl}
 use Prim.Native.Nat.{ℕ}
-use Rattle.lists.specs.Lists.{keep, all, any, leading, member, sumOf, leastOf}
-use Rattle.dates.specs.Days.{leap, months, newYear, dayNumber, yearOf}
-use Rattle.calendar.specs.Holidays.{easter, fixedHolidays, easterHolidays, holidays, isHoliday, group}
+use Rattle.base_lists.specs.Lists.{keep, all, any, leading, member, sumOf, leastOf, places}
+use Rattle.calendar_dates.specs.Days.{leap, months, newYear, dayNumber, yearOf}
+use Rattle.calendar_groups.specs.Holidays.{easter, fixedHolidays, easterHolidays, holidays, isHoliday, group}
 use Rattle.method.specs.Table.{size, offset, dayOf, held, shaped, isExtract, dayPart}
 use Rattle.method.specs.Relevant.{daysBefore, relevant, relevantDays}
 use Rattle.method.specs.Method.{wholeReach, seen, eligibles, spares, window, chosen, reach, isShort, outcome}
-use Rattle.method.specs.Adjustment.{windowEnds, latestEnd, adjustmentEnd, places, S, A, B, baselineAt, baseline}
+use Rattle.method.specs.Adjustment.{windowEnds, latestEnd, adjustmentEnd, S, A, B, baselineAt, baseline}
 use Rattle.method.specs.Eligible.{complete, eligible, spare, eventSum, higher, insertBy, sortBy}
 use Rattle.method.specs.HighXofY.{highXofY}
 use Rattle.method.specs.Requested.{rulesOf, methodOf}

@@ -6,10 +6,10 @@ use mathlib.Core.Bool.{true, false}
 use mathlib.Core.Option.{Option}
 use Prim.Native.Nat.{ℕ, _-_, _≤_, _<_}
 use native.Mathlib.Omega.{arith}
-use Rattle.lists.specs.Lists.{member}
-use Rattle.lists.proofs.Bools.{clash, bool-cases}
-use Rattle.lists.proofs.Keep.{leastOf-from}
-use Rattle.calendar.specs.declared.Group.{Group}
+use Rattle.base_lists.specs.Lists.{member}
+use Rattle.base_lists.proofs.Bools.{clash, bool-cases}
+use Rattle.base_lists.proofs.Keep.{leastOf-from}
+use Rattle.calendar_groups.specs.declared.Group.{Group}
 use Rattle.method.specs.declared.Request.{Request}
 use Rattle.method.specs.declared.Refusal.the-variants.{MarginTooShort}
 use Rattle.method.specs.Table.{Table, Day, held, history}

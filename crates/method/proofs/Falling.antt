@@ -7,9 +7,9 @@ use Prim.Native.Nat.{ℕ, _<_}
 use native.Mathlib.Omega.{arith}
 use lib.Dec.{leb, ltb}
 use borrow.Author.Tests.{leb-true, leb-false, lt-leb, le-ltb, lt-ltb}
-use Rattle.lists.specs.Lists.{keep, member}
-use Rattle.lists.proofs.Bools.{bool-cases}
-use Rattle.lists.proofs.Keep.{kept-member, keep-none}
+use Rattle.base_lists.specs.Lists.{keep, member}
+use Rattle.base_lists.proofs.Bools.{bool-cases}
+use Rattle.base_lists.proofs.Keep.{kept-member, keep-none}
 use Rattle.method.specs.Lawful.{Falling, none, next}
 
 pub falling-keep : (p : ℕ → Bool) {ds : List ℕ} → Falling ds → Falling (keep p ds)

@@ -5,11 +5,11 @@ use Prim.Native.Nat.{ℕ, _≤_, _<_}
 use native.Mathlib.Omega.{arith}
 use lib.Dec.{leb, ltb}
 use borrow.Author.Tests.{leb-true}
-use Rattle.lists.specs.Lists.{member}
-use Rattle.lists.proofs.Bools.{and-left, and-right}
-use Rattle.lists.proofs.Keep.{kept-member, kept-holds}
-use Rattle.calendar.specs.declared.Group.{Group}
-use Rattle.calendar.specs.declared.Group.the-variants.{Weekday, Saturday, HolidayGroup}
+use Rattle.base_lists.specs.Lists.{member}
+use Rattle.base_lists.proofs.Bools.{and-left, and-right}
+use Rattle.base_lists.proofs.Keep.{kept-member, kept-holds}
+use Rattle.calendar_groups.specs.declared.Group.{Group}
+use Rattle.calendar_groups.specs.declared.Group.the-variants.{Weekday, Saturday, HolidayGroup}
 use Rattle.method.specs.declared.Request.{Request}
 use Rattle.method.specs.Relevant.{relevant, relevantDays, lookBack}
 use Rattle.method.specs.Eligible.{higher}

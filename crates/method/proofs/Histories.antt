@@ -4,7 +4,7 @@ use mathlib.Core.Bool.{true}
 use Prim.Native.Nat.{ℕ, _+_, _≤_, _<_}
 use native.Mathlib.Omega.{arith}
 use borrow.Author.Tests.{leb-true, ltb-true, le-leb, lt-ltb}
-use Rattle.lists.proofs.Bools.{and-left, and-right}
+use Rattle.base_lists.proofs.Bools.{and-left, and-right}
 use Rattle.method.specs.Table.{History, held}
 
 -- `l` holds what `h` holds, and perhaps more days before, after, or both

@@ -9,9 +9,9 @@ use native.Mathlib.Omega.{arith}
 use lib.ListN.{length, take}
 use lib.Dec.{leb, ltb}
 use borrow.Author.Tests.{leb-true, ltb-true, le-leb, lt-ltb, le-ltb}
-use Rattle.lists.specs.Lists.{keep, member}
-use Rattle.lists.proofs.Bools.{bool-cases, and-left, and-right}
-use Rattle.lists.proofs.Keep.{member-head, member-map-reach, member-keep, kept-holds, keep-append, keep-map, keep-same, keep-every, keep-none, map-same}
+use Rattle.base_lists.specs.Lists.{keep, member}
+use Rattle.base_lists.proofs.Bools.{bool-cases, and-left, and-right}
+use Rattle.base_lists.proofs.Keep.{member-head, member-map-reach, member-keep, kept-holds, keep-append, keep-map, keep-same, keep-every, keep-none, map-same}
 use Rattle.method.specs.Table.{History, held}
 use Rattle.method.specs.Method.{Method, daysOf, seen, eligibles, spares, window}
 use Rattle.method.specs.Lawful.{Lawful}

@@ -8,9 +8,9 @@ use native.Mathlib.Nat.{zero-add, sub-zero, suc-sub-suc, zero-sub, suc-add}
 use native.Mathlib.Omega.{arith}
 use lib.Dec.{eqb}
 use borrow.Author.Tests.{eqb-false}
-use Rattle.lists.specs.Lists.{member}
-use Rattle.lists.proofs.Bools.{bool-cases, clash}
-use Rattle.lists.proofs.Keep.{member-cases}
+use Rattle.base_lists.specs.Lists.{member}
+use Rattle.base_lists.proofs.Bools.{bool-cases, clash}
+use Rattle.base_lists.proofs.Keep.{member-cases}
 use Rattle.method.specs.Relevant.{daysBefore, lookBack}
 use Rattle.method.specs.Lawful.{Falling, none, next}
 

@@ -10,10 +10,10 @@ use lib.ListN.{length, take}
 use lib.Seq.{take-append-add}
 use lib.Dec.{leb, ltb}
 use borrow.Author.Tests.{leb-true}
-use Rattle.lists.specs.Lists.{any}
-use Rattle.lists.proofs.Bools.{and-left, and-right, clash}
-use Rattle.lists.proofs.Parts.{take-drop-take}
-use Rattle.calendar.specs.declared.Group.{Group}
+use Rattle.base_lists.specs.Lists.{any}
+use Rattle.base_lists.proofs.Bools.{and-left, and-right, clash}
+use Rattle.base_lists.proofs.Parts.{take-drop-take}
+use Rattle.calendar_groups.specs.declared.Group.{Group}
 use Rattle.method.specs.declared.Request.{Request}
 use Rattle.method.specs.Table.{Table, Day, dayOf, held, history, isExtract}
 use Rattle.method.specs.Method.{outcome}

@@ -8,9 +8,9 @@ use native.Mathlib.Omega.{arith}
 use lib.ListN.{length}
 use lib.Dec.{ltb, eqb}
 use borrow.Author.Tests.{ltb-true, ltb-false, eqb-true, eq-eqb}
-use Rattle.lists.specs.Lists.{leastOf}
-use Rattle.lists.proofs.Bools.{bool-cases, clash}
-use Rattle.lists.proofs.Keep.{leastOf-top, leastOf-member, leastOf-from}
+use Rattle.base_lists.specs.Lists.{leastOf}
+use Rattle.base_lists.proofs.Bools.{bool-cases, clash}
+use Rattle.base_lists.proofs.Keep.{leastOf-top, leastOf-member, leastOf-from}
 use Rattle.method.specs.Table.{History, held}
 use Rattle.method.specs.Method.{Method, daysOf, eligibles, window, reach, wholeReach, isShort}
 use Rattle.method.specs.Lawful.{Lawful}

@@ -8,9 +8,9 @@ use Prim.Native.Nat.{ℕ, _-_}
 use lib.ListN.{length}
 use lib.Dec.{eqb}
 use borrow.Author.Tests.{not-true}
-use Rattle.lists.specs.Lists.{any, all}
-use Rattle.lists.proofs.Bools.{clash, bool-cases, and-left, and-right}
-use Rattle.calendar.specs.declared.Group.{Group}
+use Rattle.base_lists.specs.Lists.{any, all}
+use Rattle.base_lists.proofs.Bools.{clash, bool-cases, and-left, and-right}
+use Rattle.calendar_groups.specs.declared.Group.{Group}
 use Rattle.method.specs.declared.Request.{Request}
 use Rattle.method.specs.declared.Refusal.{Refusal}
 use Rattle.method.specs.declared.Refusal.the-variants.{MarginTooShort}

@@ -8,9 +8,9 @@ use native.Mathlib.Omega.{arith}
 use lib.ListN.{length, take}
 use lib.Dec.{leb}
 use borrow.Author.Tests.{lt-ltb}
-use Rattle.lists.specs.Lists.{keep, member}
-use Rattle.lists.proofs.Bools.{either}
-use Rattle.lists.proofs.Keep.{kept-holds, kept-member, member-map-keep, member-map-take, member-map-append}
+use Rattle.base_lists.specs.Lists.{keep, member}
+use Rattle.base_lists.proofs.Bools.{either}
+use Rattle.base_lists.proofs.Keep.{kept-holds, kept-member, member-map-keep, member-map-take, member-map-append}
 use Rattle.method.specs.Table.{History, held}
 use Rattle.method.specs.Method.{Method, daysOf, seen, eligibles, spares, window}
 use Rattle.method.specs.Lawful.{Lawful}

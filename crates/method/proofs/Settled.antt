@@ -7,9 +7,9 @@ use Prim.Native.Nat.{ℕ, _-_}
 use lib.ListN.{length}
 use lib.Dec.{eqb}
 use borrow.Author.Tests.{eqb-true}
-use Rattle.lists.specs.Lists.{all}
-use Rattle.lists.proofs.Bools.{either, clash}
-use Rattle.calendar.specs.declared.Group.{Group}
+use Rattle.base_lists.specs.Lists.{all}
+use Rattle.base_lists.proofs.Bools.{either, clash}
+use Rattle.calendar_groups.specs.declared.Group.{Group}
 use Rattle.method.specs.declared.Request.{Request}
 use Rattle.method.specs.Table.{Table, Day, History, history}
 use Rattle.method.specs.Method.{Method, short, few, chose, daysOf, window, chosen, reach, wholeReach, isShort, outcome}

@@ -7,9 +7,9 @@ use native.Mathlib.Omega.{arith}
 use lib.ListN.{length}
 use lib.Dec.{ltb}
 use borrow.Author.Tests.{ltb-true, ltb-false, le-ltb}
-use Rattle.lists.specs.Lists.{any, member}
-use Rattle.lists.proofs.Bools.{and-left, and-right, and-cases}
-use Rattle.lists.proofs.Keep.{any-member, any-none, any-false, leastOf-top, leastOf-member, leastOf-from}
+use Rattle.base_lists.specs.Lists.{any, member}
+use Rattle.base_lists.proofs.Bools.{and-left, and-right, and-cases}
+use Rattle.base_lists.proofs.Keep.{any-member, any-none, any-false, leastOf-top, leastOf-member, leastOf-from}
 use Rattle.method.specs.Table.{History}
 use Rattle.method.specs.Method.{Method, eligibles, isShort, wholeReach}
 

@@ -5,7 +5,7 @@ use mathlib.Core.Bool.{Bool, true, false, _&&_, _||_, cond}
 use mathlib.Core.List.{List, [], _∷_, map}
 use lib.ListN.{length}
 use lib.Dec.{eqb}
-use Rattle.lists.specs.Lists.{all, member}
+use Rattle.base_lists.specs.Lists.{all, member}
 use Rattle.method.specs.Eligible.{insertBy, sortBy}
 
 -- `g` folds a list by a step `f`, and the order of two steps does not matter

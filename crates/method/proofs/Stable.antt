@@ -10,8 +10,8 @@ use lib.ListN.{length, length-append}
 use lib.Seq.{take-append-le}
 use lib.Dec.{eqb}
 use borrow.Author.Tests.{eq-eqb}
-use Rattle.lists.proofs.Bools.{clash}
-use Rattle.lists.proofs.Keep.{member-head}
+use Rattle.base_lists.proofs.Bools.{clash}
+use Rattle.base_lists.proofs.Keep.{member-head}
 use Rattle.method.specs.Table.{History, held}
 use Rattle.method.specs.Method.{Method, Outcome, short, few, chose, daysOf, seen, eligibles, spares}
 use Rattle.method.specs.Method.{window, chosen, reach, wholeReach, isShort, outcome}

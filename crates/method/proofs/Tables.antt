@@ -6,15 +6,14 @@ use mathlib.Core.List.{List, _++_}
 use Prim.Native.Nat.{ℕ, zero, suc, _+_, _-_, _*_, _≤_, _<_}
 use native.Mathlib.Omega.{arith}
 use native.Mathlib.Nat.{zero-add, suc-add, add-zero}
-use lib.ListN.{length, getD, take, drop, replicate}
-use lib.ListN.{length-append, length-replicate, length-take, length-drop, getD-replicate, List·getD-append}
+use lib.ListN.{length, getD, take, drop, replicate, length-append, length-replicate, length-take, length-drop, getD-replicate, List·getD-append}
 use lib.Seq.{drop-at, drop-drop, getD-drop, take-append-le, drop-append-le}
 use lib.Dec.{leb, eqb}
 use borrow.Author.Tests.{eqb-true, eqb-false, eq-eqb, ne-eqb, leb-true, le-leb, not-true}
-use Rattle.lists.specs.Lists.{all}
-use Rattle.lists.proofs.All.{all-append, all-replicate, all-take, all-drop}
-use Rattle.lists.proofs.Bools.{and-left, and-right}
-use Rattle.dates.specs.Days.{lastDay}
+use Rattle.base_lists.specs.Lists.{all}
+use Rattle.base_lists.proofs.All.{all-append, all-replicate, all-take, all-drop}
+use Rattle.base_lists.proofs.Bools.{and-left, and-right}
+use Rattle.calendar_dates.specs.Days.{lastDay}
 use Rattle.method.specs.declared.Request.{Request}
 use Rattle.method.specs.Table.{Table, heldDays, size, offset, dayOf, goodMark, goodReading, held, history, shaped}
 use Rattle.method.specs.Verdict.{wellFormed}

@@ -4,9 +4,9 @@ use mathlib.Core.Path.{_≡_, refl}
 use mathlib.Core.Bool.{true, false}
 use Prim.Native.Nat.{ℕ, _-_, _≤_, _<_}
 use native.Mathlib.Omega.{arith}
-use Rattle.lists.specs.Lists.{member}
-use Rattle.lists.proofs.Bools.{clash}
-use Rattle.calendar.specs.declared.Group.{Group}
+use Rattle.base_lists.specs.Lists.{member}
+use Rattle.base_lists.proofs.Bools.{clash}
+use Rattle.calendar_groups.specs.declared.Group.{Group}
 use Rattle.method.specs.declared.Request.{Request}
 use Rattle.method.specs.Table.{Table, heldDays, dayOf, held, history, present, goodMark}
 use Rattle.method.specs.Relevant.{relevantDays}

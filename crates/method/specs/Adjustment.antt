@@ -1,12 +1,12 @@
 -- 01, "Adjustment and baseline".
 use Prim.Native.Nat.{ℕ, zero, suc, _+_, _-_, _*_, _/_}
 use mathlib.Core.Bool.{Bool, cond, _&&_}
-use mathlib.Core.List.{List, [], _∷_, _++_, map}
+use mathlib.Core.List.{List, _++_, map}
 use mathlib.Core.Option.{Option, none, some}
 use lib.ListN.{getD, take, drop}
 use lib.IntN.{ℤ, pos, negsuc, _+ℤ_, _-ℤ_}
 use lib.Dec.{leb, eqb}
-use Rattle.lists.specs.Lists.{all, sumOf}
+use Rattle.base_lists.specs.Lists.{all, sumOf, places}
 use Rattle.method.specs.declared.Request.{Request}
 use Rattle.method.specs.Table.{Day, present}
 use Rattle.method.specs.Ruler.{against}
@@ -32,11 +32,6 @@ latestEnd readings (suc k) = let earlier = latestEnd readings k in cond (windowE
 -- latest twelve consecutive ruler quarters with all readings present that end at or before s." Where it ends; 0 where there is none
 unfoldable pub adjustmentEnd : Request → List ℕ → ℕ
 adjustmentEnd r readings = cond (windowEnds readings (r .n)) (r .n) (latestEnd readings (r .s))
-
--- the `k` places from `t` on
-unfoldable pub places : ℕ → ℕ → List ℕ
-places zero t = []
-places (suc k) t = t ∷ places k (suc t)
 
 -- "For a ruler quarter t let S(t) be the sum, over the N chosen days, of the reading at quarter t mod 96."
 unfoldable pub S : ℕ → List (ℕ × Day) → ℕ → ℕ

@@ -5,15 +5,15 @@ use mathlib.Core.List.{List, [], _∷_, _++_, map}
 use Prim.Native.Nat.{ℕ, _+_, _-_, _*_}
 use lib.ListN.{take, replicate, set}
 use lib.IntN.{pos}
-use Rattle.lists.specs.Lists.{member}
-use Rattle.dates.specs.Days.{dayNumber}
-use Rattle.calendar.specs.Holidays.{easter, group}
-use Rattle.calendar.specs.declared.Group.the-variants.{Saturday, HolidayGroup}
+use Rattle.base_lists.specs.Lists.{member, places}
+use Rattle.calendar_dates.specs.Days.{dayNumber}
+use Rattle.calendar_groups.specs.Holidays.{easter, group}
+use Rattle.calendar_groups.specs.declared.Group.the-variants.{Saturday, HolidayGroup}
 use Rattle.method.specs.declared.Request.{Request}
 use Rattle.method.specs.declared.Refusal.the-variants.{MarginTooShort}
 use Rattle.method.specs.Table.{Table, Day, history}
 use Rattle.method.specs.Method.{reach, daysOf}
-use Rattle.method.specs.Adjustment.{S, places, adjustment, unfloored, floored, rounded}
+use Rattle.method.specs.Adjustment.{S, adjustment, unfloored, floored, rounded}
 use Rattle.method.specs.Eligible.{higher, sortBy, eventSum}
 use Rattle.method.specs.Requested.{methodOf}
 use Rattle.method.specs.Verdict.{refused, answered, verdict}

@@ -5,18 +5,19 @@ use mathlib.Core.List.{List, [], _∷_, _++_, map}
 use Prim.Native.Nat.{ℕ, _*_}
 use lib.ListN.{replicate, set}
 use lib.IntN.{pos}
-use Rattle.calendar.specs.Holidays.{group}
+use Rattle.calendar_groups.specs.Holidays.{group}
 use Rattle.method.specs.declared.Request.{Request}
 use Rattle.method.specs.declared.Refusal.{Refusal}
 use Rattle.method.specs.declared.Refusal.the-variants.{BadFile, NoEvent, BadTable, BadMark, BadReading, BadRequest, NotHeld}
 use Rattle.method.specs.declared.Refusal.the-variants.{NotYetParticipating, NoRoom, MarginTooShort, TooFew, NoAdjustmentWindow}
 use Rattle.method.specs.Table.{Table, Day, eventBit, outageBit, present, goodReading, missing, history, isExtract, dayPart}
 use Rattle.method.specs.Method.{chosen, daysOf}
-use Rattle.method.specs.Adjustment.{adjustmentEnd, places, S, A, B, rounded}
+use Rattle.method.specs.Adjustment.{adjustmentEnd, S, A, B, rounded}
 use Rattle.method.specs.Requested.{methodOf}
 use Rattle.method.specs.Verdict.{Reply, refused, answered, number, carries, goodRequest, verdict, written}
 use Rattle.method.specs.Demands.{windowDays}
 use Rattle.method.specs.Checks.{_January_, _February_, _April_, _May_, _August_, at15, marked}
+use Rattle.base_lists.specs.Lists.{places}
 
 abbrev pub chosenOf : Table → Request → List ℕ
 chosenOf t r = daysOf (chosen (methodOf group r) (history t))

@@ -4,7 +4,7 @@ use mathlib.Core.Bool.{Bool, not, _&&_, _||_, cond}
 use mathlib.Core.List.{List, [], _∷_}
 use lib.ListN.{take, drop}
 use lib.Dec.{ltb, eqb}
-use Rattle.lists.specs.Lists.{all, sumOf}
+use Rattle.base_lists.specs.Lists.{all, sumOf}
 use Rattle.method.specs.declared.Request.{Request}
 use Rattle.method.specs.Table.{Day, present, eventBit, outageBit}
 use Rattle.method.specs.Ruler.{against}

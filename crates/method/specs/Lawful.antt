@@ -3,7 +3,7 @@ use mathlib.Core.Path.{_≡_}
 use mathlib.Core.Bool.{true}
 use mathlib.Core.List.{List, [], _∷_}
 use Prim.Native.Nat.{ℕ, _<_}
-use Rattle.lists.specs.Lists.{member}
+use Rattle.base_lists.specs.Lists.{member}
 use Rattle.method.specs.Method.{Method, daysOf}
 
 -- each number is above all that follow it

@@ -5,7 +5,7 @@ use mathlib.Core.Bool.{Bool, cond, _&&_}
 use mathlib.Core.List.{List, _++_, map}
 use lib.ListN.{length, take, drop}
 use lib.Dec.{ltb, eqb}
-use Rattle.lists.specs.Lists.{keep, any, leastOf}
+use Rattle.base_lists.specs.Lists.{keep, any, leastOf}
 use Rattle.method.specs.Table.{History, held}
 
 pub record Method (A O : Type 0) : Type 0 where

@@ -1,7 +1,7 @@
 -- The method that a request asks for: 01, "Included: .. High X of Y".
 use Prim.Native.Nat.{ℕ}
 use mathlib.Core.Option.{Option}
-use Rattle.calendar.specs.declared.Group.{Group}
+use Rattle.calendar_groups.specs.declared.Group.{Group}
 use Rattle.method.specs.declared.Request.{Request}
 use Rattle.method.specs.Table.{Day}
 use Rattle.method.specs.Method.{Method}

@@ -2,7 +2,7 @@
 use Prim.Native.Nat.{ℕ}
 use mathlib.Core.List.{List}
 use mathlib.Core.Option.{Option}
-use Rattle.calendar.specs.declared.Group.{Group}
+use Rattle.calendar_groups.specs.declared.Group.{Group}
 use Rattle.method.specs.declared.Request.{Request}
 use Rattle.method.specs.Table.{Day}
 use Rattle.method.specs.Relevant.{relevantDays}

@@ -4,7 +4,7 @@ use mathlib.Core.Bool.{Bool, not, _&&_, _||_, cond}
 use mathlib.Core.List.{List, []}
 use lib.ListN.{length, getD, take, drop}
 use lib.Dec.{leb, ltb, eqb}
-use Rattle.dates.specs.Days.{lastDay}
+use Rattle.calendar_dates.specs.Days.{lastDay}
 
 -- "An extract is a first day F, one mark byte a day, and 96 readings a day, 32 bits wide, for h consecutive days"
 pub record Table : Type 0 where

@@ -6,9 +6,9 @@ use mathlib.Core.Option.{Option, none, some}
 use lib.ListN.{length, drop}
 use lib.IntN.{ℤ}
 use lib.Dec.{leb, ltb}
-use Rattle.lists.specs.Lists.{all, leading}
-use Rattle.dates.specs.Days.{lastDay}
-use Rattle.calendar.specs.declared.Group.{Group}
+use Rattle.base_lists.specs.Lists.{all, leading}
+use Rattle.calendar_dates.specs.Days.{lastDay}
+use Rattle.calendar_groups.specs.declared.Group.{Group}
 use Rattle.method.specs.declared.Request.{Request}
 use Rattle.method.specs.declared.Refusal.{Refusal}
 use Rattle.method.specs.declared.Refusal.the-variants.{BadFile, NoEvent, BadTable, BadMark, BadReading, BadRequest, NotHeld}

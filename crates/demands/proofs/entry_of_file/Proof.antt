@@ -1,4 +1,4 @@
--- `host::hp_baseline` meets the demands, by its contract.
+-- `host_entries::hp_baseline` meets the demands, by its contract.
 use borrow.Author.Needs.{needs}
 use Rattle.demands.proofs.Entries.{file-entry}
 use Rattle.demands.proofs.entry_of_file.Statement.{statement}

@@ -1,4 +1,4 @@
--- `host::hp_baseline_table` meets the demands, by its contract.
+-- `host_entries::hp_baseline_table` meets the demands, by its contract.
 use borrow.Author.Needs.{needs}
 use Rattle.demands.proofs.Entries.{table-entry}
 use Rattle.demands.proofs.entry_over_table.Statement.{statement}

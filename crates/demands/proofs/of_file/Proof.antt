@@ -1,4 +1,4 @@
--- `entry::file_baseline` meets the demands, by its contract.
+-- `file_baseline::file_baseline` meets the demands, by its contract.
 use borrow.Author.Needs.{needs}
 use Rattle.demands.proofs.Demands.{demands}
 use Rattle.demands.proofs.of_file.Statement.{statement}

@@ -1,4 +1,4 @@
--- `baseline::baseline` meets the demands, by its contract.
+-- `table_baseline::baseline` meets the demands, by its contract.
 use borrow.Author.Needs.{needs}
 use Rattle.demands.proofs.Demands.{demands}
 use Rattle.demands.proofs.over_table.Statement.{statement}

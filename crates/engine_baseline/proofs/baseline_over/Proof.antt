@@ -2,8 +2,8 @@
 use mathlib.Core.Path.{sym, _∙_}
 use borrow.Author.Needs.{needs}
 use lib.ListN.{length}
-use Rattle.calendar.specs.Holidays.{group}
-use Rattle.answer.proofs.Laws.{refuses}
+use Rattle.calendar_groups.specs.Holidays.{group}
+use Rattle.engine_answer.proofs.Laws.{refuses}
 use Rattle.engine_baseline.proofs.Steps.{over-refused, fit, over-passed}
 use Rattle.engine_baseline.proofs.baseline_over.Statement.{statement}
 use Rattle.engine_baseline.proofs.baseline_over.Tie as tie

@@ -2,11 +2,11 @@
 use mathlib.Core.Path.{ap}
 use borrow.Author.Needs.{needs}
 use lib.ListN.{length}
-use Rattle.calendar.specs.Holidays.{group}
+use Rattle.calendar_groups.specs.Holidays.{group}
 use Rattle.method.specs.Requested.{methodOf}
 use Rattle.method.specs.Verdict.{closing}
-use Rattle.rooms.specs.Rooms.{roomHistory}
-use Rattle.answer.proofs.Laws.{refuses}
+use Rattle.engine_rooms.specs.Rooms.{roomHistory}
+use Rattle.engine_answer.proofs.Laws.{refuses}
 use Rattle.engine_baseline.proofs.Choosing.{short-is, few-is, days-is, ready, reply-is}
 use Rattle.engine_baseline.proofs.Steps.{words-refused}
 use Rattle.engine_baseline.proofs.choose_days.Statement.{statement}

@@ -3,8 +3,8 @@ use mathlib.Core.Path.{refl, sym}
 use native.Mathlib.Omega.{arith}
 use borrow.Author.Needs.{needs}
 use lib.ListN.{length}
-use Rattle.answer.proofs.Laws.{refuses}
-use Rattle.numerators.proofs.Windows.{all-small}
+use Rattle.engine_answer.proofs.Laws.{refuses}
+use Rattle.engine_numerators.proofs.Windows.{all-small}
 use Rattle.engine_baseline.proofs.Steps.{no-window, ranges, room-enough, room-long, adjusted-back, answers}
 use Rattle.engine_baseline.proofs.finish.Statement.{statement}
 use Rattle.engine_baseline.proofs.finish.Tie as tie

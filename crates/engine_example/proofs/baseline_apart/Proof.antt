@@ -1,7 +1,7 @@
 -- `engine_example::baseline_apart` meets its contract, from what its rooms show alone.
 use borrow.Author.Needs.{needs}
 use lib.ListN.{length}
-use Rattle.calendar.specs.Holidays.{group}
+use Rattle.calendar_groups.specs.Holidays.{group}
 use Rattle.method.specs.Table.{history}
 use Rattle.engine_baseline.proofs.Store.{words}
 use Rattle.engine_example.specs.Apart.{apart}

@@ -2,9 +2,9 @@
 use mathlib.Core.Path.{sym, _∙_}
 use native.Mathlib.Omega.{arith}
 use borrow.Author.Needs.{needs}
-use Rattle.rooms.specs.Rooms.{roomHistory}
+use Rattle.engine_rooms.specs.Rooms.{roomHistory}
 use Rattle.engine_refusals.proofs.FirstRefusal.{good-request, bad-request, not-held, not-yet, no-room, fits}
-use Rattle.rooms.proofs.Held.{event-held, event-not}
+use Rattle.engine_rooms.proofs.Held.{event-held, event-not}
 use Rattle.engine_refusals.proofs.of_request.Statement.{statement}
 use Rattle.engine_refusals.proofs.of_request.Tie as tie
 

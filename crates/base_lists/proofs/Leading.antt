@@ -1,0 +1,30 @@
+-- `all` by the number of leading elements.
+use Prim.Native.Nat.{ℕ, suc, _≤_, _<_}
+use mathlib.Core.Path.{_≡_, refl, sym, _∙_}
+use mathlib.Core.Bool.{Bool, true, false, cond, _&&_}
+use mathlib.Core.List.{List, [], _∷_}
+use mathlib.Core.Logic.{⊎-elim}
+use native.Mathlib.Omega.{arith}
+use borrow.Author.Tests.{eqb-true, eqb-false}
+use lib.Dec.{eqb, eqb·zero-suc, eqb·suc-suc}
+use lib.ListN.{length}
+use Rattle.base_lists.specs.Lists.{all, leading}
+
+module _ {A : Type 0} (p : A → Bool) where
+  pub all-leading : (xs : List A) → all p xs ≡ eqb (leading p xs) (length xs)
+  unfolding all leading
+  all-leading [] = refl
+  all-leading (x ∷ xs) = go (p x) (all-leading xs)
+    where
+      go : (b : Bool) → all p xs ≡ eqb (leading p xs) (length xs) → (b && all p xs) ≡ eqb (cond b (suc (leading p xs)) 0) (suc (length xs))
+      go true e = e ∙ sym (eqb·suc-suc (leading p xs) (length xs))
+      go false e = sym (eqb·zero-suc (length xs))
+
+  pub leading-most : (xs : List A) → leading p xs ≤ length xs
+  unfolding leading
+  leading-most [] = omega arith
+  leading-most (x ∷ xs) = go (p x) (leading-most xs)
+    where
+      go : (b : Bool) → leading p xs ≤ length xs → cond b (suc (leading p xs)) 0 ≤ suc (length xs)
+      go true h = omega arith
+      go false h = omega arith

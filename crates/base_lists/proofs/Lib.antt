@@ -1,0 +1,11 @@
+pub mod Bools
+pub mod Below
+pub mod Members
+pub mod All
+pub mod Parts
+pub mod Sums
+pub mod Keep
+pub mod Leading
+pub mod Maps
+pub mod Unique
+pub mod Places

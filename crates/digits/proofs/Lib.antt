@@ -1,4 +1,0 @@
-pub mod Digits
-pub mod Spelling
-mod Signed
-mod Examples

@@ -1,0 +1,327 @@
+-- The choice by any rules: what was found gives the window, its size, its ranks and the reach.
+use Prim.Native.Nat.{ℕ, _+_, _-_, _≤_, _<_, min}
+use mathlib.Core.Path.{_≡_, sym, ap, _∙_}
+use mathlib.Core.Bool.{true, false, cond}
+use mathlib.Core.Logic.{⊎-elim}
+use mathlib.Core.List.{List, _++_, map}
+use mathlib.Core.Option.{Option}
+use native.Mathlib.Omega.{arith}
+use lib.ListN.{length, getD, take, length-append, length-take, length-drop, length-map}
+use lib.Seq.{take-all}
+use lib.Dec.{ltb, eqb}
+use borrow.Author.Tests.{lt-ltb, le-ltb, eq-eqb, ne-eqb}
+use Rattle.base_lists.specs.Lists.{all, keep}
+use Rattle.base_lists.proofs.All.{all-append, all-take}
+use Rattle.base_lists.proofs.Bools.{lt-or-le}
+use Rattle.base_lists.proofs.Maps.{map-take}
+use Rattle.base_lists.proofs.Parts.{take-within}
+use Rattle.calendar_groups.specs.declared.Group.{Group}
+use Rattle.method.specs.declared.Request.{Request}
+use Rattle.method.specs.Table.{Day, History}
+use Rattle.method.specs.Method.{Method, daysOf, wholeReach, seen, eligibles, spares, window, chosen, reach, isShort}
+use Rattle.method.specs.Eligible.{eligible, spare, higher}
+use Rattle.method.specs.Adjustment.{Baseline}
+use Rattle.method.specs.Rules.{Rules, methodBy}
+use Rattle.method.specs.Requested.{rulesOf, methodOf}
+use Rattle.method.proofs.Window.{window-full, full-size, size-below}
+use Rattle.method.proofs.Short.{full-enough}
+use Rattle.method.proofs.Sort.{length-sorted, all-sorted}
+use Rattle.engine_ranking.specs.Words.{word, sortDown, insertAll}
+use Rattle.engine_ranking.proofs.Rank.{lookedBack, take-padded, first-words, ranks-of-row, row-with}
+use Rattle.engine_rooms.specs.declared.Directory.{Directory}
+use Rattle.engine_rooms.specs.Rooms.{heldRooms, roomHistory}
+use Rattle.engine_relevant.proofs.Reaching.{short-of-reach}
+use Rattle.engine_choice.specs.declared.SpareOrder.{SpareOrder}
+use Rattle.engine_choice.specs.declared.SpareOrder.the-variants.{Highest, Latest}
+use Rattle.engine_choice.specs.declared.Rules.{Rules as Numbers}
+use Rattle.engine_choice.specs.declared.Found.{Found}
+use Rattle.engine_choice.specs.declared.Choosing.the-variants.{Short, Few, Days}
+use Rattle.engine_choice.specs.declared.Choice.{Choice}
+use Rattle.engine_choice.specs.Choice.{choiceOf, noDays, inFive}
+use Rattle.engine_choice.specs.Steps.{Follows, inOrder, nearest, roomsOf, eligibleOf, spareOf, rowOf, spareRow, Enough, daysIn, picked, fillers, amongFew}
+use Rattle.engine_choice.proofs.Days.{seen-nearest, nearest-back, all-keep}
+use Rattle.engine_choice.proofs.Followed.{order-length, passed-at, taken-at, taken-within, lawful-by}
+
+-- The first words of a row of spare days are those of the days that fill a shortage
+
+module _ (r : Request) where
+  order-back : (o : SpareOrder) (days : List (ℕ × Day)) → all (lookedBack r) days ≡ true → all (lookedBack r) (inOrder r o days) ≡ true
+  order-back Highest days h = all-sorted (higher r) (lookedBack r) days ∙ h
+  order-back Latest days h = h
+
+  spare-words : (o : SpareOrder) (k : ℕ) (days : List (ℕ × Day)) → all (lookedBack r) days ≡ true → k ≤ length days → k ≤ 10
+      → take k (spareRow r o days) ≡ map (word r) (take k (inOrder r o days))
+  spare-words Highest k days h l t =
+      take-padded k 10 (sortDown (map (word r) days)) (omega (arith, length-sorted (λ a b. ltb b a) (map (word r) days), length-map days (word r))) t
+      ∙ first-words r k days h
+  spare-words Latest k days h l t =
+      take-padded k 10 (map (word r) days) (omega (arith, length-map days (word r))) t ∙ sym (map-take (word r) k days)
+
+-- The two ways out of a window
+
+module _ (event : ℕ) (numbers : Numbers) (row : List ℕ) (size reach : ℕ) where
+  pub picked-none : getD (numbers .taken) size 0 ≡ 0 → noDays (Few size reach) ≡ picked event numbers row size reach
+  unfolding picked
+  picked-none e = rw (eq-eqb (getD (numbers .taken) size 0) 0 e)
+
+  pub picked-some : (getD (numbers .taken) size 0 ≡ 0 → ⊥)
+      → record {
+        choosing = Days;
+        chosen = record {
+          days = inFive (daysIn event row (getD (numbers .passed) size 0) (getD (numbers .taken) size 0));
+          count = getD (numbers .taken) size 0;
+          reach = reach;
+        };
+      } ≡ picked event numbers row size reach
+  unfolding picked
+  picked-some e = rw (ne-eqb (getD (numbers .taken) size 0) 0 e)
+
+-- The two ways out where the eligible days do not fill the window
+
+module _ (r : Request) (numbers : Numbers) (found : Found) (before reach : ℕ) where
+  pub short-of-days : before < reach → noDays (Short reach) ≡ amongFew r numbers found before reach
+  unfolding amongFew
+  short-of-days h = rw (lt-ltb before reach h)
+
+  pub enough-days : reach ≤ before
+      → picked (r .event) numbers (insertAll (take (fillers numbers found) (found .spare)) (found .eligible)) (found .count + fillers numbers found) reach
+      ≡ amongFew r numbers found before reach
+  unfolding amongFew
+  enough-days h = rw (le-ltb before reach h)
+
+-- The same of the definition
+
+module _ {A O : Type 0} (m : Method A O) (h : History A) where
+  choice-short : isShort m h ≡ true → choiceOf m h ≡ noDays (Short (wholeReach m))
+  unfolding choiceOf
+  choice-short e = rw e
+
+  -- the choice from a window
+  abbrev of-window : List ℕ → ℕ → Choice
+  of-window days count =
+      cond (eqb (m .taken (length (window m h))) 0) (noDays (Few (length (window m h)) (reach m h)))
+      (record { choosing = Days; chosen = record { days = inFive days; count = count; reach = reach m h } })
+
+  choice-window : isShort m h ≡ false → choiceOf m h ≡ of-window (daysOf (chosen m h)) (length (chosen m h))
+  unfolding choiceOf
+  choice-window e = rw e
+
+module _ (group : ℕ → Group) {r : Request} {rules : Rules} {numbers : Numbers} (f : Follows r rules numbers) (h : History Day) where
+  abbrev m : Method Day (Option Baseline)
+  m = methodBy group r rules
+
+  passed : ℕ
+  passed = rules .passed (length (window m h))
+
+  taken : ℕ
+  taken = rules .taken (length (window m h))
+
+  -- the row of the window gives the choice
+  module _ {row : List ℕ} {size far : ℕ} (few : length (window m h) ≤ 10) (is : row ≡ rowOf r (window m h)) (sized : size ≡ length (window m h))
+      (reached : far ≡ reach m h) (back : all (lookedBack r) (window m h) ≡ true) where
+    picked-window : picked (r .event) numbers row size far ≡ of-window m h (daysIn (r .event) row passed taken) taken
+    unfolding picked methodBy passed taken
+    picked-window = rw (sized, reached, passed-at f (length (window m h)) few, taken-at f (length (window m h)) few)
+
+    days-are : daysIn (r .event) row passed taken ≡ daysOf (chosen m h)
+    unfolding chosen methodBy passed taken
+    days-are =
+        rw is
+        (ranks-of-row r passed taken 10 (window m h) back (taken-within f (length (window m h)) few)
+        (omega (arith, taken-within f (length (window m h)) few)))
+
+    count-is : taken ≡ length (chosen m h)
+    unfolding chosen methodBy passed taken
+    count-is =
+        rw (length-take, length-drop, length-sorted (higher r) (window m h)) (omega (arith, taken-within f (length (window m h)) few))
+
+    picked-is : isShort m h ≡ false → picked (r .event) numbers row size far ≡ choiceOf m h
+    picked-is e = picked-window ∙ (λ i. of-window m h (days-are i) (count-is i)) ∙ sym (choice-window m h e)
+
+  module _ (days : List (ℕ × Day)) (found : Found) (sees : seen m h ≡ days) (back : all (lookedBack r) days ≡ true)
+      (q : Enough r (numbers .most) (numbers .spares) days found) where
+    eligibles-are : eligibles m h ≡ eligibleOf days
+    unfolding eligibles methodBy eligibleOf
+    eligibles-are = ap (keep (λ (p : ℕ × Day). eligible (p .1))) sees
+
+    spares-are : spares m h ≡ inOrder r (numbers .spares) (spareOf days)
+    unfolding spares methodBy spareOf
+    spares-are =
+        ap (λ (l : List (ℕ × Day)). rules .order (keep (λ (p : ℕ × Day). spare (p .1)) l)) sees
+        ∙ ap (λ (o : List (ℕ × Day) → List (ℕ × Day)). o (keep (λ (p : ℕ × Day). spare (p .1)) days)) (sym (f .order))
+
+    eligible-back : all (lookedBack r) (eligibleOf days) ≡ true
+    unfolding eligibleOf
+    eligible-back = all-keep (lookedBack r) (λ (p : ℕ × Day). eligible (p .1)) days back
+
+    spare-back : all (lookedBack r) (spareOf days) ≡ true
+    unfolding spareOf
+    spare-back = all-keep (lookedBack r) (λ (p : ℕ × Day). spare (p .1)) days back
+
+    -- the eligible days fill the window
+    module _ (full : numbers .most ≤ found .count) where
+      many : m .most ≤ length (eligibles m h)
+      unfolding methodBy
+      many = rw eligibles-are (omega (arith, q .count, f .most))
+
+      full-window : window m h ≡ take (numbers .most) (eligibleOf days)
+      unfolding methodBy
+      full-window = window-full m (lawful-by f group) h many ∙ (λ i. take (sym (f .most) i) (eligibles-are i))
+
+      sized : numbers .most ≡ length (window m h)
+      unfolding methodBy
+      sized = f .most ∙ sym (full-size m (lawful-by f group) h many)
+
+      full-reach : found .oldest ≡ reach m h
+      unfolding reach methodBy
+      full-reach =
+          q .oldest
+          ∙ rw (eq-eqb (length (window m h)) (rules .most) (full-size m (lawful-by f group) h many), full-window)
+
+      pub full-choice : picked (r .event) numbers (found .eligible) (numbers .most) (found .oldest) ≡ choiceOf m h
+      full-choice =
+          picked-is (omega (arith, sized, f .sound .ten)) (q .row ∙ ap (rowOf r) (sym full-window)) sized full-reach
+          (rw full-window (all-take (lookedBack r) (numbers .most) (eligibleOf days) eligible-back))
+          (full-enough m h many)
+
+    -- they do not
+    module _ (less : found .count < numbers .most) (before : h .first ≤ r .event + 1) where
+      fewer : length (eligibleOf days) < numbers .most
+      fewer = omega (arith, q .count)
+
+      count-eligible : found .count ≡ length (eligibleOf days)
+      count-eligible = omega (arith, q .count, fewer)
+
+      filling : List (ℕ × Day)
+      filling = take (fillers numbers found) (inOrder r (numbers .spares) (spareOf days))
+
+      filling-is : take (rules .fill - length (eligibleOf days)) (inOrder r (numbers .spares) (spareOf days)) ≡ filling
+      unfolding filling
+      filling-is =
+          sym (take-within (rules .fill - length (eligibleOf days)) (inOrder r (numbers .spares) (spareOf days)))
+          ∙ rw (order-length r (numbers .spares) (spareOf days), f .fill, count-eligible, q .spares fewer)
+
+      window-is : window m h ≡ eligibleOf days ++ filling
+      unfolding window methodBy
+      window-is =
+          (λ i. take (rules .most) (eligibles-are i) ++ take (rules .fill - length (eligibles-are i)) (spares-are i))
+          ∙ (λ i. take-all (rules .most) (eligibleOf days) (omega (arith, fewer, f .most)) i ++ filling-is i)
+
+      sized-few : found .count + fillers numbers found ≡ length (window m h)
+      unfolding filling
+      sized-few =
+          rw (window-is, length-append, length-take, order-length r (numbers .spares) (spareOf days), ← count-eligible, ← q .spares fewer) (omega arith)
+
+      few-back : all (lookedBack r) (window m h) ≡ true
+      unfolding filling
+      few-back =
+          rw (window-is, all-append, eligible-back)
+          (all-take (lookedBack r) (fillers numbers found) (inOrder r (numbers .spares) (spareOf days))
+          (order-back r (numbers .spares) (spareOf days) spare-back))
+
+      row-is : insertAll (take (fillers numbers found) (found .spare)) (found .eligible) ≡ rowOf r (window m h)
+      unfolding filling
+      row-is =
+          rw (q .sparing fewer, q .row, take-all (numbers .most) (eligibleOf days) (omega (arith, fewer)), window-is)
+          (ap (λ (l : List ℕ). insertAll l (rowOf r (eligibleOf days)))
+          (spare-words r (numbers .spares) (fillers numbers found) (spareOf days) spare-back
+          (omega (arith, q .spares fewer)) (omega (arith, f .sound .ten, f .sound .fills)))
+          ∙ row-with r (eligibleOf days) filling)
+
+      few-eligible : length (eligibles m h) < m .most
+      unfolding methodBy
+      few-eligible = rw eligibles-are (omega (arith, fewer, f .most))
+
+      few-size : length (window m h) ≤ 10
+      unfolding methodBy
+      few-size = omega (arith, size-below m (lawful-by f group) h few-eligible, f .most, f .sound .ten)
+
+      reach-is : wholeReach m ≡ reach m h
+      unfolding reach
+      reach-is =
+          rw (ne-eqb (length (window m h)) (m .most) (λ e. omega (arith, size-below m (lawful-by f group) h few-eligible)))
+
+      short-is : isShort m h ≡ ltb (r .event - h .first) (wholeReach m)
+      unfolding isShort wholeReach methodOf methodBy
+      short-is = rw (lt-ltb (length (eligibles m h)) (m .most) few-eligible) (short-of-reach group r (h .first) before)
+
+      pub few-choice : amongFew r numbers found (r .event - h .first) (wholeReach m) ≡ choiceOf m h
+      few-choice =
+          ⊎-elim
+          (λ (o : r .event - h .first < wholeReach m).
+          sym (short-of-days r numbers found (r .event - h .first) (wholeReach m) o)
+          ∙ sym (choice-short m h (short-is ∙ lt-ltb (r .event - h .first) (wholeReach m) o)))
+          (λ (o : wholeReach m ≤ r .event - h .first).
+          sym (enough-days r numbers found (r .event - h .first) (wholeReach m) o)
+          ∙ picked-is few-size row-is sized-few reach-is few-back
+          (short-is ∙ le-ltb (r .event - h .first) (wholeReach m) o))
+          (lt-or-le (r .event - h .first) (wholeReach m))
+
+-- Over a directory
+
+-- how many days are held before the event
+unfoldable pub roomsBefore : Request → Directory → ℕ
+roomsBefore r rooms = heldRooms r rooms - 1
+
+pub before-is : (r : Request) (rooms : Directory) {a b k : ℕ} → a ≡ rooms .held - 1 → b ≡ min 45 (r .event) → k ≡ min a b → k ≡ roomsBefore r rooms
+unfolding roomsBefore heldRooms
+before-is r rooms e f g = omega arith
+
+module _ (r : Request) (rooms : Directory) (readings : List ℕ) where
+  within-45 : roomsBefore r rooms ≤ 45
+  unfolding roomsBefore heldRooms
+  within-45 = omega arith
+
+  within-event : heldRooms r rooms ≤ r .event + 1
+  unfolding heldRooms
+  within-event = omega arith
+
+  pub before-first : r .event - roomHistory r rooms readings .first ≡ roomsBefore r rooms
+  unfolding roomHistory roomsBefore
+  before-first = omega (arith, within-event)
+
+  up-to-event : r .event ≤ roomHistory r rooms readings .first + roomHistory r rooms readings .count
+  unfolding roomHistory
+  up-to-event = omega arith
+
+  pub not-after : roomHistory r rooms readings .first ≤ r .event + 1
+  unfolding roomHistory
+  not-after = omega arith
+
+module _ (group : ℕ → Group) (r : Request) (rooms : Directory) (readings : List ℕ) where
+  pub seen-rooms : (rules : Rules)
+      → seen (methodBy group r rules) (roomHistory r rooms readings) ≡ nearest group r (roomsOf r rooms readings) (roomsBefore r rooms)
+  unfolding roomHistory
+  seen-rooms rules =
+      let e : min 45 (r .event - roomHistory r rooms readings .first) ≡ roomsBefore r rooms = omega (arith, within-45 r rooms readings, before-first r rooms readings) in
+      seen-nearest group r (roomHistory r rooms readings) rules (up-to-event r rooms readings) ∙ ap (nearest group r (roomsOf r rooms readings)) e
+
+  module _ {rules : Rules} {numbers : Numbers} (f : Follows r rules numbers) (found : Found)
+      (q : Enough r (numbers .most) (numbers .spares) (nearest group r (roomsOf r rooms readings) (roomsBefore r rooms)) found) where
+    pub choose-full : numbers .most ≤ found .count
+        → picked (r .event) numbers (found .eligible) (numbers .most) (found .oldest) ≡ choiceOf (methodBy group r rules) (roomHistory r rooms readings)
+    choose-full =
+        full-choice group f (roomHistory r rooms readings) (nearest group r (roomsOf r rooms readings) (roomsBefore r rooms)) found (seen-rooms rules)
+        (nearest-back group r (roomsOf r rooms readings) (roomsBefore r rooms) (within-45 r rooms readings)) q
+
+    pub choose-few : found .count < numbers .most
+        → amongFew r numbers found (roomsBefore r rooms) (wholeReach (methodBy group r rules)) ≡ choiceOf (methodBy group r rules) (roomHistory r rooms readings)
+    choose-few less =
+        ap (λ (n : ℕ). amongFew r numbers found n (wholeReach (methodBy group r rules))) (sym (before-first r rooms readings))
+        ∙ few-choice group f (roomHistory r rooms readings) (nearest group r (roomsOf r rooms readings) (roomsBefore r rooms)) found (seen-rooms rules)
+        (nearest-back group r (roomsOf r rooms readings) (roomsBefore r rooms) (within-45 r rooms readings)) q less (not-after r rooms readings)
+
+-- By the request's own rules
+
+module _ (group : ℕ → Group) (r : Request) (rooms : Directory) (readings : List ℕ) {g : Group} {numbers : Numbers} {before : ℕ} (found : Found)
+    (own : g ≡ group (r .event)) (f : Follows r (rulesOf g r) numbers) (held : before ≡ roomsBefore r rooms)
+    (q : Enough r (numbers .most) (numbers .spares) (nearest group r (roomsOf r rooms readings) before) found) where
+  pub request-full : numbers .most ≤ found .count
+      → picked (r .event) numbers (found .eligible) (numbers .most) (found .oldest) ≡ choiceOf (methodOf group r) (roomHistory r rooms readings)
+  unfolding methodOf
+  request-full = choose-full group r rooms readings (rw own at f) found (rw held at q)
+
+  pub request-few : found .count < numbers .most
+      → amongFew r numbers found before (wholeReach (methodOf group r)) ≡ choiceOf (methodOf group r) (roomHistory r rooms readings)
+  unfolding methodOf
+  request-few less = rw held (choose-few group r rooms readings (rw own at f) found (rw held at q) less)

@@ -1,0 +1,98 @@
+-- `engine_choice::look` meets its contract. The invariant: what was found is what the `back` nearest days hold.
+use Prim.Native.Nat.{_+_, _-_}
+use mathlib.Core.Path.{_∙_, ap}
+use native.Mathlib.Omega.{arith}
+use borrow.Author.Needs.{needs}
+use lib.ListN.{getD}
+use Rattle.calendar_groups.specs.Holidays.{group as groupOf}
+use Rattle.engine_judging.specs.Judging.{room}
+use Rattle.engine_choice.specs.Steps.{roomsOf}
+use Rattle.engine_choice.proofs.Judging.{room-back, part-most}
+use Rattle.engine_choice.proofs.Looking.{Back, back-start, back-further, back-more, back-full, back-end}
+use Rattle.engine_choice.proofs.look.Statement.{statement}
+use Rattle.engine_choice.proofs.look.Tie as tie
+
+abbrev Inv-loop : tie.InvT-loop
+Inv-loop request group rules readings before rooms spares found₀ back₀ found back =
+    Back groupOf request (roomsOf request rooms readings) (rules .most) (rules .spares) before back found
+
+abbrev μ-loop : tie.MeasureT-loop
+μ-loop request group rules readings before rooms spares found₀ back₀ found back = before - back
+
+loop-holds : tie.Need-loop-holds Inv-loop μ-loop
+loop-holds c =
+    let a = c .before .args in
+    back-start groupOf (a .request) (roomsOf (a .request) (a .t4) (a .readings .now)) (a .rules .most) (a .rules .spares) (a .before)
+
+returns : tie.Need-returns Inv-loop μ-loop
+returns c = back-full (c .before .before .before .before .loop .inv) (c .before .before .before .before .before .before .pre .1) (c .if1 .taken)
+
+add-back : tie.Need-add-back Inv-loop μ-loop
+add-back c = omega arith
+
+cast-place : tie.Need-cast-place Inv-loop μ-loop
+cast-place c = omega arith
+
+sub-size : tie.Need-sub-size Inv-loop μ-loop
+sub-size c = omega arith
+
+size-requires : tie.Need-size-requires Inv-loop μ-loop
+size-requires c κs = search needs
+
+mul-readings-at : tie.Need-mul-readings-at Inv-loop μ-loop
+mul-readings-at c = omega arith
+
+element-copy-out-readings-at : tie.Need-element-copy-out-readings-at Inv-loop μ-loop
+element-copy-out-readings-at c = omega arith
+
+readings-at-requires : tie.Need-readings-at-requires Inv-loop μ-loop
+readings-at-requires c κs = search needs
+
+element-copy-out-with-day : tie.Need-element-copy-out-with-day Inv-loop μ-loop
+element-copy-out-with-day c = omega arith
+
+with-day-requires : tie.Need-with-day-requires Inv-loop μ-loop
+with-day-requires c κs =
+    let s = c .before .before .before .before .before .before .before .before .before .before .before in
+    let l = c .before .before .before .before .before .before .before .before .before .loop in (
+      s .pre .0,
+      back-further (l .inv) (c .before .before .before .before .before .before .before .before .loop-test .taken) (s .pre .1) (s .pre .2),
+      rw (c .before .readings-at .ensures .list)
+          (part-most (s .args .readings .now) (getD (s .args .t4 .at) (l .back + 1) 0) (s .args .request .event - (l .back + 1)) (c .before .before .before .size .ensures)),
+    )
+
+loop-less : tie.Need-loop-less Inv-loop μ-loop
+loop-less c = omega arith
+
+loop-again : tie.Need-loop-again Inv-loop μ-loop
+loop-again c =
+    let s = c .before .before .before .before .before .before .before .before .before .before .before .before in
+    let a = s .args in
+    let l = c .before .before .before .before .before .before .before .before .before .before .loop in
+    let part = ap (room (getD (a .t4 .marks) (l .back + 1) 0)) (rw (c .before .before .before .before .size .ensures) at (c .before .before .readings-at .ensures .list)) in
+    let here = room-back (a .request) (a .t4) (a .readings .now) (l .back + 1) (omega (arith, c .before .before .before .before .before .before .before .before .before .loop-test .taken, s .pre .2)) in
+    back-more (l .inv) (c .before .before .before .before .before .before .before .before .before .loop-test .taken) (s .pre .2) (c .before .before .before .before .before .before .if1 .left) (rw (part ∙ here) at (c .with-day .ensures))
+
+returns-2 : tie.Need-returns-2 Inv-loop μ-loop
+returns-2 c = back-end (c .before .loop .inv) (c .before .before .before .pre .1) (c .loop-test .left)
+
+pub look-spec : {M : Type 1} → statement M
+look-spec =
+    tie.close
+    (tie.spec
+    Inv-loop
+    μ-loop
+    loop-holds
+    returns
+    add-back
+    cast-place
+    sub-size
+    size-requires
+    mul-readings-at
+    element-copy-out-readings-at
+    readings-at-requires
+    element-copy-out-with-day
+    with-day-requires
+    loop-less
+    loop-again
+    returns-2)

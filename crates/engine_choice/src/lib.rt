@@ -1,0 +1,284 @@
+// The choice of days over a directory of rooms: which days are relevant, eligible and spare, the window, the chosen days and the reach
+// (document 01, "Choosing the days"). A table, a ring and a shared store make a directory; the choice is the same function.
+ghost use mathlib.Core.Path.{_≡_};
+ghost use Prim.Native.Nat.{_+_, _-_, _%_, _≤_, _<_};
+ghost use lib.ListN.{length, set};
+ghost use Rattle.calendar_groups.specs.Holidays.{group as groupOf};
+ghost use Rattle.method.specs.Table.{mostQuarters};
+ghost use Rattle.method.specs.Method.{wholeReach};
+ghost use Rattle.method.specs.Requested.{rulesOf, methodOf};
+ghost use Rattle.engine_rooms.specs.Rooms.{roomHistory};
+ghost use Rattle.engine_judging.specs.Judging.{room};
+ghost use Rattle.engine_choice.specs.Choice.{choiceOf, noDays, inFive};
+ghost use Rattle.engine_choice.specs.Steps.{Sound, Follows, firstRanks, roomsOf, nearest, ifRelevant, withSpare, Further, Adds, Enough};
+ghost use Rattle.engine_choice.specs.Steps.{daysIn, picked, amongFew};
+use base_numbers::counts;
+use calendar_groups::Group;
+use engine_judging::Judged;
+use engine_rooms::Directory;
+use method::Request;
+
+// The chosen days in rank order, the first `count` of the five, and the reach.
+pub struct Chosen {
+    pub days: [u32; 5],
+    pub count: u32,
+    pub reach: u32,
+}
+
+// What the choice ends in: refusal 8 or 9 with what it carries, or days.
+pub enum Choosing {
+    Short(u32),
+    Few { size: u32, reach: u32 },
+    Days,
+}
+
+// The chosen days are all nought where the choice is refused.
+pub struct Choice {
+    pub choosing: Choosing,
+    pub chosen: Chosen,
+}
+
+// The order in which spare days fill a shortage: the highest first, or the nearest to the event first.
+enum SpareOrder {
+    Highest,
+    Latest,
+}
+
+// The rules of a request as numbers: Y; up to how many days spares fill the window, and in which order; and by the window's size, 0 to 10, the
+// ranks passed over and the days taken.
+struct Rules {
+    most: u32,
+    fill: u32,
+    spares: SpareOrder,
+    passed: [u32; 11],
+    taken: [u32; 11],
+}
+
+// What was found looking back: the words of eligible days, how many there are, how far back the last of them lies, and the same of spare
+// days but for their place.
+struct Found {
+    eligible: [u64; 10],
+    count: u32,
+    oldest: u32,
+    spare: [u64; 10],
+    spares: u32,
+}
+
+// Rules by which no rank is passed over, and the highest spares fill first.
+fn first_ranks(most: u32, fill: u32, taken: [u32; 11]) -> Rules
+    ensures { λ r. ⌜ r ≡ firstRanks most fill taken ⌝ }
+{
+    Rules {
+        most,
+        fill,
+        spares: SpareOrder::Highest,
+        passed: [0; 11],
+        taken,
+    }
+}
+
+// The rules of a request on a day of this group.
+fn rules_of(request: Request, group: Group) -> Rules
+    ensures { λ r. ⌜ Follows request (rulesOf group request) r ⌝ }
+{
+    match group {
+        Group::Weekday => first_ranks(10, 5, [0, 0, 0, 0, 0, 5, 5, 5, 5, 5, 5]),
+        Group::Saturday => first_ranks(3, 2, [0, 0, 2, 2, 2, 2, 2, 2, 2, 2, 2]),
+        Group::HolidayGroup => first_ranks(3, 2, [0, 0, 2, 2, 2, 2, 2, 2, 2, 2, 2]),
+    }
+}
+
+// A row with one more word after the `count` that stand there; it is lost where there is no place for it.
+fn append(row: [u64; 10], count: u32, word: u64) -> [u64; 10]
+    ensures { λ r. ⌜ r ≡ set row count word ⌝ }
+{
+    if count < 10 {
+        let mut next = row;
+        next[count as usize] = word;
+        next
+    } else {
+        row
+    }
+}
+
+// A row of `count` spare days with one more.
+fn with_spare(spares: SpareOrder, row: [u64; 10], count: u32, word: u64) -> [u64; 10]
+    ensures { λ r. ⌜ r ≡ withSpare spares row count word ⌝ }
+{
+    match spares {
+        SpareOrder::Highest => engine_ranking::insert(row, word),
+        SpareOrder::Latest => append(row, count, word),
+    }
+}
+
+// What was found once one more day is looked at, `back` days before the event.
+fn with_day(
+    request: Request,
+    group: Group,
+    spares: SpareOrder,
+    back: u32,
+    mark: u8,
+    part: &[u32],
+    found: Found,
+) -> Found
+    requires { ⌜ (group ≡ groupOf (request .event)) × Further request back found × (length (now part) ≤ mostQuarters) ⌝ }
+    ensures { λ r. ⌜ Adds request spares back (ifRelevant groupOf request (request .event - back, room mark (now (part .entry)))) found r ⌝ }
+{
+    if engine_relevant::relevant(request, group, request.event - back) {
+        let eligible = found.eligible;
+        let spare = found.spare;
+        match engine_judging::judge(request, mark, part, back) {
+            Judged::Eligible(word) => Found {
+                eligible: engine_ranking::insert(eligible, word),
+                count: found.count + 1,
+                oldest: back,
+                spare,
+                spares: found.spares,
+            },
+            Judged::Spare(word) => Found {
+                eligible,
+                count: found.count,
+                oldest: found.oldest,
+                spare: with_spare(spares, spare, found.spares, word),
+                spares: found.spares + 1,
+            },
+            Judged::Neither => found,
+        }
+    } else {
+        found
+    }
+}
+
+// The look back over the days held before the event, nearest first. It ends at the day that fills the window.
+fn look(
+    request: Request,
+    group: Group,
+    rules: Rules,
+    rooms: Directory,
+    readings: &[u32],
+    before: u32,
+) -> Found
+    requires { ⌜ (group ≡ groupOf (request .event)) × (before ≤ 45) × (before ≤ request .event) ⌝ }
+    ensures { λ r. ⌜ Enough request (rules .most) (rules .spares) (nearest groupOf request (roomsOf request rooms (now (readings .entry))) before) r ⌝ }
+{
+    let spares = rules.spares;
+    let mut found = Found {
+        eligible: [0; 10],
+        count: 0,
+        oldest: 0,
+        spare: [0; 10],
+        spares: 0,
+    };
+    let mut back = 0;
+    while back < before {
+        if found.count == rules.most {
+            return found;
+        }
+        back += 1;
+        let place = back as usize;
+        let size = day_ruler::size(request.event - back);
+        let part = engine_rooms::readings_at(readings, rooms.at[place], size);
+        let next = with_day(
+            request,
+            group,
+            spares,
+            back,
+            rooms.marks[place],
+            part,
+            found,
+        );
+        found = next;
+    }
+    found
+}
+
+// The day of a word.
+fn day_of(event: u32, word: u64) -> u32
+    ensures { λ r. ⌜ r ≡ event - (46 - word % 64) ⌝ }
+{
+    counts::minus(event, counts::minus(46, engine_ranking::nearness_of(word)))
+}
+
+// The days of so many words of a row, up to five, after those passed over.
+fn days_in(event: u32, row: [u64; 10], passed: usize, count: usize) -> [u32; 5]
+    requires { ⌜ (count ≤ 5) × (passed + count ≤ 10) ⌝ }
+    ensures { λ r. ⌜ r ≡ inFive (daysIn event row passed count) ⌝ }
+{
+    let mut days = [0; 5];
+    let mut i = 0;
+    while i < count {
+        days[i] = day_of(event, row[passed + i]);
+        i += 1;
+    }
+    days
+}
+
+// The choice that a refusal is.
+fn refused(choosing: Choosing) -> Choice
+    ensures { λ r. ⌜ r ≡ noDays choosing ⌝ }
+{
+    Choice {
+        choosing,
+        chosen: Chosen {
+            days: [0; 5],
+            count: 0,
+            reach: 0,
+        },
+    }
+}
+
+// The choice from the ranked row of a window of so many days.
+fn pick(event: u32, rules: Rules, row: [u64; 10], size: u32, reach: u32) -> Choice
+    requires { ⌜ Sound rules × (size ≤ 10) ⌝ }
+    ensures { λ r. ⌜ r ≡ picked event rules row size reach ⌝ }
+{
+    let count = rules.taken[size as usize];
+    if count == 0 {
+        return refused(Choosing::Few { size, reach });
+    }
+    let passed = rules.passed[size as usize];
+    Choice {
+        choosing: Choosing::Days,
+        chosen: Chosen {
+            days: days_in(event, row, passed as usize, count as usize),
+            count,
+            reach,
+        },
+    }
+}
+
+// The choice where the eligible days do not fill the window: spare days are put in, and the reach is that of all relevant days.
+fn choose_among_few(request: Request, rules: Rules, found: Found, before: u32) -> Choice
+    requires { ⌜ Sound rules × (found .count < rules .most) × (found .spares ≤ 45) ⌝ }
+    ensures { λ r. ⌜ r ≡ amongFew request rules found before (wholeReach (methodOf groupOf request)) ⌝ }
+{
+    let reach = engine_relevant::whole_reach(request);
+    if before < reach {
+        return refused(Choosing::Short(reach));
+    }
+    let fillers = counts::least(counts::minus(rules.fill, found.count), found.spares);
+    let spare = found.spare;
+    let eligible = found.eligible;
+    let row = engine_ranking::insert_all(spare, fillers as usize, eligible);
+    pick(request.event, rules, row, found.count + fillers, reach)
+}
+
+// The choice of days: refusal 8 or 9, or the chosen days and the reach.
+pub fn choose(request: Request, rooms: Directory, readings: &[u32]) -> Choice
+    ensures { λ r. ⌜ r ≡ choiceOf (methodOf groupOf request) (roomHistory request rooms (now (readings .entry))) ⌝ }
+{
+    let event = request.event;
+    let group = calendar_groups::group_of(event);
+    let rules = rules_of(request, group);
+    let before = counts::least(
+        counts::minus(rooms.held, 1),
+        counts::least(method::LOOK_BACK, event),
+    );
+    let found = look(request, group, rules, rooms, readings, before);
+    if found.count < rules.most {
+        choose_among_few(request, rules, found, before)
+    } else {
+        let eligible = found.eligible;
+        pick(event, rules, eligible, rules.most, found.oldest)
+    }
+}

@@ -1,0 +1,5 @@
+pub mod Adding
+pub mod Signed
+pub mod Windows
+pub mod Standing
+pub mod Laws

@@ -1,7 +1,0 @@
--- How long the lines of an event get at most.
-use Prim.Native.Nat.{ℕ, _+_}
-use Rattle.event_line.specs.Room.{eventRoom}
-use Rattle.quarter_lines.specs.Room.{quartersRoom}
-
-abbrev pub linesRoom : ℕ
-linesRoom = eventRoom + quartersRoom

@@ -1,0 +1,4 @@
+pub mod Rooms
+pub mod Puts
+pub mod Laws
+pub mod Files

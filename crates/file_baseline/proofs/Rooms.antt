@@ -1,0 +1,83 @@
+-- Room for numerators: more than a day's changes nothing, and with a day's there is always enough.
+use Prim.Native.Nat.{ℕ, _-_, _≤_, _<_, min}
+use mathlib.Core.Path.{_≡_, ap}
+use mathlib.Core.Bool.{Bool, true, false, not, cond}
+use mathlib.Core.Option.{Option, none, some}
+use mathlib.Core.Logic.{⊎-elim}
+use native.Mathlib.Omega.{arith}
+use borrow.Author.Tests.{lt-ltb, le-ltb}
+use lib.Dec.{ltb}
+use Rattle.base_lists.specs.Lists.{all, leading}
+use Rattle.base_lists.proofs.Bools.{bool-cases, lt-or-le}
+use Rattle.calendar_groups.specs.declared.Group.{Group}
+use Rattle.method.specs.declared.Request.{Request}
+use Rattle.method.specs.declared.Refusal.{Refusal}
+use Rattle.method.specs.declared.Refusal.the-variants.{BadTable, BadMark, BadReading, NotHeld, NotYetParticipating, NoRoom}
+use Rattle.method.specs.Table.{Table, mostQuarters, goodMark, goodReading, held, history, isExtract}
+use Rattle.method.specs.Method.{Outcome, short, few, chose, outcome}
+use Rattle.method.specs.Adjustment.{Baseline}
+use Rattle.method.specs.Requested.{methodOf}
+use Rattle.method.specs.Verdict.{Reply, refused, number, goodRequest, tableRefusals, requestRefusals, closing, firstOf, methodology, verdict}
+use Rattle.method.proofs.Ruler.{day-most}
+use Rattle.engine_refusals.proofs.FirstRefusal.{good-request}
+
+-- more room than a day's quarters changes no test
+most-room : (n k : ℕ) → k ≤ mostQuarters → ltb (min n mostQuarters) k ≡ ltb n k
+most-room n k h = ⊎-elim below enough (lt-or-le n k)
+  where
+    below : n < k → ltb (min n mostQuarters) k ≡ ltb n k
+    below g = let o : min n mostQuarters < k = omega arith in rw (lt-ltb (min n mostQuarters) k o, lt-ltb n k g)
+
+    enough : k ≤ n → ltb (min n mostQuarters) k ≡ ltb n k
+    enough g = let o : k ≤ min n mostQuarters = omega arith in rw (le-ltb (min n mostQuarters) k o, le-ltb n k g)
+
+-- a day's quarters are room enough for every event
+pub room-same : (r : Request) (group : ℕ → Group) (t : Table) (room : ℕ) → verdict group t r (min room mostQuarters) ≡ verdict group t r room
+unfolding verdict methodology requestRefusals firstOf
+room-same r group t room = ⊎-elim good bad (bool-cases (goodRequest r))
+  where
+    good : goodRequest r ≡ true → verdict group t r (min room mostQuarters) ≡ verdict group t r room
+    good g =
+        let k = good-request r g in
+        let o : r .e - r .s ≤ mostQuarters = omega (arith, k .upTo, k .from, day-most (r .event)) in
+        rw (most-room room (r .e - r .s) o)
+
+    bad : goodRequest r ≡ false → verdict group t r (min room mostQuarters) ≡ verdict group t r room
+    bad g = rw g
+
+-- refusal 7 does not come where another test comes first, nor from what the days give
+module _ (b : Bool) (w : Refusal) (reply : Reply) where
+  tested-before : (number w ≡ 7 → ⊥) → (reply ≡ refused NoRoom → ⊥) → cond b (refused w) reply ≡ refused NoRoom → ⊥
+  tested-before n g e = go b e
+    where
+      go : (b : Bool) → cond b (refused w) reply ≡ refused NoRoom → ⊥
+      go true e = let k : w ≡ NoRoom = cc in n (ap number k)
+      go false e = g e
+
+closing-never : (o : Outcome (Option Baseline)) → closing o ≡ refused NoRoom → ⊥
+unfolding closing
+closing-never (short days) e = let z : _≡_ {A = ℕ} 0 1 = cc in omega arith
+closing-never (few size reach) e = let z : _≡_ {A = ℕ} 0 1 = cc in omega arith
+closing-never (chose days reach none) e = let z : _≡_ {A = ℕ} 0 1 = cc in omega arith
+closing-never (chose days reach (some b)) e = let z : _≡_ {A = ℕ} 0 1 = cc in omega arith
+
+-- with room for a day's quarters refusal 7 never comes
+pub room-enough : (r : Request) (group : ℕ → Group) (t : Table) → verdict group t r mostQuarters ≡ refused NoRoom → ⊥
+unfolding verdict methodology tableRefusals requestRefusals firstOf
+room-enough r group t =
+    tested-before (not (isExtract t)) BadTable _ (λ n. omega arith)
+    (tested-before (not (all goodMark (t .marks))) (BadMark (leading goodMark (t .marks))) _ (λ n. omega arith)
+    (tested-before (not (all goodReading (t .readings))) (BadReading (leading goodReading (t .readings))) _ (λ n. omega arith)
+    (⊎-elim good bad (bool-cases (goodRequest r)))))
+  where
+    good : goodRequest r ≡ true → methodology group (history t) r mostQuarters ≡ refused NoRoom → ⊥
+    good g =
+        let k = good-request r g in
+        let o : r .e - r .s ≤ mostQuarters = omega (arith, k .upTo, k .from, day-most (r .event)) in
+        rw (g, le-ltb mostQuarters (r .e - r .s) o)
+        (tested-before (not (held (history t) (r .event))) NotHeld _ (λ n. omega arith)
+        (tested-before (ltb (r .event) (r .participation)) NotYetParticipating _ (λ n. omega arith)
+        (closing-never (outcome (methodOf group r) (history t)))))
+
+    bad : goodRequest r ≡ false → methodology group (history t) r mostQuarters ≡ refused NoRoom → ⊥
+    bad g = rw g (λ e. let z : _≡_ {A = ℕ} 0 1 = cc in omega arith)

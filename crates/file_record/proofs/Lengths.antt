@@ -1,0 +1,31 @@
+-- How long what a file says is.
+use Prim.Native.Nat.{ℕ, zero, suc}
+use mathlib.Core.Path.{_≡_, refl, ap}
+use mathlib.Core.List.{List}
+use lib.ListN.{length, drop, length-append}
+use Rattle.method.specs.Table.{offset}
+use Rattle.file_record.specs.declared.Shape.{Shape}
+use Rattle.file_record.specs.declared.Read.the-variants.{File}
+use Rattle.file_record.specs.Reader.{dyLength, marksFrom, numbers, readingsFrom, shapeIn, tableIn, tableWithin, readFile}
+use Rattle.file_record.proofs.Starts.{base-is}
+use Rattle.file_record.proofs.Files.{shape-fits}
+
+pub numbers-length : (count : ℕ) (left : List ℕ) → length (numbers count left) ≡ count
+unfolding numbers
+numbers-length zero left = refl
+numbers-length (suc count) left = ap suc (numbers-length count (drop 4 left))
+
+pub marks-length : (h d : ℕ) (left : List ℕ) → length (marksFrom h d left) ≡ h
+unfolding marksFrom
+marks-length zero d left = refl
+marks-length (suc h) d left = ap suc (marks-length h (suc d) (drop (dyLength d) left))
+
+pub readings-length : (h d : ℕ) (left : List ℕ) → length (readingsFrom h d left) ≡ offset d h
+unfolding readingsFrom offset
+readings-length zero d left = refl
+readings-length (suc h) d left = rw (length-append, numbers-length, readings-length h)
+
+-- what an accepted file holds, by its shape
+pub table-within : (file : List ℕ) {shape : Shape} → readFile file ≡ File shape → tableWithin shape file ≡ tableIn file
+unfolding tableWithin tableIn shapeIn
+table-within file {shape} r = rw (base-is file (shape-fits file shape r .is-shape), shape-fits file shape r .is-shape)

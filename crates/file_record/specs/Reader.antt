@@ -1,0 +1,203 @@
+-- 01, "Record file, listing, host entry": which files are as laid down, and what they say. A test or a number of a record looks at the bytes
+-- that are left from the record's start on; a byte past the end counts as 0.
+use Prim.Native.Nat.{ℕ, zero, suc, _+_, _*_}
+use mathlib.Core.Bool.{Bool, cond, _&&_}
+use mathlib.Core.List.{List, [], _∷_, _++_}
+use lib.ListN.{length, getD, drop}
+use lib.Dec.{leb, ltb, eqb}
+use Rattle.method.specs.declared.Request.{Request}
+use Rattle.method.specs.Table.{Table, heldDays, size}
+use Rattle.file_record.specs.Layout.{Event, Contents}
+use Rattle.base_lists.specs.Ascii.{ascii}
+use Rattle.file_record.specs.declared.Shape.{Shape}
+use Rattle.file_record.specs.declared.Read.{Read}
+use Rattle.file_record.specs.declared.Read.the-variants.{File, Refused}
+use Rattle.file_record.specs.declared.EventAt.{EventAt}
+use Rattle.file_record.specs.declared.EventAt.the-variants.{Event as AnEvent, NoEvent, Refused as RefusedEvent}
+
+-- "numbers are little-endian": the number that stands at a place, `width` bytes wide
+unfoldable pub numberAt : ℕ → ℕ → List ℕ → ℕ
+numberAt zero at left = 0
+numberAt (suc width) at left = getD left at 0 + 256 * numberAt width (suc at) left
+
+-- "Every record opens with a two-byte mark"
+unfoldable pub opensWith : List ℕ → List ℕ → Bool
+opensWith mark left = eqb (getD left 0 0) (getD mark 0 0) && eqb (getD left 1 0) (getD mark 1 0)
+
+-- a record of `size` bytes, whole, with its mark, and with its zero byte zero
+unfoldable pub isRecord : ℕ → List ℕ → ℕ → List ℕ → Bool
+isRecord size mark zeroByte left = leb size (length left) && opensWith mark left && eqb (getD left zeroByte 0) 0
+
+-- "One PF (8 bytes: mark, P as 2 bytes, portfolio number as 4)"
+abbrev pub pfLength : ℕ
+pfLength = 8
+
+unfoldable pub isPF : List ℕ → Bool
+isPF left = leb pfLength (length left) && opensWith (ascii "PF") left
+
+-- "DY (390 bytes: mark, day 2, mark byte 1, zero 1, 96 readings of 4)", with so many readings
+abbrev pub dyBytes : ℕ → ℕ
+dyBytes readings = 6 + 4 * readings
+
+abbrev pub dyLength : ℕ → ℕ
+dyLength day = dyBytes (size day)
+
+abbrev pub dyDay : List ℕ → ℕ
+dyDay left = numberAt 2 2 left
+
+unfoldable pub isDY : List ℕ → Bool
+isDY left = isRecord (dyLength (dyDay left)) (ascii "DY") 5 left
+
+-- "EV (8 bytes: mark, D 2, s, e, n one each, zero 1)"
+abbrev pub evLength : ℕ
+evLength = 8
+
+unfoldable pub isEV : List ℕ → Bool
+isEV left = isRecord evLength (ascii "EV") 7 left
+
+-- how many records stand one after the other, at most so many: `good i` tests the one numbered `i`, of `recordLength i` bytes
+module _ (good : ℕ → List ℕ → Bool) (recordLength : ℕ → ℕ) where
+  unfoldable pub run : ℕ → ℕ → List ℕ → ℕ
+  run zero i left = 0
+  run (suc most) i left = let more = run most (suc i) (drop (recordLength i) left) in cond (good i left) (suc more) 0
+
+-- "up to 128 DY .., consecutive days": from day `first` on
+unfoldable pub isDYof : ℕ → List ℕ → Bool
+isDYof day left = isDY left && eqb (dyDay left) day
+
+unfoldable pub daysFrom : ℕ → List ℕ → ℕ
+daysFrom first left = run isDYof dyLength 128 first left
+
+-- "then up to 64 EV"
+unfoldable pub eventsFrom : List ℕ → ℕ
+eventsFrom left = run (λ i. isEV) (λ i. evLength) 64 0 left
+
+-- where the DY start: "One PF ..; then up to 128 DY"
+unfoldable pub fileBase : List ℕ → ℕ
+fileBase file = pfLength
+
+-- the same for a shape that is known
+unfoldable pub shapeBase : Shape → ℕ
+shapeBase shape = pfLength
+
+-- the most that it is
+abbrev pub mostBase : ℕ
+mostBase = pfLength
+
+-- the first day; "No DY ..: F counts as 0"
+unfoldable pub firstIn : List ℕ → ℕ
+firstIn file = cond (isDY (drop (fileBase file) file)) (dyDay (drop (fileBase file) file)) 0
+
+unfoldable pub daysIn : List ℕ → ℕ
+daysIn file = daysFrom (firstIn file) (drop (fileBase file) file)
+
+-- where the k-th DY starts, counted from 0, the first day being `first` and its DY starting at `base`: each where the one before it ends
+unfoldable pub dayStart : ℕ → ℕ → ℕ → ℕ
+dayStart base first zero = base
+dayStart base first (suc k) = dayStart base first k + dyLength (first + k)
+
+-- where the i-th EV starts
+unfoldable pub eventStart : List ℕ → ℕ → ℕ
+eventStart file i = dayStart (fileBase file) (firstIn file) (daysIn file) + evLength * i
+
+unfoldable pub eventsIn : List ℕ → ℕ
+eventsIn file = eventsFrom (drop (eventStart file 0) file)
+
+-- where the records that are as laid down end
+unfoldable pub goodEnd : List ℕ → ℕ
+goodEnd file = eventStart file (eventsIn file)
+
+unfoldable pub shapeIn : List ℕ → Shape
+shapeIn file =
+    record {
+      participation = numberAt 2 2 file;
+      portfolio = numberAt 4 4 file;
+      first = firstIn file;
+      days = daysIn file;
+      events = eventsIn file;
+    }
+
+-- "Anything else, a cut record or one too many is refused at that record's start; an empty file at 0."
+unfoldable pub readFile : List ℕ → Read
+readFile file =
+    cond (isPF file) (cond (eqb (goodEnd file) (length file)) (File (shapeIn file)) (Refused (goodEnd file))) (Refused 0)
+
+-- the mark byte of each of `h` DY, from day `d` on
+unfoldable pub marksFrom : ℕ → ℕ → List ℕ → List ℕ
+marksFrom zero d left = []
+marksFrom (suc h) d left = getD left 4 0 ∷ marksFrom h (suc d) (drop (dyLength d) left)
+
+-- "[count] readings of 4"
+unfoldable pub numbers : ℕ → List ℕ → List ℕ
+numbers zero left = []
+numbers (suc count) left = numberAt 4 0 left ∷ numbers count (drop 4 left)
+
+-- the readings of `h` DY, from day `d` on
+unfoldable pub readingsFrom : ℕ → ℕ → List ℕ → List ℕ
+readingsFrom zero d left = []
+readingsFrom (suc h) d left = numbers (size d) (drop 6 left) ++ readingsFrom h (suc d) (drop (dyLength d) left)
+
+-- the extract that a file holds
+unfoldable pub tableIn : List ℕ → Table
+tableIn file =
+    record {
+      first = firstIn file;
+      marks = marksFrom (daysIn file) (firstIn file) (drop (fileBase file) file);
+      readings = readingsFrom (daysIn file) (firstIn file) (drop (fileBase file) file);
+    }
+
+-- the same for a shape that is known, whatever the bytes
+unfoldable pub tableWithin : Shape → List ℕ → Table
+tableWithin shape file =
+    record {
+      first = shape .first;
+      marks = marksFrom (shape .days) (shape .first) (drop (shapeBase shape) file);
+      readings = readingsFrom (shape .days) (shape .first) (drop (shapeBase shape) file);
+    }
+
+-- "mark, D 2, s, e, n one each"
+unfoldable pub eventOf : List ℕ → Event
+eventOf left = record { day = numberAt 2 2 left; s = getD left 4 0; e = getD left 5 0; n = getD left 6 0 }
+
+unfoldable pub eventList : ℕ → List ℕ → List Event
+eventList zero left = []
+eventList (suc count) left = eventOf left ∷ eventList count (drop evLength left)
+
+unfoldable pub contentsIn : List ℕ → Contents
+contentsIn file =
+    record {
+      participation = numberAt 2 2 file;
+      portfolio = numberAt 4 4 file;
+      table = tableIn file;
+      events = eventList (eventsIn file) (drop (eventStart file 0) file);
+    }
+
+-- what reading the file of some contents gives
+unfoldable pub shapeOf : Contents → Shape
+shapeOf c =
+    record {
+      participation = c .participation;
+      portfolio = c .portfolio;
+      first = c .table .first;
+      days = heldDays (c .table);
+      events = length (c .events);
+    }
+
+-- "A request: participation start P; event day D; and three places s, e, n": the file's P, and an EV
+abbrev pub requestOf : ℕ → Event → Request
+requestOf participation v = record { participation = participation; event = v .day; s = v .s; e = v .e; n = v .n }
+
+-- the request at a place, counted from 0
+unfoldable pub requestAt : List ℕ → ℕ → Request
+requestAt file place = requestOf (numberAt 2 2 file) (eventOf (drop (eventStart file place) file))
+
+-- refusal 12: "no event at that place"
+abbrev pub eventAtPlace : Read → List ℕ → ℕ → EventAt
+eventAtPlace (File shape) file place = cond (ltb place (shape .events)) (AnEvent (requestAt file place)) NoEvent
+eventAtPlace (Refused at) file place = RefusedEvent at
+
+-- the same for a shape that is known: no event, too, where the bytes end before it does
+unfoldable pub eventWithin : Shape → List ℕ → ℕ → EventAt
+eventWithin shape file place =
+    let at = dayStart (shapeBase shape) (shape .first) (shape .days) + evLength * place in
+    cond (ltb place (shape .events) && leb (at + evLength) (length file)) (AnEvent (requestOf (shape .participation) (eventOf (drop at file)))) NoEvent

@@ -1,1 +1,0 @@
-// Laws of filling a lent buffer from its start; no code.

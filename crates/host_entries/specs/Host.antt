@@ -1,0 +1,38 @@
+-- What the C entries that are lent an output give back, and leave in it.
+use Prim.Native.Nat.{ℕ, _*_}
+use mathlib.Core.Path.{_≡_}
+use mathlib.Core.List.{List}
+use lib.ListN.{length}
+use lib.IntN.{ℤ}
+use Rattle.base_bytes.specs.Told.{toldFirst}
+use Rattle.method.specs.declared.Request.{Request}
+use Rattle.method.specs.Table.{mostQuarters}
+use Rattle.method.specs.Verdict.{Reply, written}
+use Rattle.engine_answer.specs.Answer.{answerOf}
+use Rattle.file_baseline.specs.Bytewise.{bytesWritten}
+use Rattle.listing_lines.specs.Listing.{listing}
+use Rattle.listing_whole.specs.Lists.{listedIn}
+use Rattle.host_telling.specs.Telling.{numberOf}
+use Rattle.host_telling.specs.Showing.{listedTold}
+
+-- room for the numerators of any event, four bytes each
+abbrev pub mostBytes : ℕ
+mostBytes = 4 * mostQuarters
+
+abbrev pub requestOf : ℕ → ℕ → ℕ → ℕ → ℕ → Request
+requestOf participation event s e n = record { participation = participation; event = event; s = s; e = e; n = n }
+
+-- 01, "A metering platform written in C calls one entry ..; it gets 0 or the refusal number."
+pub record FileCall (reply : Reply) (r : ℕ) (out out′ : List ℕ) : Type 0 where
+  pub result : r ≡ numberOf (answerOf reply .given)
+  pub output : out′ ≡ bytesWritten reply out
+
+-- the same over a table in memory
+pub record TableCall (reply : Reply) (r : ℕ) (out out′ : List ℕ) : Type 0 where
+  pub result : r ≡ numberOf (answerOf reply .given)
+  pub output : out′ ≡ written reply out
+
+-- the listing of a file: it stands first in the output where it fits, and the rest is kept; where it does not fit nothing changes
+pub record ListingCall (file : List ℕ) (r : ℤ) (out out′ : List ℕ) : Type 0 where
+  pub result : r ≡ listedTold (listedIn file (length out))
+  pub output : out′ ≡ toldFirst (listing file) out

@@ -1,0 +1,128 @@
+// The entries for C. Each is total: any bytes, any numbers, any lengths.
+ghost use mathlib.Core.Path.{_≡_};
+ghost use lib.ListN.{length};
+ghost use Rattle.calendar_groups.specs.Holidays.{group};
+ghost use Rattle.method.specs.Table.{mostQuarters};
+ghost use Rattle.method.specs.Verdict.{verdict};
+ghost use Rattle.table_days.specs.Lent.{tableOf};
+ghost use Rattle.table_days.specs.Part.{partPlace};
+ghost use Rattle.file_record.specs.Reader.{readFile, eventAtPlace};
+ghost use Rattle.engine_answer.specs.Answer.{answerOf};
+ghost use Rattle.file_baseline.specs.Entry.{fileReply};
+ghost use Rattle.host_telling.specs.Telling.{toldBy};
+ghost use Rattle.host_telling.specs.Showing.{fileTold, eventTold, placeTold};
+ghost use Rattle.host_entries.specs.Host.{mostBytes, requestOf, TableCall, FileCall, ListingCall};
+use method::Request;
+
+// Room for the numerators of any event, four bytes each.
+const MOST_BYTES: usize = 4 * method::QUARTERS;
+
+// The baseline of an event of a record file: 0 or the refusal number, and the numerators into `out`, four bytes each, the lowest first.
+#[no_mangle]
+pub extern "C" fn hp_baseline(file: &[u8], place: usize, out: &mut [u8]) -> u32
+    ensures { λ r. ⌜ FileCall (fileReply (now (file .entry)) place (length (now (out .entry)))) r (now (out .entry)) (now (out .exit)) ⌝ }
+{
+    let answer = file_baseline::file_baseline(file, place, out);
+    let given = answer.given;
+    host_telling::number_of(given)
+}
+
+// What that result tells by name, with room for any event.
+#[no_mangle]
+pub extern "C" fn hp_told(file: &[u8], place: usize, name: u32) -> i64
+    ensures { λ r. ⌜ r ≡ toldBy (answerOf (fileReply (now (file .entry)) place mostBytes)) name ⌝ }
+{
+    let mut out = [0u8; MOST_BYTES];
+    let file_answer = file_baseline::file_baseline(file, place, &mut out);
+    host_telling::tell(file_answer, name)
+}
+
+fn request_of(participation: u32, event: u32, s: u32, e: u32, n: u32) -> Request
+    ensures { λ r. ⌜ r ≡ requestOf participation event s e n ⌝ }
+{
+    Request {
+        participation,
+        event,
+        s,
+        e,
+        n,
+    }
+}
+
+// The baseline over a table in memory: 0 or the refusal number, and the numerators into `out`.
+#[no_mangle]
+pub extern "C" fn hp_baseline_table(
+    first: u32,
+    marks: &[u8],
+    readings: &[u32],
+    participation: u32,
+    event: u32,
+    s: u32,
+    e: u32,
+    n: u32,
+    out: &mut [u32],
+) -> u32
+    ensures { λ r. ⌜ TableCall (verdict group (tableOf first (now (marks .entry)) (now (readings .entry))) (requestOf participation event s e n) (length (now (out .entry)))) r (now (out .entry)) (now (out .exit)) ⌝ }
+{
+    let request = request_of(participation, event, s, e, n);
+    let table_answer = table_baseline::baseline(first, marks, readings, request, out);
+    let given = table_answer.given;
+    host_telling::number_of(given)
+}
+
+// What that result tells by name, with room for any event.
+#[no_mangle]
+pub extern "C" fn hp_told_table(
+    first: u32,
+    marks: &[u8],
+    readings: &[u32],
+    participation: u32,
+    event: u32,
+    s: u32,
+    e: u32,
+    n: u32,
+    name: u32,
+) -> i64
+    ensures { λ r. ⌜ r ≡ toldBy (answerOf (verdict group (tableOf first (now (marks .entry)) (now (readings .entry))) (requestOf participation event s e n) mostQuarters)) name ⌝ }
+{
+    let request = request_of(participation, event, s, e, n);
+    let mut out = [0u32; method::QUARTERS];
+    let answer = table_baseline::baseline(first, marks, readings, request, &mut out);
+    host_telling::tell(answer, name)
+}
+
+// The place of a day's first reading in a table in memory.
+#[no_mangle]
+pub extern "C" fn hp_day_part(first: u32, marks: &[u8], readings: &[u32], day: u32) -> i64
+    ensures { λ r. ⌜ r ≡ placeTold (partPlace (tableOf first (now (marks .entry)) (now (readings .entry))) day) ⌝ }
+{
+    let place = table_days::part_place(first, marks, readings, day);
+    host_telling::tell_place(place)
+}
+
+// What a record file tells by name: what it holds, or refusal 11.
+#[no_mangle]
+pub extern "C" fn hp_file(file: &[u8], name: u32) -> i64
+    ensures { λ r. ⌜ r ≡ fileTold (readFile (now (file .entry))) name ⌝ }
+{
+    let read = file_record::read_file(file);
+    host_telling::tell_file(read, name)
+}
+
+// What the event at a place of a record file tells by name: the event, or refusal 11 or 12.
+#[no_mangle]
+pub extern "C" fn hp_event(file: &[u8], place: usize, name: u32) -> i64
+    ensures { λ r. ⌜ r ≡ eventTold (eventAtPlace (readFile (now (file .entry))) (now (file .entry)) place) name ⌝ }
+{
+    let at = file_record::event_at(file, place);
+    host_telling::tell_event(at, name)
+}
+
+// The listing of a record file: its length, and the text into `out`; minus 7 where it does not fit.
+#[no_mangle]
+pub extern "C" fn hp_listing(file: &[u8], out: &mut [u8]) -> i64
+    ensures { λ r. ⌜ ListingCall (now (file .entry)) r (now (out .entry)) (now (out .exit)) ⌝ }
+{
+    let listed = listing_whole::listing(file, out);
+    host_telling::tell_listed(listed)
+}

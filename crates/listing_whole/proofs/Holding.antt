@@ -1,0 +1,51 @@
+-- What holds of a file that is loaded: the event at each place is there, and the buffers are its table.
+use Prim.Native.Nat.{ℕ, _<_}
+use mathlib.Core.Path.{_≡_, ap, _∙_, refl}
+use mathlib.Core.List.{List}
+use native.Mathlib.Omega.{arith}
+use lib.ListN.{take}
+use borrow.Author.Tests.{lt-ltb}
+use Rattle.method.specs.declared.Request.{Request}
+use Rattle.table_days.specs.Lent.{tableOf}
+use Rattle.file_record.specs.declared.Shape.{Shape}
+use Rattle.file_record.specs.declared.Read.the-variants.{File}
+use Rattle.file_record.specs.declared.EventAt.{EventAt}
+use Rattle.file_record.specs.declared.EventAt.the-variants.{Event, NoEvent, Refused as RefusedEvent}
+use Rattle.file_record.specs.Reader.{readFile, tableIn, shapeIn, requestAt, eventWithin}
+use Rattle.file_record.proofs.Files.{shape-fits}
+use Rattle.file_record.proofs.Lengths.{table-within}
+use Rattle.file_record.proofs.Events.{within-is}
+use Rattle.file_loading.proofs.Buffers.{WithinBuffers}
+use Rattle.listing_lines.specs.Listing.{eventText}
+use Rattle.listing_lines.specs.Writes.{PutsWithin}
+use Rattle.listing_whole.specs.Holds.{Holds}
+
+pub holds : {file : List ℕ} {shape : Shape} {count : ℕ} {marks readings : List ℕ} → readFile file ≡ File shape → WithinBuffers shape file count marks readings
+    → Holds file shape (take (shape .days) marks) (take count readings)
+holds {file} r q =
+    record { accepted = r; its-marks = rw (q .its-marks, table-within file r); its-readings = rw (q .its-readings, table-within file r) }
+
+module _ {file : List ℕ} {shape : Shape} {marks readings : List ℕ} (q : Holds file shape marks readings) where
+  first-in : shape .first ≡ tableIn file .first
+  unfolding shapeIn tableIn
+  first-in = ap (λ (s : Shape). s .first) (shape-fits file shape (q .accepted) .is-shape)
+
+  table-in : tableOf (shape .first) marks readings ≡ tableIn file
+  table-in = rw (first-in, q .its-marks, q .its-readings)
+
+  module _ {place : ℕ} (h : place < shape .events) where
+    event-in : eventWithin shape file place ≡ Event (requestAt file place)
+    event-in = within-is file place (q .accepted) ∙ rw (q .accepted, lt-ltb place (shape .events) h) refl
+
+    -- the event's lines are those of its own place
+    pub its-lines : {size : ℕ} {d : List ℕ} {r : ℕ} {e : List ℕ} {at : EventAt} (request : Request) → at ≡ eventWithin shape file place
+        → at ≡ Event request → PutsWithin size d 0 (eventText (tableOf (shape .first) marks readings) request) r e
+        → PutsWithin size d 0 (eventText (tableIn file) (requestAt file place)) r e
+    its-lines {at = at} request s t w =
+        let same : request ≡ requestAt file place = cc (event-in) in rw (table-in, same) at w
+
+    pub never-none : {at : EventAt} {X : Type 0} → at ≡ eventWithin shape file place → at ≡ NoEvent → X
+    never-none s t = let z : _≡_ {A = ℕ} 0 1 = cc (event-in) in absurd (omega arith)
+
+    pub never-refused : {at : EventAt} {X : Type 0} (n : ℕ) → at ≡ eventWithin shape file place → at ≡ RefusedEvent n → X
+    never-refused n s t = let z : _≡_ {A = ℕ} 0 1 = cc (event-in) in absurd (omega arith)

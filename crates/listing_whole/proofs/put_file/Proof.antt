@@ -1,0 +1,94 @@
+-- `listing_whole::put_file` meets its contract: the buffers hold the file's table, and the first line and the events are the listing.
+use Prim.Native.Nat.{_*_}
+use mathlib.Core.Path.{sym, _∙_}
+use native.Mathlib.Omega.{arith}
+use borrow.Author.Needs.{needs}
+use Rattle.method.specs.Table.{mostQuarters}
+use Rattle.file_record.proofs.Starts.{offset-most}
+use Rattle.file_record.proofs.Files.{shape-fits}
+use Rattle.file_loading.proofs.Loading.{fits-own}
+use Rattle.file_loading.proofs.Buffers.{WithinBuffers, within-buffers}
+use Rattle.listing_whole.proofs.Holding.{holds}
+use Rattle.listing_whole.proofs.Whole.{file-listed}
+use Rattle.listing_whole.proofs.put_file.Statement.{statement}
+use Rattle.listing_whole.proofs.put_file.Tie as tie
+
+-- the buffers hold the file's table
+its : (c : tie.After-offset) →
+    (let a = c .before .before .before .before .before .before .before .before .before .args in
+    let l = c .before .before .before .before .load-within in
+    WithinBuffers (a .shape) (a .file .now) (c .offset .result) (l .last .1 .1 .0) (l .last .1 .1 .1 .0))
+its c =
+    let s = c .before .before .before .before .before .before .before .before .before in
+    let l = c .before .before .before .before .load-within .ensures in
+    let few = shape-fits (s .args .file .now) (s .args .shape) (s .pre .0) .days in
+    let fits = fits-own (s .args .file .now) (s .pre .0) 128 (mostQuarters * 128) few (offset-most (s .args .shape .first) (s .args .shape .days) 128 few) in
+    within-buffers (s .args .shape) (s .args .file .now) _ _ (l .1 .0) (l .1 .1) (l .0 ∙ fits) (c .offset .ensures)
+
+slice-aggregate-load-within : tie.Need-slice-aggregate-load-within
+slice-aggregate-load-within c = search needs
+
+slice-aggregate-load-within-2 : tie.Need-slice-aggregate-load-within-2
+slice-aggregate-load-within-2 c = search needs
+
+load-within-requires : tie.Need-load-within-requires
+load-within-requires c κs = search needs
+
+cast-days : tie.Need-cast-days
+cast-days c = search needs
+
+offset-requires : tie.Need-offset-requires
+offset-requires c κs = search needs
+
+opening-requires : tie.Need-opening-requires
+opening-requires c κs = search needs
+
+array-share-prefix-marks : tie.Need-array-share-prefix-marks
+array-share-prefix-marks c = let s = c .before .before .before .before .before .before .before .before .before .before .before .before .before in omega (arith, shape-fits (s .args .file .now) (s .args .shape) (s .pre .0) .days)
+
+slice-aggregate-put-events : tie.Need-slice-aggregate-put-events
+slice-aggregate-put-events c = sym (its (c .before .before .before .before .before) .marks-size)
+
+array-share-prefix-readings : tie.Need-array-share-prefix-readings
+array-share-prefix-readings c =
+    let s = c .before .before .before .before .before .before .before .before .before .before .before .before .before .before in
+    let few = shape-fits (s .args .file .now) (s .args .shape) (s .pre .0) .days in
+    omega (arith, offset-most (s .args .shape .first) (s .args .shape .days) 128 few)
+
+slice-aggregate-put-events-2 : tie.Need-slice-aggregate-put-events-2
+slice-aggregate-put-events-2 c = sym (its (c .before .before .before .before .before .before) .readings-size)
+
+put-events-requires : tie.Need-put-events-requires
+put-events-requires c κs =
+    let s = c .before .before .before .before .before .before .before .before .before .before .before .before .before .before .before .before in
+    let opening = c .before .before .before .before .before .opening in
+    (holds (s .pre .0) (its (c .before .before .before .before .before .before .before)), omega (arith, opening .ensures .most, shape-fits (s .args .file .now) (s .args .shape) (s .pre .0) .events))
+
+same-length : tie.Need-same-length
+same-length c = search needs
+
+returns : tie.Need-returns
+returns c =
+    let s = c .before .before .before .before .before .before .before .before .before .before .before .before .before .before .before .before .before .before .before in
+    let opening = c .before .before .before .before .before .before .before .before .opening in
+    let events = c .before .before .put-events .ensures in
+    let fits = shape-fits (s .args .file .now) (s .args .shape) (s .pre .0) in
+    (file-listed (s .args .file .now) (omega arith) (s .pre .0) (opening .ensures) (events .0), omega (arith, opening .ensures .most, fits .events))
+
+pub put-file-spec : {M : Type 1} → statement M
+put-file-spec =
+    tie.close
+    (tie.spec
+    slice-aggregate-load-within
+    slice-aggregate-load-within-2
+    load-within-requires
+    cast-days
+    offset-requires
+    opening-requires
+    array-share-prefix-marks
+    slice-aggregate-put-events
+    array-share-prefix-readings
+    slice-aggregate-put-events-2
+    put-events-requires
+    same-length
+    returns)

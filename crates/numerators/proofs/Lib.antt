@@ -1,4 +1,0 @@
-pub mod Signed
-pub mod Windows
-pub mod Standing
-pub mod Laws

@@ -1,1 +1,0 @@
-// Laws about lists over places, and about buffers that a loop fills from the front: no code.

@@ -1,0 +1,29 @@
+// The baseline over a lent table: its refusals, its directory, and the engine.
+ghost use lib.ListN.{length};
+ghost use Rattle.calendar_groups.specs.Holidays.{group};
+ghost use Rattle.method.specs.Verdict.{verdict};
+ghost use Rattle.table_days.specs.Lent.{tableOf};
+ghost use Rattle.engine_answer.specs.Answer.{Answers};
+use engine_answer::Answer;
+use engine_refusals::Tested;
+use method::Request;
+
+// The baseline over a lent table: the first refusal that applies, or the answer, with the numerators in the first places of the output.
+pub fn baseline(
+    first: u32,
+    marks: &[u8],
+    readings: &[u32],
+    request: Request,
+    out: &mut [u32],
+) -> Answer
+    ensures { λ r. ⌜ Answers (verdict group (tableOf first (now (marks .entry)) (now (readings .entry))) request (length (now (out .entry)))) r (now (out .entry)) (now (out .exit)) ⌝ }
+{
+    let of_table = table_refusals::of_table(first, marks, readings);
+    match of_table {
+        Tested::Failed(refusal) => engine_answer::refuse(refusal),
+        Tested::Passed => {
+            let rooms = table_days::directory(first, marks, request.event);
+            engine_baseline::baseline_over(request, rooms, readings, out)
+        }
+    }
+}

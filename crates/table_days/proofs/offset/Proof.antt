@@ -1,0 +1,23 @@
+-- `table_days::offset` meets its contract.
+use native.Mathlib.Omega.{arith}
+use borrow.Author.Needs.{needs}
+use Rattle.table_days.proofs.Extracts.{offset-even, offset-small}
+use Rattle.table_days.proofs.offset.Statement.{statement}
+use Rattle.table_days.proofs.offset.Tie as tie
+
+size-requires : tie.Need-size-requires
+size-requires c κs = search needs
+
+cast-result : tie.Need-cast-result
+cast-result c = search needs
+
+mul-result : tie.Need-mul-result
+mul-result c =
+    let a = c .before .args in
+    rw (c .size .ensures, offset-even (a .first) (a .days)) (omega (arith, offset-small (a .first) (a .days) (c .before .pre)))
+
+returns : tie.Need-returns
+returns c = let a = c .before .args in rw (c .size .ensures) (offset-even (a .first) (a .days))
+
+pub offset-spec : {M : Type 1} → statement M
+offset-spec = tie.close (tie.spec size-requires cast-result mul-result returns)

@@ -1,8 +1,0 @@
--- Worked examples: a text that fits and one that does not.
-use mathlib.Core.Path.{_≡_, refl}
-use Rattle.lists.specs.Ascii.{ascii}
-use Rattle.text.specs.Text.{put}
-
-room : (put (ascii "......") 3 (ascii "264") ≡ ascii "...264") × (put (ascii "......") 4 (ascii "264") ≡ ascii "......")
-unfolding put
-room = (refl, refl)

@@ -1,5 +1,0 @@
-pub mod Text
-mod Copying
-mod Numbers
-mod Field
-mod Examples
