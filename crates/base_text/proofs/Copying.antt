@@ -7,7 +7,7 @@ use native.Mathlib.Nat.{le-antisymm}
 use native.Mathlib.Numerals.{add-one}
 use lib.ListN.{length, set, getD, length-set}
 use lib.Seq.{paste, paste-zero, paste-suc, take-length}
-use Rattle.base_text.specs.Text.{Puts}
+use Rattle.base_text.specs.TextSteps.{Puts}
 use Rattle.base_text.proofs.Text.{put-whole, put-kept, next-within, next-past}
 
 -- the first `i` bytes of `t` are in

@@ -6,7 +6,7 @@ use mathlib.Core.Logic.{⊎-elim}
 use native.Mathlib.Omega.{arith}
 use lib.ListN.{length, length-append}
 use Rattle.base_lists.proofs.Bools.{lt-or-le}
-use Rattle.base_text.specs.Text.{Puts, PutsBoth}
+use Rattle.base_text.specs.TextSteps.{Puts, PutsBoth}
 use Rattle.base_text.proofs.Text.{put-kept, put-length, put-back, next-within, next-past, fitted}
 
 module _ {d : List ℕ} {at : ℕ} {a b : List ℕ} where

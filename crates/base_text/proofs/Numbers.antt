@@ -9,10 +9,10 @@ use lib.IntN.{ℤ}
 use lib.Signed.{mag}
 use Rattle.base_text.specs.declared.Spelt.{Spelt}
 use Rattle.base_text.specs.Digits.{dec, decimal}
-use Rattle.base_text.specs.Spelt.{speltOf}
+use Rattle.base_text.specs.DigitSteps.{speltOf}
 use Rattle.base_text.proofs.Digits.{dec-some, dec-length-32, decimal-some, decimal-length}
 use Rattle.base_text.proofs.Spelling.{Ends, ends}
-use Rattle.base_text.specs.Text.{Puts}
+use Rattle.base_text.specs.TextSteps.{Puts}
 use Rattle.base_text.proofs.Text.{puts-most}
 
 -- the part that is lent is the text

@@ -8,7 +8,7 @@ use lib.ListN.{length, drop, set, replicate, length-append, length-replicate}
 use lib.Seq.{append-snoc, set-at, drop-at}
 use Rattle.base_text.specs.declared.Spelt.{Spelt}
 use Rattle.base_text.specs.Digits.{dec}
-use Rattle.base_text.specs.Spelt.{speltOf}
+use Rattle.base_text.specs.DigitSteps.{speltOf}
 use Rattle.base_text.proofs.Digits.{dec-small, dec-step, dec-some, dec-length-64}
 
 -- the last nought before a text, and that nought overwritten

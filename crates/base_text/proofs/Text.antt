@@ -9,7 +9,7 @@ use lib.ListN.{length, take, drop, length-append, length-drop}
 use lib.Seq.{length-take-le, take-at, drop-at, take-take, drop-drop}
 use borrow.Author.Tests.{le-leb, lt-leb}
 use Rattle.base_lists.proofs.Bools.{lt-or-le}
-use Rattle.base_text.specs.Text.{put, next, Puts, PutsBoth}
+use Rattle.base_text.specs.TextSteps.{put, next, Puts, PutsBoth}
 use Rattle.base_lists.proofs.Unique.{unique}
 
 module _ (d : List ℕ) (at : ℕ) (t : List ℕ) where

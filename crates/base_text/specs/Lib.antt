@@ -1,3 +1,3 @@
 pub mod Digits
-pub mod Spelt
-pub mod Text
+pub mod DigitSteps
+pub mod TextSteps

@@ -8,8 +8,8 @@ ghost use lib.IntN.{pos, natAbs};
 ghost use lib.Signed.{_<ℤ_};
 ghost use lib.ListN.{length, drop};
 ghost use Rattle.base_text.specs.Digits.{dec, decimal};
-ghost use Rattle.base_text.specs.Spelt.{speltOf};
-ghost use Rattle.base_text.specs.Text.{Puts, PutsBoth};
+ghost use Rattle.base_text.specs.DigitSteps.{speltOf};
+ghost use Rattle.base_text.specs.TextSteps.{Puts, PutsBoth};
 
 // A text that is spelt before it is put: it starts at `start` and ends with the bytes; noughts stand before it.
 pub struct Spelt {

@@ -14,7 +14,7 @@ use Rattle.base_lists.specs.Lists.{sumOf}
 use Rattle.base_lists.proofs.Bools.{bool-cases, lt-or-le, both}
 use Rattle.base_lists.proofs.Sums.{sum-take-suc, sum-take-le, held-below}
 use Rattle.calendar_dates.specs.Days.{lastDay, inCalendar, months, newYear, yearOf, dayNumber, isDate, numbered, dateAfter, dateOf, dated}
-use Rattle.calendar_dates.specs.Place.{placeOf}
+use Rattle.calendar_dates.specs.Steps.{placeOf}
 use Rattle.calendar_dates.specs.declared.Date.{Date}
 use Rattle.calendar_dates.specs.declared.Place.{Place}
 use Rattle.calendar_dates.specs.declared.Numbered.the-variants.{Day, NoSuchDate}

@@ -4,7 +4,7 @@ ghost use Prim.Native.Nat.{_+_, _≤_, _<_};
 ghost use lib.ListN.{take};
 ghost use Rattle.base_lists.specs.Lists.{sumOf};
 ghost use Rattle.calendar_dates.specs.Days.{leap as leapOf, months, newYear, numbered, dated};
-ghost use Rattle.calendar_dates.specs.Place.{placeOf};
+ghost use Rattle.calendar_dates.specs.Steps.{placeOf};
 
 // A date of the Gregorian calendar, as written: year, month from 1, day from 1.
 pub struct Date {

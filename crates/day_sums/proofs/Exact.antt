@@ -5,7 +5,7 @@ use mathlib.Core.List.{List}
 use native.Mathlib.Omega.{arith}
 use lib.ListN.{length}
 use Rattle.base_lists.specs.Lists.{sumOf}
-use Rattle.day_sums.specs.Sums.{Summed}
+use Rattle.day_sums.specs.Steps.{Summed}
 use Rattle.base_lists.proofs.Unique.{unique}
 
 pub exact : {xs : List ℕ} {r : ℕ} → Summed xs r → length xs ≤ 2 ^ 31 → r ≡ sumOf xs

@@ -2,7 +2,7 @@
 ghost use mathlib.Core.Path.{_≡_};
 ghost use Prim.Native.Nat.{_-_};
 ghost use lib.ListN.{take, drop};
-ghost use Rattle.day_sums.specs.Sums.{Summed};
+ghost use Rattle.day_sums.specs.Steps.{Summed};
 use base_numbers::sizes;
 
 // The sum of numbers, as a number of 64 bits: of fewer than 2 ^ 32 numbers it is exact.

@@ -8,7 +8,7 @@ use Rattle.method.specs.declared.Refusal.the-variants.{BadFile, NoEvent, BadTab
 use Rattle.method.specs.declared.Refusal.the-variants.{NotYetParticipating, NoRoom, MarginTooShort, TooFew, NoAdjustmentWindow}
 use Rattle.method.specs.Verdict.{number, carries}
 use Rattle.engine_answer.specs.declared.Told.{Told}
-use Rattle.engine_answer.specs.Told.{toldOf}
+use Rattle.engine_answer.specs.Steps.{toldOf}
 
 -- the number of a refusal, and what it carries as the first `count` of two numbers
 pub record Tells (w : Refusal) (told : Told) : Type 0 where

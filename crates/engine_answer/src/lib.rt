@@ -3,7 +3,7 @@
 ghost use mathlib.Core.Path.{_≡_};
 ghost use Rattle.method.specs.Verdict.{refused};
 ghost use Rattle.engine_answer.specs.Answer.{answerOf};
-ghost use Rattle.engine_answer.specs.Told.{toldOf};
+ghost use Rattle.engine_answer.specs.Steps.{toldOf};
 use engine_choice::Chosen;
 use method::Refusal;
 

@@ -21,7 +21,7 @@ use Rattle.method.specs.Requested.{methodOf}
 use Rattle.method.specs.Verdict.{Answer, answered, requestRefusals, closing, methodology}
 use Rattle.base_lists.proofs.Places.{length-over}
 use Rattle.engine_refusals.specs.declared.Tested.the-variants.{Passed}
-use Rattle.engine_refusals.specs.Tests.{tested}
+use Rattle.engine_refusals.specs.Steps.{tested}
 use Rattle.engine_refusals.proofs.FirstRefusal.{GoodRequest, good-request, Fits, request-passed}
 use Rattle.engine_refusals.proofs.Replies.{never-both, answered-past}
 use Rattle.engine_choice.proofs.Requested.{chosen-five}

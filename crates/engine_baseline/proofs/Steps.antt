@@ -30,15 +30,15 @@ use Rattle.method.proofs.Ruler.{start-size, quarter-from}
 use Rattle.engine_rooms.specs.declared.Directory.{Directory}
 use Rattle.engine_rooms.specs.Rooms.{readingsAt, roomDay, roomHistory}
 use Rattle.base_lists.proofs.Places.{length-over, over-same, over-shift, over-list}
-use Rattle.engine_numerators.specs.Quarters.{quarterSum}
+use Rattle.engine_numerators.specs.QuarterSteps.{quarterSum}
 use Rattle.engine_numerators.specs.declared.Places.{Places}
-use Rattle.engine_numerators.specs.Numerators.{windowSums, placedOf, chosenAt, adjustmentOf, numeratorsOf, Written}
+use Rattle.engine_numerators.specs.NumeratorSteps.{windowSums, placedOf, chosenAt, adjustmentOf, numeratorsOf, Written}
 use Rattle.engine_numerators.proofs.Signed.{mag-difference}
 use Rattle.engine_numerators.proofs.Windows.{small, part-all, ruler-most, windows-most}
 use Rattle.engine_numerators.proofs.Standing.{S-placed, B-placed}
 use Rattle.engine_choice.specs.declared.Chosen.{Chosen}
 use Rattle.engine_refusals.specs.declared.Tested.the-variants.{Passed, Failed}
-use Rattle.engine_refusals.specs.Tests.{tested}
+use Rattle.engine_refusals.specs.Steps.{tested}
 use Rattle.engine_refusals.proofs.FirstRefusal.{GoodRequest, good-request, request-passed, first-failed, first-passed}
 use Rattle.engine_answer.specs.declared.Answer.{Answer}
 use Rattle.engine_answer.specs.declared.Given.the-variants.{Answered}

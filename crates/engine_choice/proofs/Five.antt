@@ -6,7 +6,7 @@ use native.Mathlib.Numerals.{add-one}
 use native.Mathlib.Omega.{arith}
 use lib.ListN.{length, take, drop, replicate, set, getD, length-map, length-drop}
 use lib.Seq.{take-suc, getD-drop, length-take-le}
-use Rattle.engine_ranking.specs.Words.{padded}
+use Rattle.engine_ranking.specs.Steps.{padded}
 use Rattle.engine_choice.specs.Choice.{inFive}
 
 noughts : (n m : ℕ) → n ≤ m → take {A = ℕ} n (replicate m 0) ≡ take n (0 ∷ replicate m 0)

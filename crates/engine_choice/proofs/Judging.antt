@@ -13,11 +13,11 @@ use Rattle.method.specs.Table.{size, mostQuarters, missing}
 use Rattle.method.specs.Ruler.{against}
 use Rattle.method.specs.Eligible.{eventSum}
 use Rattle.method.proofs.Tables.{size-is}
-use Rattle.engine_ranking.specs.Words.{word}
+use Rattle.engine_ranking.specs.Steps.{word}
 use Rattle.engine_rooms.specs.declared.Directory.{Directory}
 use Rattle.engine_rooms.specs.Rooms.{readingsAt, roomDay}
 use Rattle.engine_rooms.proofs.Parts.{part-few}
-use Rattle.engine_judging.specs.Judging.{room, wordAt, judgedAt}
+use Rattle.engine_judging.specs.Steps.{room, wordAt, judgedAt}
 use Rattle.engine_choice.specs.Steps.{roomsOf, judged}
 
 -- the room of the day so far back

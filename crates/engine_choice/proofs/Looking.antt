@@ -14,7 +14,7 @@ use Rattle.method.specs.Method.{daysOf}
 use Rattle.method.specs.Relevant.{relevant}
 use Rattle.method.specs.Eligible.{complete, eligible, spare, sortBy}
 use Rattle.calendar_groups.specs.declared.Group.{Group}
-use Rattle.engine_ranking.specs.Words.{word, sortDown, padded, pushed}
+use Rattle.engine_ranking.specs.Steps.{word, sortDown, padded, pushed}
 use Rattle.engine_ranking.proofs.Rank.{insert-sorts}
 use Rattle.engine_judging.specs.declared.Judged.the-variants.{Eligible, Spare, Neither}
 use Rattle.engine_choice.specs.declared.SpareOrder.{SpareOrder}

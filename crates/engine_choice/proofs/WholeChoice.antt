@@ -26,7 +26,7 @@ use Rattle.method.specs.Requested.{rulesOf, methodOf}
 use Rattle.method.proofs.Window.{window-full, full-size, size-below}
 use Rattle.method.proofs.Short.{full-enough}
 use Rattle.method.proofs.Sort.{length-sorted, all-sorted}
-use Rattle.engine_ranking.specs.Words.{word, sortDown, insertAll}
+use Rattle.engine_ranking.specs.Steps.{word, sortDown, insertAll}
 use Rattle.engine_ranking.proofs.Rank.{lookedBack, take-padded, first-words, ranks-of-row, row-with}
 use Rattle.engine_rooms.specs.declared.Directory.{Directory}
 use Rattle.engine_rooms.specs.Rooms.{heldRooms, roomHistory}

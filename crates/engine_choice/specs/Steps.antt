@@ -13,7 +13,7 @@ use Rattle.method.specs.Method.{daysOf}
 use Rattle.method.specs.Relevant.{daysBefore, relevant}
 use Rattle.method.specs.Eligible.{eligible, spare, higher, sortBy}
 use Rattle.method.specs.Rules.{Rules}
-use Rattle.engine_ranking.specs.Words.{word, sortDown, padded, pushed, insertAll}
+use Rattle.engine_ranking.specs.Steps.{word, sortDown, padded, pushed, insertAll}
 use Rattle.engine_judging.specs.declared.Judged.{Judged}
 use Rattle.engine_judging.specs.declared.Judged.the-variants.{Eligible, Spare, Neither}
 use Rattle.engine_rooms.specs.declared.Directory.{Directory}

@@ -8,7 +8,7 @@ ghost use Rattle.method.specs.Table.{mostQuarters};
 ghost use Rattle.method.specs.Method.{wholeReach};
 ghost use Rattle.method.specs.Requested.{rulesOf, methodOf};
 ghost use Rattle.engine_rooms.specs.Rooms.{roomHistory};
-ghost use Rattle.engine_judging.specs.Judging.{room};
+ghost use Rattle.engine_judging.specs.Steps.{room};
 ghost use Rattle.engine_choice.specs.Choice.{choiceOf, noDays, inFive};
 ghost use Rattle.engine_choice.specs.Steps.{Sound, Follows, firstRanks, roomsOf, nearest, ifRelevant, withSpare, Further, Adds, Enough};
 ghost use Rattle.engine_choice.specs.Steps.{daysIn, picked, amongFew};

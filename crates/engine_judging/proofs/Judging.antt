@@ -10,10 +10,10 @@ use Rattle.method.specs.declared.Request.{Request}
 use Rattle.method.specs.Table.{present, eventBit, outageBit}
 use Rattle.method.specs.Ruler.{against}
 use Rattle.method.specs.Eligible.{complete, eligible, spare, eventSum}
-use Rattle.day_sums.specs.Sums.{Summed}
+use Rattle.day_sums.specs.Steps.{Summed}
 use Rattle.engine_judging.specs.declared.Judged.{Judged}
 use Rattle.engine_judging.specs.declared.Judged.the-variants.{Eligible, Spare, Neither}
-use Rattle.engine_judging.specs.Judging.{room, wordAt, judgedAt}
+use Rattle.engine_judging.specs.Steps.{room, wordAt, judgedAt}
 
 pub event-part : (r : Request) (part : List ℕ) (start count x : ℕ) → start ≡ against (r .event) (r .s) → count ≡ r .e - r .s
     → Summed (take (start + count - start) (drop start part)) x → x ≡ eventSum r (room 0 part) % 2 ^ 64

@@ -2,7 +2,7 @@
 ghost use mathlib.Core.Path.{_≡_};
 ghost use Prim.Native.Nat.{_%_, _^_};
 ghost use Rattle.method.specs.Eligible.{eventSum};
-ghost use Rattle.engine_judging.specs.Judging.{room, judgedAt};
+ghost use Rattle.engine_judging.specs.Steps.{room, judgedAt};
 use base_numbers::counts;
 use method::Request;
 

@@ -5,7 +5,7 @@ use mathlib.Core.List.{List}
 use lib.IntN.{ℤ}
 use Rattle.base_lists.proofs.Unique.{unique}
 use Rattle.engine_numerators.specs.declared.Places.{Places}
-use Rattle.engine_numerators.specs.Numerators.{Written}
+use Rattle.engine_numerators.specs.NumeratorSteps.{Written}
 
 pub written-unique : {readings : List ℕ} {chosen : Places} {yesterday today : List ℕ} {n : ℕ} {r r′ : ℤ} {after after′ : List ℕ}
     → Written readings chosen yesterday today n r after → Written readings chosen yesterday today n r′ after′

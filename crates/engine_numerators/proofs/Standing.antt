@@ -16,8 +16,8 @@ use Rattle.method.specs.Ruler.{rulerStart, against}
 use Rattle.method.specs.Adjustment.{A, B, S}
 use Rattle.engine_rooms.specs.Rooms.{readingsAt}
 use Rattle.engine_window.proofs.Laws.{stands, B-by-days}
-use Rattle.engine_numerators.specs.Quarters.{quarterSum}
-use Rattle.engine_numerators.specs.Numerators.{windowSums}
+use Rattle.engine_numerators.specs.QuarterSteps.{quarterSum}
+use Rattle.engine_numerators.specs.NumeratorSteps.{windowSums}
 
 -- the readings that start at a place are all there, or none is
 pub all-or-none : (size : ℕ) (readings : List ℕ) (at : ℕ)

@@ -1,2 +1,2 @@
-pub mod Quarters
-pub mod Numerators
+pub mod QuarterSteps
+pub mod NumeratorSteps

@@ -7,7 +7,7 @@ use native.Mathlib.Omega.{arith}
 use native.Mathlib.Numerals.{add-one}
 use lib.ListN.{take, drop, set, getD, length, length-set, drop-of-length-le}
 use lib.Seq.{take-suc, drop-cons, take-suc-set, drop-set-lt, take-all, append-snoc}
-use Rattle.engine_ranking.specs.Words.{pushed}
+use Rattle.engine_ranking.specs.Steps.{pushed}
 
 pub keeps-hand : (w x : ℕ) (row : List ℕ) → x < w → pushed w (x ∷ row) ≡ w ∷ pushed x row
 unfolding pushed

@@ -10,7 +10,7 @@ use lib.Dec.{leb}
 use borrow.Author.Tests.{lt-ltb, le-ltb, leb-true, le-leb}
 use Rattle.base_lists.specs.Lists.{all}
 use Rattle.method.specs.Eligible.{insertBy}
-use Rattle.engine_ranking.specs.Words.{insertDown}
+use Rattle.engine_ranking.specs.Steps.{insertDown}
 use Rattle.base_lists.proofs.Bools.{both, lt-or-le}
 
 pub goes-here : (x y : ℕ) (ys : List ℕ) → y < x → insertDown x (y ∷ ys) ≡ x ∷ y ∷ ys

@@ -6,7 +6,7 @@ use native.Mathlib.Omega.{arith}
 use native.Mathlib.Numerals.{add-one}
 use lib.ListN.{take, drop, getD, length, drop-of-length-le}
 use lib.Seq.{drop-cons, take-nil}
-use Rattle.engine_ranking.specs.Words.{pushed, insertAll}
+use Rattle.engine_ranking.specs.Steps.{pushed, insertAll}
 
 pub insert-none : (row : List ℕ) → insertAll [] row ≡ row
 unfolding insertAll

@@ -15,7 +15,7 @@ use Rattle.method.specs.declared.Request.{Request}
 use Rattle.method.specs.Table.{Day}
 use Rattle.method.specs.Method.{daysOf}
 use Rattle.method.specs.Eligible.{eventSum, higher, sortBy}
-use Rattle.engine_ranking.specs.Words.{word, above, insertDown, sortDown, padded, pushed, insertAll}
+use Rattle.engine_ranking.specs.Steps.{word, above, insertDown, sortDown, padded, pushed, insertAll}
 use Rattle.base_lists.proofs.All.{all-append, all-replicate, all-take, all-drop}
 use Rattle.base_lists.proofs.Bools.{both, lt-or-le}
 use Rattle.base_lists.proofs.Maps.{map-take}

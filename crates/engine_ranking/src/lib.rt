@@ -3,7 +3,7 @@
 ghost use mathlib.Core.Path.{_≡_};
 ghost use Prim.Native.Nat.{_+_, _*_, _%_, _^_};
 ghost use lib.ListN.{take};
-ghost use Rattle.engine_ranking.specs.Words.{pushed, insertAll};
+ghost use Rattle.engine_ranking.specs.Steps.{pushed, insertAll};
 
 // 64 times the rest of a sum by this fits a word.
 const TWO_TO_58: u64 = 288230376151711744;

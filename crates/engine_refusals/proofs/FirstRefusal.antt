@@ -16,7 +16,7 @@ use Rattle.method.specs.Table.{Day, History, held}
 use Rattle.method.specs.Ruler.{rulerStart, rulerEnd}
 use Rattle.method.specs.Verdict.{Reply, refused, firstOf, requestRefusals, goodRequest}
 use Rattle.engine_refusals.specs.declared.Tested.the-variants.{Passed, Failed}
-use Rattle.engine_refusals.specs.Tests.{tested}
+use Rattle.engine_refusals.specs.Steps.{tested}
 
 -- the reply of refusals and then others
 pub first-append : (a b : List (Bool × Refusal)) (reply : Reply) → firstOf (a ++ b) reply ≡ firstOf a (firstOf b reply)

@@ -9,7 +9,7 @@ use Rattle.method.specs.declared.Refusal.{Refusal}
 use Rattle.method.specs.Verdict.{Answer, Reply, refused, answered, firstOf}
 use Rattle.engine_refusals.specs.declared.Tested.{Tested}
 use Rattle.engine_refusals.specs.declared.Tested.the-variants.{Passed, Failed}
-use Rattle.engine_refusals.specs.Tests.{tested}
+use Rattle.engine_refusals.specs.Steps.{tested}
 use Rattle.engine_refusals.proofs.FirstRefusal.{first-failed, first-passed}
 
 pub one-outcome : (reply : Reply) → ((w : Refusal) × (reply ≡ refused w)) ⊎ ((a : Answer) × (reply ≡ answered a))

@@ -4,7 +4,7 @@ ghost use mathlib.Core.List.{List};
 ghost use Prim.Native.Nat.{ℕ};
 ghost use Rattle.method.specs.Verdict.{goodRequest, requestRefusals};
 ghost use Rattle.engine_rooms.specs.Rooms.{roomHistory};
-ghost use Rattle.engine_refusals.specs.Tests.{tested};
+ghost use Rattle.engine_refusals.specs.Steps.{tested};
 use engine_rooms::Directory;
 use method::Refusal;
 use method::Request;

@@ -10,7 +10,7 @@ use Rattle.calendar_groups.specs.declared.Group.{Group}
 use Rattle.calendar_groups.specs.declared.Group.the-variants.{Weekday, Saturday, HolidayGroup}
 use Rattle.method.specs.declared.Request.{Request}
 use Rattle.method.specs.Relevant.{sameGroup, relevant}
-use Rattle.engine_relevant.specs.Relevance.{relevantTo}
+use Rattle.engine_relevant.specs.Steps.{relevantTo}
 
 module _ (group : ℕ → Group) (own : Group) (r : Request) (d : ℕ) where
   pub too-early : d < r .participation → false ≡ relevantTo group own r d

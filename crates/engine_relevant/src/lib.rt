@@ -5,7 +5,7 @@ ghost use Rattle.calendar_groups.specs.Holidays.{group as groupOf};
 ghost use Rattle.method.specs.Relevant.{groupNumber, sameGroup};
 ghost use Rattle.method.specs.Method.{wholeReach};
 ghost use Rattle.method.specs.Requested.{methodOf};
-ghost use Rattle.engine_relevant.specs.Relevance.{relevantTo};
+ghost use Rattle.engine_relevant.specs.Steps.{relevantTo};
 use base_numbers::counts;
 use calendar_groups::Group;
 use method::Request;

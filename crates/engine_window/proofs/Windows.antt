@@ -18,7 +18,7 @@ use Rattle.base_lists.proofs.Parts.{part-append}
 use Rattle.base_lists.proofs.Sums.{sum-append}
 use Rattle.method.specs.Table.{present, missing}
 use Rattle.method.specs.Adjustment.{windowEnds, latestEnd, A}
-use Rattle.day_sums.specs.Sums.{Summed}
+use Rattle.day_sums.specs.Steps.{Summed}
 use Rattle.day_sums.proofs.Exact.{exact-both}
 use Rattle.engine_window.specs.Steps.{RunBefore}
 

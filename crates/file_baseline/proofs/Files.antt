@@ -19,10 +19,11 @@ use Rattle.file_record.specs.Reader.{readFile, tableIn, tableWithin, eventAtPla
 use Rattle.file_record.proofs.Starts.{offset-most}
 use Rattle.file_record.proofs.Files.{shape-fits}
 use Rattle.file_record.proofs.Lengths.{table-within}
-use Rattle.file_loading.specs.Loading.{fitsWithin}
+use Rattle.file_loading.specs.Steps.{fitsWithin}
 use Rattle.file_loading.proofs.Loading.{fits-own}
 use Rattle.file_loading.proofs.Buffers.{WithinBuffers}
-use Rattle.file_baseline.specs.Entry.{fileReply, LaidDown, Fits}
+use Rattle.file_baseline.specs.Entry.{fileReply}
+use Rattle.file_baseline.specs.Steps.{LaidDown, Fits}
 
 -- ---- the event at a place
 module _ (file : List ℕ) (place room : ℕ) {at : EventAt} (s : at ≡ eventAtPlace (readFile file) file place) where

@@ -1,16 +1,13 @@
 -- 01, "Record file, listing, host entry": "calls one entry with the file as bytes, the event's place from 0 and a byte buffer for 4-byte
 -- little-endian numerators".
-use Prim.Native.Nat.{ℕ, _/_, _≤_}
-use mathlib.Core.Path.{_≡_}
+use Prim.Native.Nat.{ℕ, _/_}
 use mathlib.Core.List.{List}
 use Rattle.calendar_groups.specs.Holidays.{group}
 use Rattle.method.specs.declared.Refusal.the-variants.{BadFile, NoEvent}
-use Rattle.method.specs.Table.{Table, offset}
+use Rattle.method.specs.Table.{Table}
 use Rattle.method.specs.Verdict.{Reply, refused, verdict}
 use Rattle.file_record.specs.declared.EventAt.{EventAt}
 use Rattle.file_record.specs.declared.EventAt.the-variants.{Event, NoEvent as NoneThere, Refused}
-use Rattle.file_record.specs.declared.Shape.{Shape}
-use Rattle.file_record.specs.declared.Read.the-variants.{File}
 use Rattle.file_record.specs.Reader.{readFile, tableIn, eventAtPlace}
 
 -- "tested in this order": 11, 12, then 1 to 10 over the file's table. A buffer of `room` bytes holds `room / 4` numerators.
@@ -21,13 +18,3 @@ replyTo (Event request) table room = verdict group table request (room / 4)
 
 unfoldable pub fileReply : List ℕ → ℕ → ℕ → Reply
 fileReply file place room = replyTo (eventAtPlace (readFile file) file place) (tableIn file) room
-
--- the file is as laid down, and of this shape
-pub record LaidDown (file : List ℕ) (shape : Shape) : Type 0 where
-  pub accepted : readFile file ≡ File shape
-
--- and its table fits into buffers of so many marks and readings
-pub record Fits (file : List ℕ) (shape : Shape) (marks readings : ℕ) : Type 0 where
-  pub laid-down : LaidDown file shape
-  pub marks-room : shape .days ≤ marks
-  pub readings-room : offset (shape .first) (shape .days) ≤ readings

@@ -1,2 +1,3 @@
 pub mod Bytewise
 pub mod Entry
+pub mod Steps

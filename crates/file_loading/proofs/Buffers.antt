@@ -8,7 +8,7 @@ use lib.Seq.{take-at}
 use Rattle.method.specs.Table.{offset}
 use Rattle.file_record.specs.declared.Shape.{Shape}
 use Rattle.file_record.specs.Reader.{tableWithin}
-use Rattle.file_loading.specs.Loading.{filledIf}
+use Rattle.file_loading.specs.Steps.{filledIf}
 use Rattle.file_loading.proofs.Loading.{marks-within, readings-within}
 
 -- the first places of the buffers are the table of a shape, with so many readings

@@ -15,7 +15,7 @@ use Rattle.file_record.specs.declared.Shape.{Shape}
 use Rattle.file_record.specs.declared.Read.the-variants.{File}
 use Rattle.method.specs.Table.{size, offset}
 use Rattle.file_record.specs.Reader.{numberAt, dyLength, shapeBase, dayStart, marksFrom, numbers, readingsFrom, tableWithin, readFile}
-use Rattle.file_loading.specs.Loading.{fitsWithin}
+use Rattle.file_loading.specs.Steps.{fitsWithin}
 use Rattle.file_record.proofs.Numbers.{number-drop, number-four}
 use Rattle.method.proofs.Tables.{offset-add, offset-suc}
 use Rattle.file_record.proofs.Starts.{day-start-more, day-start-within}

@@ -7,7 +7,7 @@ ghost use lib.ListN.{length, drop};
 ghost use lib.Dec.{leb};
 ghost use Rattle.method.specs.Table.{offset};
 ghost use Rattle.file_record.specs.Reader.{shapeBase, dayStart, numbers, tableWithin};
-ghost use Rattle.file_loading.specs.Loading.{fitsWithin, filledIf};
+ghost use Rattle.file_loading.specs.Steps.{fitsWithin, filledIf};
 use file_record::BEFORE_READINGS;
 use file_record::Shape;
 

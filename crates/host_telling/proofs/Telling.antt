@@ -15,7 +15,7 @@ use mir.ValLaws.{toZ-ofZ}
 use Rattle.base_lists.proofs.Bools.{lt-or-le}
 use Rattle.method.specs.declared.Refusal.{Refusal}
 use Rattle.engine_answer.specs.declared.Told.{Told}
-use Rattle.engine_answer.specs.Told.{toldOf}
+use Rattle.engine_answer.specs.Steps.{toldOf}
 use Rattle.engine_answer.proofs.Carried.{tells}
 use Rattle.engine_answer.specs.declared.Given.{Given}
 use Rattle.engine_answer.specs.declared.Answer.{Answer}

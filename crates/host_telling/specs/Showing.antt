@@ -10,7 +10,7 @@ use Rattle.file_record.specs.declared.Read.the-variants.{File, Refused}
 use Rattle.file_record.specs.declared.EventAt.{EventAt}
 use Rattle.file_record.specs.declared.EventAt.the-variants.{Event, NoEvent as NoneThere, Refused as RefusedEvent}
 use Rattle.listing_whole.specs.declared.Listed.{Listed}
-use Rattle.listing_whole.specs.declared.Listed.the-variants.{Length, NoRoom}
+use Rattle.listing_whole.specs.declared.Listed.the-variants.{Length, DoesNotFit}
 use Rattle.table_days.specs.declared.Place.{Place}
 use Rattle.table_days.specs.declared.Place.the-variants.{Nowhere, From}
 use Rattle.host_telling.specs.Names.{untold, byName, refusalRow, rowFrom}
@@ -50,4 +50,4 @@ placeTold (From at) = pos at
 -- the length of a listing; -HP_NO_ROOM, which is -7, where it does not fit
 abbrev pub listedTold : Listed → ℤ
 listedTold (Length size) = pos size
-listedTold NoRoom = negsuc 6
+listedTold DoesNotFit = negsuc 6

@@ -159,6 +159,6 @@ pub fn tell_listed(listed: Listed) -> i64
 {
     match listed {
         Listed::Length(size) => signed(size),
-        Listed::NoRoom => -7,
+        Listed::DoesNotFit => -7,
     }
 }

@@ -16,7 +16,7 @@ use Rattle.engine_answer.specs.declared.Told.{Told}
 use Rattle.engine_answer.proofs.Carried.{Tells}
 use Rattle.listing_lines.specs.Lines.{space, newline, spaced, lineText}
 use Rattle.listing_lines.specs.Listing.{numbers, eventLine, refusalLine}
-use Rattle.listing_lines.specs.Writes.{Writes}
+use Rattle.listing_lines.specs.WriteSteps.{Writes}
 use Rattle.listing_lines.proofs.Lines.{fields-both, line-is, take-least}
 use Rattle.listing_lines.proofs.Writing.{Writing, writing-next, writing-end}
 

@@ -7,7 +7,7 @@ ghost use Rattle.base_lists.specs.Ascii.{ascii};
 ghost use Rattle.base_text.specs.Digits.{dec, decimal};
 ghost use Rattle.listing_lines.specs.Lines.{newline, spaced, lineText};
 ghost use Rattle.listing_lines.specs.Listing.{numbers, eventLine, refusalLine};
-ghost use Rattle.listing_lines.specs.Writes.{Writes, PutsWithin};
+ghost use Rattle.listing_lines.specs.WriteSteps.{Writes, PutsWithin};
 ghost use Rattle.listing_event_line.specs.Room.{eventRoom, refusalRoom};
 use base_numbers::counts;
 use engine_choice::Chosen;

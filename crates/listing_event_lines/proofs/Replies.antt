@@ -18,7 +18,7 @@ use Rattle.engine_baseline.proofs.Answered.{Sound}
 use Rattle.table_baseline.proofs.Laws.{sound}
 use Rattle.listing_lines.specs.Lines.{lineText, linesText}
 use Rattle.listing_lines.specs.Listing.{refusalLine, eventLines, repliedLines, eventText}
-use Rattle.listing_event_lines.specs.Answered.{answerLines}
+use Rattle.listing_event_lines.specs.Steps.{answerLines}
 
 -- ---- refused
 refusal-lines : (r : Request) (reply : Reply) {answer : Answer} {w : Refusal} → answer ≡ answerOf reply → answer .given ≡ Refused w

@@ -3,7 +3,7 @@ ghost use Prim.Native.Nat.{_≤_};
 ghost use lib.ListN.{length};
 ghost use Rattle.listing_lines.specs.Lines.{lineText};
 ghost use Rattle.listing_lines.specs.Listing.{headerLine, refusedLine, openingLine};
-ghost use Rattle.listing_lines.specs.Writes.{Writes, PutsWithin};
+ghost use Rattle.listing_lines.specs.WriteSteps.{Writes, PutsWithin};
 ghost use Rattle.listing_first_line.specs.Room.{openingRoom};
 use file_record::Read;
 use file_record::Shape;

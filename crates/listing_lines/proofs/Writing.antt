@@ -11,9 +11,9 @@ use borrow.Rule.Slice.PartMut.{midOf, putMid}
 use borrow.Author.Tests.{lt-leb, le-leb}
 use Rattle.base_lists.proofs.Bools.{lt-or-le}
 use Rattle.base_lists.proofs.Unique.{unique}
-use Rattle.base_text.specs.Text.{put, next, Puts, PutsBoth}
+use Rattle.base_text.specs.TextSteps.{put, next, Puts, PutsBoth}
 use Rattle.base_text.proofs.Text.{put-length, put-put, put-whole, next-within, next-past, fitted, as-one}
-use Rattle.listing_lines.specs.Writes.{Writes, PutsWithin}
+use Rattle.listing_lines.specs.WriteSteps.{Writes, PutsWithin}
 
 -- a place within the buffer shows that all of it fit
 pub placed : {d : List ℕ} {at r : ℕ} {t e : List ℕ} → Puts d at t r e → r ≤ length d → Writes d at t r e

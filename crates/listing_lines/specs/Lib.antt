@@ -1,5 +1,5 @@
 pub mod Lines
 pub mod Listing
-pub mod Writes
+pub mod WriteSteps
 pub mod Worked
 pub mod Edges

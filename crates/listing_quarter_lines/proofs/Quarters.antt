@@ -9,7 +9,7 @@ use Rattle.base_text.specs.Digits.{dec}
 use Rattle.method.specs.Adjustment.{rounded}
 use Rattle.listing_lines.specs.Lines.{spaced, newline, lineText, linesText}
 use Rattle.listing_lines.specs.Listing.{quarterLine, quarterLines}
-use Rattle.listing_lines.specs.Writes.{Writes}
+use Rattle.listing_lines.specs.WriteSteps.{Writes}
 use Rattle.listing_lines.proofs.Lines.{take-least}
 use Rattle.listing_lines.proofs.Writing.{Writing, writing-next, writing-end}
 

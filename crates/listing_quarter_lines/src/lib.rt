@@ -6,7 +6,7 @@ ghost use Rattle.method.specs.Table.{mostQuarters};
 ghost use Rattle.method.specs.Adjustment.{rounded};
 ghost use Rattle.listing_lines.specs.Lines.{lineText, linesText};
 ghost use Rattle.listing_lines.specs.Listing.{quarterLine, quarterLines};
-ghost use Rattle.listing_lines.specs.Writes.{Writes, PutsWithin};
+ghost use Rattle.listing_lines.specs.WriteSteps.{Writes, PutsWithin};
 ghost use Rattle.listing_quarter_lines.specs.Room.{lineRoom, quartersRoom};
 use base_numbers::counts;
 use base_numbers::sizes;

@@ -17,8 +17,8 @@ use Rattle.file_record.proofs.Lengths.{table-within}
 use Rattle.file_record.proofs.Events.{within-is}
 use Rattle.file_loading.proofs.Buffers.{WithinBuffers}
 use Rattle.listing_lines.specs.Listing.{eventText}
-use Rattle.listing_lines.specs.Writes.{PutsWithin}
-use Rattle.listing_whole.specs.Holds.{Holds}
+use Rattle.listing_lines.specs.WriteSteps.{PutsWithin}
+use Rattle.listing_whole.specs.Steps.{Holds}
 
 pub holds : {file : List ℕ} {shape : Shape} {count : ℕ} {marks readings : List ℕ} → readFile file ≡ File shape → WithinBuffers shape file count marks readings
     → Holds file shape (take (shape .days) marks) (take count readings)

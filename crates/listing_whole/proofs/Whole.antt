@@ -10,7 +10,7 @@ use lib.Seq.{take-at}
 use borrow.Author.Tests.{le-leb, lt-leb}
 use borrow.Rule.Slice.PartMut.{midOf, putMid, mid-len}
 use Rattle.base_lists.proofs.Unique.{unique}
-use Rattle.base_text.specs.Text.{put, Puts}
+use Rattle.base_text.specs.TextSteps.{put, Puts}
 use Rattle.base_text.proofs.Text.{put-whole}
 use Rattle.base_bytes.specs.Told.{toldFirst}
 use Rattle.base_bytes.proofs.Told.{tells-none}
@@ -19,13 +19,13 @@ use Rattle.file_record.specs.declared.Read.the-variants.{File, Refused}
 use Rattle.file_record.specs.Reader.{readFile, tableIn, requestAt}
 use Rattle.listing_lines.specs.Lines.{lineText}
 use Rattle.listing_lines.specs.Listing.{openingLine, eventText, eventTexts, listing}
-use Rattle.listing_lines.specs.Writes.{Writes, PutsWithin}
+use Rattle.listing_lines.specs.WriteSteps.{Writes, PutsWithin}
 use Rattle.listing_lines.proofs.Writing.{Writing, writing-next, writing-end, in-part, whole, then, same-length}
 use Rattle.listing_lines.proofs.Whole.{listing-is}
 use Rattle.listing_first_line.specs.Room.{openingRoom}
 use Rattle.listing_event_lines.specs.Room.{linesRoom}
 use Rattle.listing_whole.specs.declared.Listed.{Listed}
-use Rattle.listing_whole.specs.declared.Listed.the-variants.{Length, NoRoom}
+use Rattle.listing_whole.specs.declared.Listed.the-variants.{Length, DoesNotFit}
 use Rattle.listing_whole.specs.Lists.{Lists}
 
 -- ---- the events before `place` are written
@@ -84,7 +84,7 @@ module _ (file out : List ℕ) where
     text-is =
         rw (w .holds, put-whole own 0 (listing file) (w .fits), zero-add) (take-at (listing file) _ end (sym long-is))
 
-    pub not-fitting : length out < end → Lists file out NoRoom out
+    pub not-fitting : length out < end → Lists file out DoesNotFit out
     not-fitting h =
         let long : length out < length (listing file) = omega (arith, long-is) in
         record {

@@ -1,2 +1,2 @@
-pub mod Holds
+pub mod Steps
 pub mod Lists

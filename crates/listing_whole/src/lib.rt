@@ -5,9 +5,9 @@ ghost use lib.ListN.{length};
 ghost use Rattle.file_record.specs.Reader.{readFile, tableIn, requestAt};
 ghost use Rattle.file_record.specs.declared.Read.the-variants.{File};
 ghost use Rattle.listing_lines.specs.Listing.{listing, eventText, eventTexts};
-ghost use Rattle.listing_lines.specs.Writes.{Writes, PutsWithin};
+ghost use Rattle.listing_lines.specs.WriteSteps.{Writes, PutsWithin};
 ghost use Rattle.listing_event_lines.specs.Room.{linesRoom};
-ghost use Rattle.listing_whole.specs.Holds.{Holds};
+ghost use Rattle.listing_whole.specs.Steps.{Holds};
 ghost use Rattle.listing_whole.specs.Lists.{mostListing, Lists};
 use file_record::EventAt;
 use file_record::Read;
@@ -17,7 +17,7 @@ use method::QUARTERS;
 // The listing stands first in the lent buffer, and is so long; or it does not fit.
 pub enum Listed {
     Length(u32),
-    NoRoom,
+    DoesNotFit,
 }
 
 // The room that any listing fits: 74 bytes for the first line, and 3,330 for each of 64 events.
@@ -102,7 +102,7 @@ fn copied(file: &[u8], out: &mut [u8]) -> Listed
     let mut own = [0u8; MOST_LISTING];
     let end = put_listing(file, &mut own);
     if out.len() < end {
-        return Listed::NoRoom;
+        return Listed::DoesNotFit;
     }
     base_text::put_bytes(out, 0, &own[..end]);
     Listed::Length(end as u32)

@@ -15,7 +15,7 @@ use Rattle.file_record.proofs.Bytes.{below-take}
 use Rattle.listing_lines.specs.Listing.{listing, longest}
 use Rattle.listing_lines.proofs.Whole.{listing-cut}
 use Rattle.listing_whole.specs.declared.Listed.{Listed}
-use Rattle.listing_whole.specs.declared.Listed.the-variants.{Length, NoRoom}
+use Rattle.listing_whole.specs.declared.Listed.the-variants.{Length, DoesNotFit}
 use Rattle.listing_whole.specs.Lists.{mostListing, Lists}
 use Rattle.listing_length.proofs.Most.{listing-most}
 use Rattle.program_list.specs.Prints.{Prints}
@@ -55,5 +55,5 @@ module _ (bytes : List ℕ) (count : ℕ) (within : count ≤ length bytes) (eno
           listed = λ more ends. first ∙ same-listing more ends;
         }
 
-    pub never-none : {X : Type 0} → r ≡ NoRoom → X
+    pub never-none : {X : Type 0} → r ≡ DoesNotFit → X
     never-none e = let z : _≡_ {A = ℕ} 0 1 = cc (found) in absurd (omega arith)

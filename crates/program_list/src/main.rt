@@ -19,7 +19,7 @@ fn list(bytes: &[u8], count: usize, text: &mut [u8]) -> usize
 {
     match listing_whole::listing(&bytes[..count], text) {
         Listed::Length(size) => size as usize,
-        Listed::NoRoom => 0,
+        Listed::DoesNotFit => 0,
     }
 }
 

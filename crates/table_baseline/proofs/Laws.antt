@@ -9,7 +9,7 @@ use Rattle.method.specs.declared.Request.{Request}
 use Rattle.method.specs.Table.{Table, history}
 use Rattle.method.specs.Verdict.{Answer, answered, tableRefusals, methodology, verdict}
 use Rattle.engine_refusals.specs.declared.Tested.the-variants.{Passed}
-use Rattle.engine_refusals.specs.Tests.{tested}
+use Rattle.engine_refusals.specs.Steps.{tested}
 use Rattle.engine_refusals.proofs.Replies.{answered-past}
 use Rattle.table_refusals.proofs.FirstRefusal.{table-passed}
 use Rattle.engine_baseline.proofs.Answered.{Sound, sound as sound-over}

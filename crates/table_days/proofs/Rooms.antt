@@ -15,7 +15,7 @@ use Rattle.engine_rooms.specs.Rooms.{readingsAt, roomDay}
 use Rattle.engine_rooms.specs.Agree.{Agree}
 use Rattle.base_lists.proofs.Places.{filled, at-place}
 use Rattle.table_days.specs.Lent.{tableOf}
-use Rattle.table_days.specs.Directory.{entriesOf, directoryOf}
+use Rattle.table_days.specs.Steps.{entriesOf, directoryOf}
 use Rattle.table_days.proofs.Extracts.{extract-is, has-day, has-inside}
 use Rattle.base_lists.specs.Lists.{places}
 

@@ -1,3 +1,3 @@
 pub mod Lent
-pub mod Directory
+pub mod Steps
 pub mod Part

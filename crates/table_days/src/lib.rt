@@ -5,7 +5,7 @@ ghost use mathlib.Core.List.{List};
 ghost use Prim.Native.Nat.{ℕ, _≤_};
 ghost use Rattle.method.specs.Table.{isExtract, held, history, offset};
 ghost use Rattle.table_days.specs.Lent.{tableOf};
-ghost use Rattle.table_days.specs.Directory.{entriesOf, directoryOf};
+ghost use Rattle.table_days.specs.Steps.{entriesOf, directoryOf};
 ghost use Rattle.table_days.specs.Part.{hasDay, DayPart, partPlace};
 use base_numbers::counts;
 use engine_rooms::Directory;

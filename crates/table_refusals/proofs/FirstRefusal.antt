@@ -11,7 +11,7 @@ use Rattle.method.specs.declared.Refusal.the-variants.{BadTable, BadMark, BadRe
 use Rattle.method.specs.Table.{Table, goodMark, goodReading, isExtract}
 use Rattle.method.specs.Verdict.{tableRefusals}
 use Rattle.engine_refusals.specs.declared.Tested.the-variants.{Passed, Failed}
-use Rattle.engine_refusals.specs.Tests.{tested}
+use Rattle.engine_refusals.specs.Steps.{tested}
 use Rattle.engine_refusals.proofs.FirstRefusal.{passed-next}
 
 module _ (t : Table) where

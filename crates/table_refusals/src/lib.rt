@@ -1,7 +1,7 @@
 // The refusals of a lent table, 1 to 3, in their order: the first that applies.
 ghost use mathlib.Core.Path.{_≡_};
 ghost use Rattle.method.specs.Verdict.{tableRefusals};
-ghost use Rattle.engine_refusals.specs.Tests.{tested};
+ghost use Rattle.engine_refusals.specs.Steps.{tested};
 ghost use Rattle.table_days.specs.Lent.{tableOf};
 use engine_refusals::Tested;
 use method::Refusal;

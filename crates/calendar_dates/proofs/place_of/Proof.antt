@@ -1,7 +1,7 @@
 -- `calendar_dates::place_of` meets its contract: the definition's parts, one by one.
 use borrow.Author.Needs.{needs}
 use Rattle.calendar_dates.specs.Days.{yearOf}
-use Rattle.calendar_dates.specs.Place.{placeOf}
+use Rattle.calendar_dates.specs.Steps.{placeOf}
 use Rattle.calendar_dates.proofs.Dates.{passed-is}
 use Rattle.calendar_dates.proofs.place_of.Statement.{statement}
 use Rattle.calendar_dates.proofs.place_of.Tie as tie

@@ -1,7 +1,7 @@
 -- `calendar_groups::is_easter_holiday` meets its contract: each way out is a law of Holidays, at the days passed of the day's year.
 use native.Mathlib.Omega.{arith}
 use borrow.Author.Needs.{needs}
-use Rattle.calendar_dates.specs.Place.{placeOf}
+use Rattle.calendar_dates.specs.Steps.{placeOf}
 use Rattle.calendar_dates.proofs.Years.{year-in-calendar, since-new-year}
 use Rattle.calendar_dates.proofs.Dates.{place-leap}
 use Rattle.calendar_groups.proofs.Holidays.{far-from-easter, before-easter, near-easter}

@@ -1,7 +1,7 @@
 -- `calendar_groups::is_fixed_holiday` meets its contract: two of the tests before March, six after February.
 use native.Mathlib.Omega.{arith}
 use borrow.Author.Needs.{needs}
-use Rattle.calendar_dates.specs.Place.{placeOf}
+use Rattle.calendar_dates.specs.Steps.{placeOf}
 use Rattle.calendar_dates.proofs.Years.{since-new-year}
 use Rattle.calendar_dates.proofs.Dates.{place-leap}
 use Rattle.calendar_groups.proofs.Holidays.{fixed-early, fixed-later}

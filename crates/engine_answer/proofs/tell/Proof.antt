@@ -1,6 +1,6 @@
 -- `engine_answer::tell` meets its contract, refusal by refusal.
 use borrow.Author.Needs.{needs}
-use Rattle.engine_answer.specs.Told.{toldOf}
+use Rattle.engine_answer.specs.Steps.{toldOf}
 use Rattle.engine_answer.proofs.tell.Statement.{statement}
 use Rattle.engine_answer.proofs.tell.Tie as tie
 

@@ -5,7 +5,7 @@ use native.Mathlib.Omega.{arith}
 use borrow.Author.Needs.{needs}
 use lib.ListN.{getD}
 use Rattle.calendar_groups.specs.Holidays.{group as groupOf}
-use Rattle.engine_judging.specs.Judging.{room}
+use Rattle.engine_judging.specs.Steps.{room}
 use Rattle.engine_choice.specs.Steps.{roomsOf}
 use Rattle.engine_choice.proofs.Judging.{room-back, part-most}
 use Rattle.engine_choice.proofs.Looking.{Back, back-start, back-further, back-more, back-full, back-end}

@@ -6,7 +6,7 @@ use borrow.Author.Needs.{needs}
 use Rattle.calendar_groups.specs.Holidays.{group as groupOf}
 use Rattle.method.specs.Table.{Day}
 use Rattle.engine_relevant.proofs.Relevance.{relevant-to}
-use Rattle.engine_judging.specs.Judging.{room}
+use Rattle.engine_judging.specs.Steps.{room}
 use Rattle.engine_choice.proofs.Judging.{same-judged}
 use Rattle.engine_choice.proofs.Looking.{adds-none, adds-eligible, adds-spare, adds-neither}
 use Rattle.engine_choice.proofs.with_day.Statement.{statement}

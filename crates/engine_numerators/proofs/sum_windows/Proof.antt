@@ -5,7 +5,7 @@ use native.Mathlib.Omega.{arith}
 use borrow.Author.Needs.{needs}
 use lib.ListN.{take}
 use Rattle.base_lists.specs.Lists.{sumOf}
-use Rattle.engine_numerators.specs.Numerators.{windowSums}
+use Rattle.engine_numerators.specs.NumeratorSteps.{windowSums}
 use Rattle.engine_numerators.proofs.Windows.{all-small, windows-few, windows-next}
 use Rattle.engine_numerators.proofs.sum_windows.Statement.{statement}
 use Rattle.engine_numerators.proofs.sum_windows.Tie as tie

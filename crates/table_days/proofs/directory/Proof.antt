@@ -8,7 +8,7 @@ use lib.ListN.{getD}
 use Rattle.method.specs.Table.{offset}
 use Rattle.base_lists.proofs.Places.{filled, filled-more}
 use Rattle.table_days.specs.Lent.{tableOf}
-use Rattle.table_days.specs.Directory.{entriesOf}
+use Rattle.table_days.specs.Steps.{entriesOf}
 use Rattle.table_days.proofs.Extracts.{offset-small}
 use Rattle.table_days.proofs.Rooms.{Entry, entry, directory-is}
 use Rattle.table_days.proofs.directory.Statement.{statement}

@@ -5,7 +5,7 @@ use mathlib.Core.Bool.{cond}
 use mathlib.Core.List.{List}
 use lib.ListN.{length}
 use lib.Dec.{leb}
-use Rattle.base_text.specs.Text.{put}
+use Rattle.base_text.specs.TextSteps.{put}
 
 -- the buffer `d′` is `d` with the text `t`, which fits whole, from place `at` up to `r`
 pub record Writes (d : List ℕ) (at : ℕ) (t : List ℕ) (r : ℕ) (d′ : List ℕ) : Type 0 where
