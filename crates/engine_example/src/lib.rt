@@ -17,8 +17,8 @@ fn rooms_apart(request: Request, before: u8, today: u8, gap: u16, readings: &[u3
 {
     let event = request.event;
     let start = day_ruler::size(event) + (gap as u32);
-    let mut at = [0u32; 46];
-    let mut marks = [0u8; 46];
+    let mut at = [0u32; engine_rooms::DAYS];
+    let mut marks = [0u8; engine_rooms::DAYS];
     at[1] = start;
     marks[0] = today;
     marks[1] = before;

@@ -3,11 +3,14 @@
 ghost use denote.Ref.{ptr};
 ghost use Rattle.engine_rooms.specs.Rooms.{ReadingsAt};
 
+// How many days a directory is of: D and the look-back.
+pub const DAYS: usize = 46;
+
 // Where the days from D-45 to D stand in lent readings, and their marks: entry i is day D - i. So many of them are held, D first: 0 where D is
 // not.
 pub struct Directory {
-    pub at: [u32; 46],
-    pub marks: [u8; 46],
+    pub at: [u32; DAYS],
+    pub marks: [u8; DAYS],
     pub held: u32,
 }
 

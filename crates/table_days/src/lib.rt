@@ -83,8 +83,8 @@ pub fn directory(first: u32, marks: &[u8], event: u32) -> Directory
     ensures { λ r. ⌜ ((readings : List ℕ) → r ≡ directoryOf (tableOf first (now (marks .entry)) readings) event) ⌝ }
 {
     let entries = entries(first, marks, event);
-    let mut at = [0u32; 46];
-    let mut kept = [0u8; 46];
+    let mut at = [0u32; engine_rooms::DAYS];
+    let mut kept = [0u8; engine_rooms::DAYS];
     let mut i = 0;
     while i < entries {
         let day = event - i;
