@@ -16,6 +16,7 @@ use Rattle.method.specs.Ruler.{rulerStart, rulerEnd, quarterOf, against}
 use Rattle.method.specs.Verdict.{tableRefusals, goodRequest, requestRefusals, closing, firstOf, methodology, verdict, written, wellFormed}
 use Rattle.method.specs.Checks.{Checks}
 use Rattle.method.specs.Edges.{Edges}
+use Rattle.method.proofs.Ruler.{start-is, end-is, mod-96}
 
 -- unfolding this unfolds every definition that the tables compute with
 unfoldable pub definitions : ℕ
@@ -75,6 +76,8 @@ edges =
       n-12-missing = refl;
       s-missing = refl;
       none-left = refl;
+      ruler-of = λ event. (start-is event, end-is event);
+      mod-96 = mod-96;
       s-yesterday = refl;
       s-today = refl;
       a-across = refl;

@@ -2,7 +2,7 @@
 use mathlib.Core.Path.{_≡_}
 use mathlib.Core.Bool.{true, false}
 use mathlib.Core.List.{List, [], _∷_, _++_, map}
-use Prim.Native.Nat.{ℕ, _*_}
+use Prim.Native.Nat.{ℕ, _*_, _%_, _<_}
 use lib.ListN.{replicate, set}
 use lib.IntN.{pos}
 use Rattle.calendar_groups.specs.Holidays.{group}
@@ -11,6 +11,7 @@ use Rattle.method.specs.declared.Refusal.{Refusal}
 use Rattle.method.specs.declared.Refusal.the-variants.{BadFile, NoEvent, BadTable, BadMark, BadReading, BadRequest, NotHeld}
 use Rattle.method.specs.declared.Refusal.the-variants.{NotYetParticipating, NoRoom, MarginTooShort, TooFew, NoAdjustmentWindow}
 use Rattle.method.specs.Table.{Table, Day, eventBit, outageBit, present, goodReading, missing, history, isExtract, dayPart}
+use Rattle.method.specs.Ruler.{rulerStart, rulerEnd, against}
 use Rattle.method.specs.Method.{chosen, daysOf}
 use Rattle.method.specs.Adjustment.{adjustmentEnd, S, A, B, rounded}
 use Rattle.method.specs.Requested.{methodOf}
@@ -93,6 +94,9 @@ pub record Edges : Type 0 where
   pub n-12-missing : adjustmentEnd (notified 12) (set (replicate 192 1000) 0 missing) ≡ 152
   pub s-missing : adjustmentEnd (notified 11) (set (replicate 192 1000) 151 missing) ≡ 151
   pub none-left : adjustmentEnd (notified 11) (replicate 11 1000 ++ replicate 181 missing) ≡ 0
+  -- "day D-1 is 0 to 95 and day D is 96 to 191", and "quarter t mod 96", of every event and ruler quarter
+  pub ruler-of : (event : ℕ) → (rulerStart event ≡ 96) × (rulerEnd event ≡ 192)
+  pub mod-96 : (event t : ℕ) → t < rulerEnd event → against event t ≡ t % 96
   -- "the reading at quarter t mod 96": day D-1's quarters on the ruler, and day D's; A and B over quarters 88 to 99, from one day to the other
   pub s-yesterday : S 1 counting 95 ≡ 95
   pub s-today : S 1 counting 97 ≡ 1
