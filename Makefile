@@ -9,7 +9,7 @@ SHELL := bash
 PREFIX ?= /usr/local
 FUZZ_SECONDS ?= 600
 FIRST ?= 5000000
-CRATES ?= method vectors
+CRATES ?= method program_vectors
 proved_from := crates.txt $(shell find crates -name '*.rt' -o -name '*.antt' -o -path '*/program_list/std*')
 version := $(shell sed -n 's/^\#define HP_VERSION "\(.*\)"/\1/p' include/honeyplank.h)
 library := build/lib/libhoneyplank.a build/include/honeyplank.h build/lib/pkgconfig/honeyplank.pc
@@ -24,7 +24,7 @@ need = $(foreach c,$(1),$(if $(shell command -v $(c)),,$(error There is no $(c) 
 
 # $(call prove,RT'S WORDS): runs rt, with a line for each crate; where it fails, its last lines
 prove = $(call need,rt)@mkdir -p build && rt $(1) 2>&1 | tee build/rt.log | \
-	sed -u -n -e '/unchanged/d' -e 's/^rt: \([a-z_]* proved.*\)/\1/p' -e 's/^rt: .*lib\([a-z]*\)\.a has .*/\1 proved/p' || { tail -n 40 build/rt.log; exit 1; }
+	sed -u -n -e '/unchanged/d' -e 's/^rt: \([a-z_]* proved.*\)/\1/p' -e 's/^rt: .*lib\([a-z_]*\)\.a has .*/\1 proved/p' || { tail -n 40 build/rt.log; exit 1; }
 
 all: $(library) $(program) ## prove and build the archive, its header, a pkg-config file and the program, under build/
 

@@ -17,7 +17,8 @@ asked && /^ghost use .*Steps\.\{/ {
   for (i = 1; i <= n; i++) { sub(/^.* as /, "", leaves[i]); step[leaves[i]] = 1 }
 }
 
-asked && /^pub .*fn / { inside = 1 }
+# a table's directory is for the engine alone
+asked && /^pub .*fn / && !/ directory\(/ { inside = 1 }
 
 inside {
   n = split($0, words, /[ (){},]+/)

@@ -63,7 +63,7 @@ firstRanks most fill taken = record { most = most; fill = fill; spares = Highest
 abbrev pub roomsOf : Request → Directory → List ℕ → ℕ → Day
 roomsOf r rooms readings d = roomDay (r .event) rooms readings (r .event - d)
 
--- what a dated day is, with its word
+-- what a day is, by what is held of it, with its word
 unfoldable pub judged : Request → ℕ × Day → Judged
 judged r p = cond (eligible (p .1)) (Eligible (word r p)) (cond (spare (p .1)) (Spare (word r p)) Neither)
 

@@ -38,7 +38,7 @@ pub struct Choice {
     pub chosen: Chosen,
 }
 
-// The order in which spare days fill a shortage: the highest first, or the nearest to the event first.
+// The order in which spare days fill a shortage: the highest first, or the latest.
 enum SpareOrder {
     Highest,
     Latest,

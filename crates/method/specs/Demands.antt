@@ -28,7 +28,7 @@ pub record LongerFormed (l t : Table) : Type 0 where
   pub formed : wellFormed l ≡ true
   pub longer : Longer l t
 
--- `p` is a well-formed part of `t` that holds the event day
+-- `p` is well formed, cut from `t`, and holds the event day
 pub record CutFrom (p t : Table) (r : Request) : Type 0 where
   pub formed : wellFormed p ≡ true
   pub longer : Longer t p
@@ -102,8 +102,8 @@ pub record Demand3 (group : ℕ → Group) (t : Table) (r : Request) (room : ℕ
   pub enough : wholeReach (methodOf group r) ≤ heldBefore t r → isMargin (methodology group (history t) r room) ≡ false
   -- nor is it where the table starts at P or earlier
   pub since : t .first ≤ r .participation → isMargin (methodology group (history t) r room) ≡ false
-  -- "The reported reach is the fewest days before the event that give this result.": a part of the table with so many days before the event
-  -- gets the same reply, a part with fewer gets "margin too short", and there are parts with any number of days up to the reach
+  -- "The reported reach is the fewest days before the event that give this result.": what is cut from the table with so many days before the
+  -- event gets the same reply, with fewer it gets "margin too short", and any number of days up to the reach can be cut
   pub reports : isSettled (methodology group (history t) r room) ≡ true
       → reported (methodology group (history t) r room) ≡ reach (methodOf group r) (history t)
   pub same : isMargin (methodology group (history t) r room) ≡ false

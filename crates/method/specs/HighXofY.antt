@@ -20,13 +20,15 @@ N Weekday = 5
 N Saturday = 2
 N HolidayGroup = 2
 
+-- "the Y most recent eligible days", spares "highest first, until N are reached", "the first N are chosen", and "too few: window below N"; `own` is
+-- D's group
 unfoldable pub highXofY : Group → Request → Rules
-highXofY group r =
+highXofY own r =
     record {
-      most = Y group;
-      fill = N group;
+      most = Y own;
+      fill = N own;
       order = sortBy (higher r);
       passed = λ size. 0;
-      taken = λ size. cond (ltb size (N group)) 0 (N group);
-      finish = baseline r (N group);
+      taken = λ size. cond (ltb size (N own)) 0 (N own);
+      finish = baseline r (N own);
     }

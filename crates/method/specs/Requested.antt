@@ -9,9 +9,10 @@ use Rattle.method.specs.Adjustment.{Baseline}
 use Rattle.method.specs.Rules.{Rules, methodBy}
 use Rattle.method.specs.HighXofY.{highXofY}
 
--- the rules of a request on a day of this group
+-- the rules of a request, by D's own group
 unfoldable pub rulesOf : Group → Request → Rules
-rulesOf group r = highXofY group r
+rulesOf own r = highXofY own r
 
+-- the method: relevant days by the groups of days, and these rules
 unfoldable pub methodOf : (ℕ → Group) → Request → Method Day (Option Baseline)
 methodOf group r = methodBy group r (rulesOf (group (r .event)) r)

@@ -20,6 +20,7 @@ pub record Rules : Type 0 where
   pub taken : ℕ → ℕ
   pub finish : List (ℕ × Day) → Day → Day → Option Baseline
 
+-- the method of such rules at one request
 unfoldable pub methodBy : (ℕ → Group) → Request → Rules → Method Day (Option Baseline)
 methodBy group r rules =
     record {
