@@ -1,6 +1,6 @@
-// How many quarters a day has, and the two-day ruler of an event (document 01, "The lent table and the request").
+// How many quarters a day has, how many stand before a day of a table, and the two-day ruler of an event (document 01, "The lent table and the request").
 ghost use mathlib.Core.Path.{_≡_};
-ghost use Rattle.method.specs.Table.{size as sizeOf};
+ghost use Rattle.method.specs.Table.{size as sizeOf, offset};
 ghost use Rattle.method.specs.Ruler.{rulerStart, rulerEnd, against as standsAgainst};
 use base_numbers::counts;
 
@@ -9,6 +9,13 @@ pub fn size(day: u32) -> u32
     ensures { λ r. ⌜ r ≡ sizeOf day ⌝ }
 {
     method::QUARTERS as u32
+}
+
+// How many readings stand before the day after so many days, of a table that starts at `first`.
+pub fn offset(first: u32, days: u32) -> usize
+    ensures { λ r. ⌜ r ≡ offset first days ⌝ }
+{
+    (size(first) as usize) * (days as usize)
 }
 
 // Where day D starts on the ruler of an event, after the quarters of D-1.

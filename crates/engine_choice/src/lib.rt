@@ -11,7 +11,7 @@ ghost use Rattle.engine_rooms.specs.Rooms.{roomHistory};
 ghost use Rattle.engine_judging.specs.Steps.{room};
 ghost use Rattle.engine_choice.specs.Choice.{choiceOf, noDays, inFive};
 ghost use Rattle.engine_choice.specs.Steps.{Sound, Follows, firstRanks, roomsOf, nearest, ifRelevant, withSpare, Further, Adds, Enough};
-ghost use Rattle.engine_choice.specs.Steps.{daysIn, picked, amongFew};
+ghost use Rattle.engine_choice.specs.Steps.{wordDay, daysIn, picked, amongFew};
 use base_numbers::counts;
 use calendar_groups::Group;
 use engine_judging::Judged;
@@ -194,9 +194,10 @@ fn look(
 
 // The day of a word.
 fn day_of(event: u32, word: u64) -> u32
-    ensures { λ r. ⌜ r ≡ event - (46 - word % 64) ⌝ }
+    ensures { λ r. ⌜ r ≡ wordDay event word ⌝ }
 {
-    counts::minus(event, counts::minus(46, engine_ranking::nearness_of(word)))
+    let back = counts::minus(engine_ranking::NEAREST, engine_ranking::nearness_of(word));
+    counts::minus(event, back)
 }
 
 // The days of so many words of a row, up to five, after those passed over.

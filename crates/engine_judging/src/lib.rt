@@ -30,7 +30,10 @@ pub fn judge(request: Request, mark: u8, part: &[u32], back: u32) -> Judged
         return Judged::Neither;
     }
     if day_readings::complete(part) {
-        let word = engine_ranking::word(event_sum(request, part), counts::minus(46, back));
+        let word = engine_ranking::word(
+            event_sum(request, part),
+            counts::minus(engine_ranking::NEAREST, back),
+        );
         if day_marks::is_event(mark) {
             Judged::Spare(word)
         } else {

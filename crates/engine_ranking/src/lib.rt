@@ -8,6 +8,9 @@ ghost use Rattle.engine_ranking.specs.Steps.{pushed, insertAll};
 // 64 times the rest of a sum by this fits a word.
 const TWO_TO_58: u64 = 288230376151711744;
 
+// The nearness of D itself: the farthest day of the look-back has 1, so that its word is not 0.
+pub const NEAREST: u32 = method::LOOK_BACK + 1;
+
 // The word of a day, as a number of 64 bits: a sum below 2 ^ 57 loses nothing.
 pub fn word(sum: u64, nearness: u32) -> u64
     ensures { λ r. ⌜ r ≡ (64 * sum + nearness) % 2 ^ 64 ⌝ }

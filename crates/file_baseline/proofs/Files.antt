@@ -16,7 +16,7 @@ use Rattle.file_record.specs.declared.Read.the-variants.{Refused as RefusedRead
 use Rattle.file_record.specs.declared.EventAt.{EventAt}
 use Rattle.file_record.specs.declared.EventAt.the-variants.{Event, NoEvent as NoneThere, Refused as RefusedEvent}
 use Rattle.file_record.specs.Reader.{readFile, tableIn, tableWithin, eventAtPlace}
-use Rattle.file_record.proofs.Starts.{offset-most}
+use Rattle.method.proofs.Tables.{offset-most}
 use Rattle.file_record.proofs.Files.{shape-fits}
 use Rattle.file_record.proofs.Lengths.{table-within}
 use Rattle.file_loading.specs.Steps.{fitsWithin}

@@ -82,7 +82,7 @@ fn loaded_baseline(
 {
     if file_loading::load_within(file, shape, marks, readings) {
         let days = shape.days as usize;
-        let count = file_record::offset(shape.first, shape.days);
+        let count = day_ruler::offset(shape.first, shape.days);
         table_baseline(
             shape.first,
             &marks[..days],

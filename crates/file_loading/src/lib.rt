@@ -46,8 +46,8 @@ fn load_readings(file: &[u8], shape: Shape, readings: &mut [u32])
     let base = file_record::base(shape);
     let mut k: u32 = 0;
     while k < shape.days {
-        let start = file_record::offset(shape.first, k);
-        let end = file_record::offset(shape.first, k + 1);
+        let start = day_ruler::offset(shape.first, k);
+        let end = day_ruler::offset(shape.first, k + 1);
         let at = file_record::day_start(base, shape.first, k) + BEFORE_READINGS;
         load_day(file, at, &mut readings[start..end]);
         k += 1;
@@ -59,7 +59,7 @@ fn has_room(shape: Shape, size: usize, marks: usize, readings: usize) -> bool
     ensures { λ r. ⌜ r ≡ (leb (dayStart (shapeBase shape) (shape .first) (shape .days)) size && (leb (shape .days) marks && leb (offset (shape .first) (shape .days)) readings)) ⌝ }
 {
     let end = file_record::day_start(file_record::base(shape), shape.first, shape.days);
-    let count = file_record::offset(shape.first, shape.days);
+    let count = day_ruler::offset(shape.first, shape.days);
     (end <= size) & ((shape.days as usize <= marks) & (count <= readings))
 }
 

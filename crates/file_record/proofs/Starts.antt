@@ -5,17 +5,10 @@ use mathlib.Core.List.{List}
 use native.Mathlib.Omega.{arith}
 use native.Mathlib.Nat.{add-zero}
 use native.Mathlib.Numerals.{add-one}
-use Rattle.method.specs.Table.{size, offset, mostQuarters}
-use Rattle.method.proofs.Tables.{size-is, offset-is, offset-suc}
+use Rattle.method.specs.Table.{offset, mostQuarters}
+use Rattle.method.proofs.Tables.{size-most, offset-suc}
 use Rattle.file_record.specs.declared.Shape.{Shape}
 use Rattle.file_record.specs.Reader.{dyBytes, dyLength, fileBase, shapeBase, mostBase, shapeIn, dayStart}
-
--- no day is longer than the longest, nor are several
-pub size-most : (d : ℕ) → size d ≤ mostQuarters
-size-most d = omega (arith, size-is d)
-
-pub offset-most : (first k n : ℕ) → k ≤ n → offset first k ≤ mostQuarters * n
-offset-most first k n h = omega (arith, offset-is first k)
 
 module _ (base first : ℕ) where
   pub day-start-none : dayStart base first 0 ≡ base

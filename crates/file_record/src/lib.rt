@@ -2,10 +2,8 @@
 ghost use mathlib.Core.Path.{_≡_};
 ghost use Prim.Native.Nat.{_+_, _*_, _≤_, _<_};
 ghost use lib.ListN.{length, drop, getD};
-ghost use Rattle.method.specs.Table.{offset};
 ghost use Rattle.file_record.specs.Reader.{numberAt, opensWith, isRecord, pfLength, dyLength, isEV, evLength, isDYof, daysFrom, eventsFrom, fileBase, shapeBase, firstIn};
 ghost use Rattle.file_record.specs.Reader.{dayStart, readFile, eventOf, requestOf, eventAtPlace, eventWithin};
-use method::QUARTERS;
 use method::Request;
 
 // What a whole file holds: P, the portfolio number, the first day, and how many days and events.
@@ -41,25 +39,18 @@ const MOST_DAYS: u32 = 128;
 
 const MOST_EVENTS: u32 = 64;
 
-// How many readings stand before the k-th day of a table that starts at `first`.
-pub fn offset(first: u32, k: u32) -> usize
-    ensures { λ r. ⌜ r ≡ offset first k ⌝ }
-{
-    QUARTERS * (k as usize)
-}
-
 // The bytes of the DY of a day.
 fn day_length(day: u32) -> usize
     ensures { λ r. ⌜ r ≡ dyLength day ⌝ }
 {
-    BEFORE_READINGS + 4 * QUARTERS
+    BEFORE_READINGS + 4 * (day_ruler::size(day) as usize)
 }
 
 // Where the k-th DY starts, counted from 0, the first standing at `base`; after the last DY, where the first EV does.
 pub fn day_start(base: u32, first: u32, k: u32) -> usize
     ensures { λ r. ⌜ r ≡ dayStart base first k ⌝ }
 {
-    (base as usize) + BEFORE_READINGS * (k as usize) + 4 * offset(first, k)
+    (base as usize) + BEFORE_READINGS * (k as usize) + 4 * day_ruler::offset(first, k)
 }
 
 // Where the DY of a file of this shape start.

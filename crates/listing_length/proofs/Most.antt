@@ -11,7 +11,8 @@ use Rattle.base_lists.specs.Lists.{all}
 use Rattle.calendar_groups.specs.Holidays.{group}
 use Rattle.method.specs.Verdict.{verdict}
 use Rattle.method.specs.Table.{mostQuarters}
-use Rattle.file_record.proofs.Starts.{offset-most, day-start-most, base-most}
+use Rattle.method.proofs.Tables.{offset-most}
+use Rattle.file_record.proofs.Starts.{day-start-most, base-most}
 use Rattle.engine_numerators.proofs.Windows.{small}
 use Rattle.table_baseline.proofs.Laws.{sound, never-above}
 use Rattle.file_record.specs.Layout.{Below, Fits}

@@ -19,7 +19,8 @@ use Rattle.file_record.specs.declared.Shape.{Shape}
 use Rattle.file_record.specs.declared.Read.the-variants.{File}
 use Rattle.file_record.specs.Reader.{daysFrom, eventsFrom, fileBase, mostBase, firstIn, daysIn, eventStart, eventsIn, goodEnd, readFile}
 use Rattle.listing_lines.specs.Listing.{longest}
-use Rattle.file_record.proofs.Starts.{size-most, day-start-most, base-most}
+use Rattle.method.proofs.Tables.{size-most}
+use Rattle.file_record.proofs.Starts.{day-start-most, base-most}
 use Rattle.file_record.proofs.Records.{event-record}
 use Rattle.file_record.proofs.Runs.{run-most}
 use Rattle.file_record.proofs.Files.{event-start-first, event-start-more, end-is-length}

@@ -79,7 +79,7 @@ fn put_file(file: &[u8], shape: Shape, out: &mut [u8]) -> usize
     let mut readings = [0u32; QUARTERS * 128];
     file_loading::load_within(file, shape, &mut marks, &mut readings);
     let days = shape.days as usize;
-    let count = file_record::offset(shape.first, shape.days);
+    let count = day_ruler::offset(shape.first, shape.days);
     let next = listing_first_line::opening(Read::File(shape), out);
     put_events(file, shape, &marks[..days], &readings[..count], out, next)
 }

@@ -1,6 +1,6 @@
 -- Laws of tables: where a day's readings stand, a table without its first days, and a table with days put before it.
--- Only `size-is` and `offset-is` look into how many readings a day has.
-use mathlib.Core.Path.{_≡_, refl, ap, _∙_}
+-- Only `size-is` and `offset-is`, and the three laws after them, look into how many readings a day has.
+use mathlib.Core.Path.{_≡_, refl, sym, ap, _∙_}
 use mathlib.Core.Bool.{Bool, true, not}
 use mathlib.Core.List.{List, _++_}
 use Prim.Native.Nat.{ℕ, zero, suc, _+_, _-_, _*_, _≤_, _<_}
@@ -15,7 +15,7 @@ use Rattle.base_lists.proofs.All.{all-append, all-replicate, all-take, all-drop
 use Rattle.base_lists.proofs.Bools.{and-left, and-right}
 use Rattle.calendar_dates.specs.Days.{lastDay}
 use Rattle.method.specs.declared.Request.{Request}
-use Rattle.method.specs.Table.{Table, heldDays, size, offset, dayOf, goodMark, goodReading, held, history, shaped}
+use Rattle.method.specs.Table.{Table, heldDays, size, mostQuarters, offset, dayOf, goodMark, goodReading, held, history, shaped}
 use Rattle.method.specs.Verdict.{wellFormed}
 use Rattle.method.specs.Demands.{Longer, CutFrom, heldBefore, without, cutTo}
 use Rattle.method.proofs.Histories.{Extends, held-first, held-last, is-held}
@@ -52,6 +52,17 @@ pub offset-is : (f k : ℕ) → offset f k ≡ 96 * k
 unfolding offset size
 offset-is f zero = refl
 offset-is f (suc k) = omega (arith, offset-is (suc f) k)
+
+-- as many readings as days of one size have
+pub offset-even : (f k : ℕ) → size f * k ≡ offset f k
+offset-even f k = rw (size-is f) (sym (offset-is f k))
+
+-- no day is longer than the longest, nor are several
+pub size-most : (d : ℕ) → size d ≤ mostQuarters
+size-most d = omega (arith, size-is d)
+
+pub offset-most : (f k n : ℕ) → k ≤ n → offset f k ≤ mostQuarters * n
+offset-most f k n h = omega (arith, offset-is f k)
 
 -- what "well formed" says
 pub record Formed (t : Table) : Type 0 where

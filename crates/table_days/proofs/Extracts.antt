@@ -12,17 +12,9 @@ use Rattle.base_lists.proofs.Bools.{bool-cases, both, lt-or-le, and-left, and-r
 use Rattle.calendar_dates.specs.Days.{lastDay}
 use Rattle.method.specs.Table.{Table, heldDays, offset, mostQuarters, shaped, isExtract, held, history, size, dayOf, dayPart}
 use Rattle.method.proofs.Histories.{held-first, held-last}
-use Rattle.method.proofs.Tables.{size-is, offset-is, offset-within}
+use Rattle.method.proofs.Tables.{offset-within, offset-most}
 use Rattle.table_days.specs.declared.Place.the-variants.{Nowhere, From}
 use Rattle.table_days.specs.Part.{hasDay, partStart, DayPart, partPlace}
-
--- as many readings as days of one size have
-pub offset-even : (f k : ℕ) → size f * k ≡ offset f k
-offset-even f k = rw (size-is f) (sym (offset-is f k))
-
--- the readings of at most 128 days are not too many to count in 32 bits
-pub offset-small : (f k : ℕ) → k ≤ 128 → offset f k ≤ 128 * mostQuarters
-offset-small f k h = omega (arith, offset-is f k)
 
 -- what refusal 1 lets pass
 pub record Extract (t : Table) : Type 0 where
@@ -167,5 +159,5 @@ module _ (t : Table) (day : ℕ) where
       place-from s = rw (← e, ne-eqb (length part) 0 some, part-some, s)
 
   -- it is a place among at most 128 days of readings
-  pub place-small : hasDay t day ≡ true → offset (t .first) (day - t .first) ≤ 128 * mostQuarters
-  place-small h = offset-small (t .first) (day - t .first) (has-few h)
+  pub place-small : hasDay t day ≡ true → offset (t .first) (day - t .first) ≤ mostQuarters * 128
+  place-small h = offset-most (t .first) (day - t .first) 128 (has-few h)

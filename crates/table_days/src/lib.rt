@@ -2,8 +2,8 @@
 ghost use denote.Ref.{ptr};
 ghost use mathlib.Core.Path.{_≡_};
 ghost use mathlib.Core.List.{List};
-ghost use Prim.Native.Nat.{ℕ, _≤_};
-ghost use Rattle.method.specs.Table.{isExtract, held, history, offset};
+ghost use Prim.Native.Nat.{ℕ};
+ghost use Rattle.method.specs.Table.{isExtract, held, history};
 ghost use Rattle.table_days.specs.Lent.{tableOf};
 ghost use Rattle.table_days.specs.Steps.{entriesOf, directoryOf};
 ghost use Rattle.table_days.specs.Part.{hasDay, DayPart, partPlace};
@@ -14,14 +14,6 @@ use engine_rooms::Directory;
 pub enum Place {
     Nowhere,
     From(u32),
-}
-
-// Where the readings of the day after so many days start: the one function that knows where a table keeps a day.
-fn offset(first: u32, days: usize) -> usize
-    requires { ⌜ days ≤ 128 ⌝ }
-    ensures { λ r. ⌜ r ≡ offset first days ⌝ }
-{
-    (day_ruler::size(first) as usize) * days
 }
 
 // Whether refusal 1 lets the table pass.
@@ -35,7 +27,7 @@ pub fn is_extract(first: u32, marks: &[u8], readings: &[u32]) -> bool
     if days == 0 {
         return false;
     }
-    if readings.len() != offset(first, days) {
+    if readings.len() != day_ruler::offset(first, days as u32) {
         return false;
     }
     (first as usize) + days - 1 <= (calendar_dates::LAST_DAY as usize)
@@ -89,9 +81,9 @@ pub fn directory(first: u32, marks: &[u8], event: u32) -> Directory
     while i < entries {
         let day = event - i;
         let place = i as usize;
-        let before = (day - first) as usize;
-        at[place] = offset(first, before) as u32;
-        kept[place] = marks[before];
+        let before = day - first;
+        at[place] = day_ruler::offset(first, before) as u32;
+        kept[place] = marks[before as usize];
         i += 1;
     }
     Directory {
@@ -107,7 +99,7 @@ pub fn day_part<'a>(first: u32, marks: &[u8], readings: &'a [u32], day: u32) -> 
     ensures { λ r. ⌜ DayPart (tableOf first (now (marks .entry)) (now (readings .entry))) day (ptr (readings .entry)) (now r) (ptr r) ⌝ }
 {
     if has(first, marks, readings, day) {
-        let at = offset(first, (day - first) as usize);
+        let at = day_ruler::offset(first, day - first);
         let end = at + (day_ruler::size(day) as usize);
         &readings[at..end]
     } else {
@@ -124,6 +116,6 @@ pub fn part_place(first: u32, marks: &[u8], readings: &[u32], day: u32) -> Place
     if part.len() == 0 {
         Place::Nowhere
     } else {
-        Place::From(offset(first, (day - first) as usize) as u32)
+        Place::From(day_ruler::offset(first, day - first) as u32)
     }
 }

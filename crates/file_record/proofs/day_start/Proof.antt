@@ -1,6 +1,7 @@
 -- `file_record::day_start` meets its contract.
 use native.Mathlib.Omega.{arith}
-use Rattle.file_record.proofs.Starts.{offset-most, day-start-is}
+use Rattle.method.proofs.Tables.{offset-most}
+use Rattle.file_record.proofs.Starts.{day-start-is}
 use borrow.Author.Needs.{needs}
 use Rattle.file_record.proofs.day_start.Statement.{statement}
 use Rattle.file_record.proofs.day_start.Tie as tie

@@ -4,7 +4,7 @@ use mathlib.Core.Path.{sym, _∙_}
 use native.Mathlib.Omega.{arith}
 use borrow.Author.Needs.{needs}
 use Rattle.method.specs.Table.{mostQuarters}
-use Rattle.file_record.proofs.Starts.{offset-most}
+use Rattle.method.proofs.Tables.{offset-most}
 use Rattle.file_record.proofs.Files.{shape-fits}
 use Rattle.file_loading.proofs.Loading.{fits-own}
 use Rattle.file_loading.proofs.Buffers.{WithinBuffers, within-buffers}

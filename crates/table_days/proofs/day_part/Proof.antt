@@ -3,7 +3,7 @@ use mathlib.Core.Path.{refl, sym, _∙_}
 use native.Mathlib.Omega.{arith}
 use borrow.Author.Needs.{needs}
 use Rattle.table_days.specs.Lent.{tableOf}
-use Rattle.table_days.proofs.Extracts.{has-inside, has-few, part-held, part-none}
+use Rattle.table_days.proofs.Extracts.{has-inside, part-held, part-none}
 use Rattle.table_days.proofs.day_part.Statement.{statement}
 use Rattle.table_days.proofs.day_part.Tie as tie
 
@@ -18,16 +18,8 @@ sub-offset c =
     let held = sym (d .has .ensures) ∙ c .if1 .taken in
     has-inside t (a .day) held .0
 
-cast-offset : tie.Need-cast-offset
-cast-offset c = search needs
-
 offset-requires : tie.Need-offset-requires
-offset-requires c κs =
-    let d = c .before in
-    let a = d .before .before .before .args in
-    let t = tableOf (a .first) (a .marks .now) (a .readings .now) in
-    let held = sym (d .has .ensures) ∙ c .if1 .taken in
-    has-few t (a .day) held
+offset-requires c κs = search needs
 
 size-requires : tie.Need-size-requires
 size-requires c κs = search needs
@@ -99,7 +91,6 @@ day-part-spec =
     (tie.spec
     has-requires
     sub-offset
-    cast-offset
     offset-requires
     size-requires
     cast-end

@@ -6,10 +6,10 @@ use native.Mathlib.Omega.{arith}
 use borrow.Author.Needs.{needs}
 use lib.ListN.{getD}
 use Rattle.method.specs.Table.{offset}
+use Rattle.method.proofs.Tables.{offset-most}
 use Rattle.base_lists.proofs.Places.{filled, filled-more}
 use Rattle.table_days.specs.Lent.{tableOf}
 use Rattle.table_days.specs.Steps.{entriesOf}
-use Rattle.table_days.proofs.Extracts.{offset-small}
 use Rattle.table_days.proofs.Rooms.{Entry, entry, directory-is}
 use Rattle.table_days.proofs.directory.Statement.{statement}
 use Rattle.base_lists.specs.Lists.{places}
@@ -43,17 +43,14 @@ cast-place c = search needs
 sub-before : tie.Need-sub-before Inv-loop μ-loop
 sub-before c = let e = within (c .before .before .entries .ensures) (c .loop-test .taken) in omega arith
 
-cast-before : tie.Need-cast-before Inv-loop μ-loop
-cast-before c = search needs
-
 offset-requires : tie.Need-offset-requires Inv-loop μ-loop
-offset-requires c κs = let e = within (c .before .before .entries .ensures) (c .loop-test .taken) in omega arith
+offset-requires c κs = search needs
 
 cast-at : tie.Need-cast-at Inv-loop μ-loop
 cast-at c =
     let a = c .before .before .before .before .before .args in
     let e = within (c .before .before .before .entries .ensures) (c .before .loop-test .taken) in
-    let most = offset-small (a .first) (a .event - c .before .before .loop .i - a .first) (omega arith) in
+    let most = offset-most (a .first) (a .event - c .before .before .loop .i - a .first) 128 (omega arith) in
     omega (arith, c .offset .ensures, most)
 
 mul-at : tie.Need-mul-at Inv-loop μ-loop
@@ -61,6 +58,9 @@ mul-at c = let e = within (c .before .before .before .entries .ensures) (c .befo
 
 array-write-at : tie.Need-array-write-at Inv-loop μ-loop
 array-write-at c = let e = within (c .before .before .before .entries .ensures) (c .before .loop-test .taken) in omega arith
+
+cast-kept : tie.Need-cast-kept Inv-loop μ-loop
+cast-kept c = search needs
 
 shared-slice-read-kept : tie.Need-shared-slice-read-kept Inv-loop μ-loop
 shared-slice-read-kept c = let e = within (c .before .before .before .before .entries .ensures) (c .before .before .loop-test .taken) in omega arith
@@ -106,11 +106,11 @@ directory-spec =
     sub-day
     cast-place
     sub-before
-    cast-before
     offset-requires
     cast-at
     mul-at
     array-write-at
+    cast-kept
     shared-slice-read-kept
     array-write-kept
     add-i

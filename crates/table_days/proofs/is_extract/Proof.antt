@@ -16,6 +16,9 @@ returns-2 c =
     let a = c .before .before .before .before .args in
     empty (tableOf (a .first) (a .marks .now) (a .readings .now)) (c .before .if1 .left) (c .if2 .taken)
 
+cast-offset : tie.Need-cast-offset
+cast-offset c = search needs
+
 offset-requires : tie.Need-offset-requires
 offset-requires c κs = search needs
 
@@ -41,4 +44,4 @@ returns-4 c =
     (c .if3 .left ∙ c .before .offset .ensures)
 
 pub is-extract-spec : {M : Type 1} → statement M
-is-extract-spec = tie.close (tie.spec returns returns-2 offset-requires returns-3 add-result sub-result cast-result returns-4)
+is-extract-spec = tie.close (tie.spec returns returns-2 cast-offset offset-requires returns-3 add-result sub-result cast-result returns-4)

@@ -2,7 +2,7 @@
 use native.Mathlib.Omega.{arith}
 use borrow.Author.Needs.{needs}
 use Rattle.table_days.specs.Lent.{tableOf}
-use Rattle.table_days.proofs.Extracts.{has-inside, has-few, part-some, place-nowhere, place-from, place-small}
+use Rattle.table_days.proofs.Extracts.{has-inside, part-some, place-nowhere, place-from, place-small}
 use Rattle.table_days.proofs.part_place.Statement.{statement}
 use Rattle.table_days.proofs.part_place.Tie as tie
 
@@ -16,18 +16,11 @@ sub-offset c =
     let t = tableOf (a .first) (a .marks .now) (a .readings .now) in
     has-inside t (a .day) (part-some t (a .day) (p .day-part .ensures .list) (c .if1 .left)) .0
 
-cast-offset : tie.Need-cast-offset
-cast-offset c = search needs
-
 offset-requires : tie.Need-offset-requires
-offset-requires c κs =
-    let p = c .before in
-    let a = p .before .before .before .args in
-    let t = tableOf (a .first) (a .marks .now) (a .readings .now) in
-    has-few t (a .day) (part-some t (a .day) (p .day-part .ensures .list) (c .if1 .left))
+offset-requires c κs = search needs
 
-cast-t12 : tie.Need-cast-t12
-cast-t12 c =
+cast-t11 : tie.Need-cast-t11
+cast-t11 c =
     let p = c .before .before in
     let a = p .before .before .before .args in
     let t = tableOf (a .first) (a .marks .now) (a .readings .now) in
@@ -48,4 +41,4 @@ returns-2 c =
     place-from t (a .day) (p .day-part .ensures .list) (c .before .if1 .left) (c .offset .ensures)
 
 pub part-place-spec : {M : Type 1} → statement M
-part-place-spec = tie.close (tie.spec day-part-requires sub-offset cast-offset offset-requires cast-t12 returns returns-2)
+part-place-spec = tie.close (tie.spec day-part-requires sub-offset offset-requires cast-t11 returns returns-2)

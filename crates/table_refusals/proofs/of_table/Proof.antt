@@ -4,7 +4,8 @@ use native.Mathlib.Omega.{arith}
 use borrow.Author.Needs.{needs}
 use lib.ListN.{length}
 use Rattle.table_days.specs.Lent.{tableOf}
-use Rattle.table_days.proofs.Extracts.{extract-is, offset-small}
+use Rattle.method.proofs.Tables.{offset-most}
+use Rattle.table_days.proofs.Extracts.{extract-is}
 use Rattle.table_refusals.proofs.FirstRefusal.{bad-table, bad-mark, bad-reading, good-table}
 use Rattle.table_refusals.proofs.of_table.Statement.{statement}
 use Rattle.table_refusals.proofs.of_table.Tie as tie
@@ -41,7 +42,7 @@ cast-t13 c =
     let t = tableOf (a .first) (a .marks .now) (a .readings .now) in
     let extract = sym (d .is-extract .ensures) ∙ c .before .before .before .before .if1 .taken in
     let x = extract-is t extract in
-    omega (arith, x .sized, offset-small (a .first) (length (a .marks .now)) (x .most))
+    omega (arith, x .sized, offset-most (a .first) (length (a .marks .now)) 128 (x .most))
 
 returns-2 : tie.Need-returns-2
 returns-2 c =

@@ -1,9 +1,9 @@
--- `table_days::offset` meets its contract.
+-- `day_ruler::offset` meets its contract.
 use native.Mathlib.Omega.{arith}
+use Rattle.method.proofs.Tables.{offset-even, offset-most}
 use borrow.Author.Needs.{needs}
-use Rattle.table_days.proofs.Extracts.{offset-even, offset-small}
-use Rattle.table_days.proofs.offset.Statement.{statement}
-use Rattle.table_days.proofs.offset.Tie as tie
+use Rattle.day_ruler.proofs.offset.Statement.{statement}
+use Rattle.day_ruler.proofs.offset.Tie as tie
 
 size-requires : tie.Need-size-requires
 size-requires c κs = search needs
@@ -14,7 +14,7 @@ cast-result c = search needs
 mul-result : tie.Need-mul-result
 mul-result c =
     let a = c .before .args in
-    rw (c .size .ensures, offset-even (a .first) (a .days)) (omega (arith, offset-small (a .first) (a .days) (c .before .pre)))
+    rw (c .size .ensures, offset-even (a .first) (a .days)) (omega (arith, offset-most (a .first) (a .days) (a .days) (omega arith)))
 
 returns : tie.Need-returns
 returns c = let a = c .before .args in rw (c .size .ensures) (offset-even (a .first) (a .days))
