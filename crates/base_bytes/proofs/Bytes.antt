@@ -7,7 +7,7 @@ use native.Mathlib.Numerals.{add-one}
 use lib.ListN.{length, getD, drop, set, drop-of-length-le}
 use lib.Seq.{drop-cons}
 use borrow.Rule.Slice.PartMut.{putMid}
-use Rattle.base_bytes.specs.Told.{toldFirst}
+use Rattle.base_bytes.specs.PutFirst.{putFirst}
 use Rattle.base_bytes.proofs.Told.{tells-none, tells-whole}
 use Rattle.base_bytes.proofs.Filling.{Filling, filling-part, filled}
 use Rattle.base_bytes.specs.Bytes.{bytes, readingBytes}
@@ -44,7 +44,7 @@ module _ {before whole now : List ℕ} (numbers : List ℕ) (i : ℕ) (q : Filli
 
 -- all are put
 pub numbers-put : {before now : List ℕ} (numbers : List ℕ) (i : ℕ) → Filling before (readingBytes numbers) now (readingBytes (drop i numbers)) (4 * i)
-    → i ≤ length numbers → length numbers ≤ i → length numbers ≤ length before / 4 → now ≡ toldFirst (readingBytes numbers) before
+    → i ≤ length numbers → length numbers ≤ i → length numbers ≤ length before / 4 → now ≡ putFirst (readingBytes numbers) before
 unfolding readingBytes
 numbers-put {before} numbers i q h g room =
     let long = reading-length numbers in
@@ -53,7 +53,7 @@ numbers-put {before} numbers i q h g room =
     tells-whole (readingBytes numbers) before fits (rw all (filled q (rw (drop-of-length-le numbers g))))
 
 -- they do not fit
-pub numbers-kept : (numbers before : List ℕ) → length before / 4 < length numbers → before ≡ toldFirst (readingBytes numbers) before
+pub numbers-kept : (numbers before : List ℕ) → length before / 4 < length numbers → before ≡ putFirst (readingBytes numbers) before
 numbers-kept numbers before h =
     let long = reading-length numbers in
     let over : length before < length (readingBytes numbers) = omega arith in

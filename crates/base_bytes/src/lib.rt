@@ -2,7 +2,7 @@
 ghost use mathlib.Core.Path.{_≡_};
 ghost use Prim.Native.Nat.{_+_, _*_, _<_};
 ghost use lib.ListN.{length};
-ghost use Rattle.base_bytes.specs.Told.{toldFirst};
+ghost use Rattle.base_bytes.specs.PutFirst.{putFirst};
 ghost use Rattle.base_bytes.specs.Bytes.{bytes, readingBytes};
 
 // The number of two bytes.
@@ -35,7 +35,7 @@ fn put_number(out: &mut [u8], number: u32)
 
 // Numbers of four bytes: they stand first where all of them fit, and else nothing is changed.
 pub fn put_numbers(out: &mut [u8], numbers: &[u32])
-    ensures { λ _. ⌜ now (out .exit) ≡ toldFirst (readingBytes (now (numbers .entry))) (now (out .entry)) ⌝ }
+    ensures { λ _. ⌜ now (out .exit) ≡ putFirst (readingBytes (now (numbers .entry))) (now (out .entry)) ⌝ }
 {
     if out.len() / 4 < numbers.len() {
         return;

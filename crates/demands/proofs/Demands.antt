@@ -17,7 +17,7 @@ use Rattle.method.specs.Table.{Table, history}
 use Rattle.method.specs.Method.{wholeReach}
 use Rattle.method.specs.Requested.{methodOf}
 use Rattle.method.specs.Verdict.{Reply, Answer as Numbers, refused, answered, methodology, verdict}
-use Rattle.method.specs.Demands.{LongerFormed, heldBefore, cutTo, Undecided, Parted, isMargin, isSettled, reported as reportedIn}
+use Rattle.method.specs.CutTables.{LongerFormed, heldBefore, cutTo, Undecided, Parted, isMargin, isSettled, reported as reportedIn}
 use Rattle.method.proofs.Replies.{none-early}
 use Rattle.method.proofs.Settled.{settled-margin}
 use Rattle.method.proofs.Extract.{none-of-table, verdict-stable, verdict-margin, reach-within, reach-same, reach-fewest}

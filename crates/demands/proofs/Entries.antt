@@ -24,10 +24,10 @@ use Rattle.method.proofs.Replies.{other, none-early}
 use Rattle.engine_answer.specs.declared.Answer.{Answer}
 use Rattle.engine_answer.specs.Answer.{answerOf}
 use Rattle.engine_answer.proofs.Laws.{answers-unique}
-use Rattle.file_baseline.specs.Bytewise.{bytesWritten}
+use Rattle.file_baseline.specs.Output.{bytesWritten}
 use Rattle.file_baseline.proofs.Laws.{file-answers-unique}
 use Rattle.file_baseline.proofs.Rooms.{room-enough}
-use Rattle.file_baseline.specs.Entry.{fileReply}
+use Rattle.file_baseline.specs.Reply.{fileReply}
 use Rattle.host_telling.specs.Names.{byName, refusalRow, rowFrom}
 use Rattle.host_telling.specs.Telling.{answerRow, toldBy}
 use Rattle.host_entries.specs.Host.{mostBytes, FileCall, TableCall}

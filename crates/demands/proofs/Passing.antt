@@ -12,7 +12,7 @@ use Rattle.calendar_groups.specs.Holidays.{group}
 use Rattle.method.specs.declared.Refusal.{Refusal}
 use Rattle.method.specs.Table.{Table, held, history, isExtract}
 use Rattle.method.specs.Verdict.{Reply, answered, firstOf, verdict, wellFormed}
-use Rattle.method.specs.Demands.{NoneEarlier}
+use Rattle.method.specs.CutTables.{NoneEarlier}
 use Rattle.method.proofs.Replies.{test, other, none-early, early-other}
 use Rattle.method.proofs.Extract.{none-of-table}
 use Rattle.method.proofs.NoPart.{known}

@@ -15,15 +15,15 @@ use Rattle.method.specs.declared.Refusal.the-variants.{BadFile, NoEvent, BadTab
 use Rattle.method.specs.declared.Refusal.the-variants.{NotYetParticipating, NoRoom, MarginTooShort, TooFew, NoAdjustmentWindow}
 use Rattle.method.specs.Table.{Table}
 use Rattle.method.specs.Verdict.{Reply, Answer as Numbers, refused, answered, number, firstOf, verdict, written}
-use Rattle.method.specs.Demands.{isMargin, isSettled, reported as reportedIn}
+use Rattle.method.specs.CutTables.{isMargin, isSettled, reported as reportedIn}
 use Rattle.engine_refusals.proofs.FirstRefusal.{first-append}
 use Rattle.file_record.specs.Reader.{requestAt}
 use Rattle.engine_answer.specs.declared.Given.the-variants.{Answered, Refused}
 use Rattle.engine_answer.specs.declared.Answer.{Answer}
 use Rattle.engine_answer.specs.Answer.{answerOf, Answers}
-use Rattle.file_baseline.specs.Bytewise.{FileAnswers, bytesWritten}
+use Rattle.file_baseline.specs.Output.{FileAnswers, bytesWritten}
 use Rattle.file_baseline.proofs.Laws.{below-four}
-use Rattle.file_baseline.specs.Entry.{fileReply}
+use Rattle.file_baseline.specs.Reply.{fileReply}
 use Rattle.demands.specs.Calls.{Call, overTable, ofFile, extract, request, perQuarter, stand, room, Gets, result, reported}
 use Rattle.demands.specs.Rows.{fileRows, tableRows, requestRows, dayRows, earlier, rows, answerOver}
 use Rattle.demands.proofs.Rows.{verdict-rows, file-rows}

@@ -22,7 +22,7 @@ use Rattle.engine_baseline.proofs.Laws.{numerators-are}
 use Rattle.file_record.specs.declared.EventAt.the-variants.{Event, NoEvent as NoneThere}
 use Rattle.file_record.specs.declared.Read.the-variants.{File, Refused}
 use Rattle.file_record.specs.Reader.{isPF, goodEnd, eventsIn, shapeIn, readFile, tableIn, requestAt, eventAtPlace}
-use Rattle.file_baseline.specs.Entry.{replyTo, fileReply}
+use Rattle.file_baseline.specs.Reply.{replyTo, fileReply}
 use Rattle.demands.specs.Calls.{ofFile}
 use Rattle.demands.specs.Rows.{chosenOf, windowOf, reachOf, endOf, AOf, BOf, NOf, numeratorsOf, answerOver}
 use Rattle.demands.specs.Rows.{fileRows, tableRows, requestRows, dayRows}

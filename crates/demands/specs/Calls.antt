@@ -10,7 +10,7 @@ use Rattle.engine_answer.specs.declared.Given.{Given}
 use Rattle.engine_answer.specs.declared.Given.the-variants.{Answered, Refused}
 use Rattle.engine_answer.specs.declared.Answer.{Answer}
 use Rattle.engine_answer.specs.Answer.{Answers}
-use Rattle.file_baseline.specs.Bytewise.{FileAnswers}
+use Rattle.file_baseline.specs.Output.{FileAnswers}
 use Rattle.host_telling.specs.Telling.{numberOf}
 use Rattle.base_bytes.specs.Bytes.{readingBytes}
 

@@ -20,13 +20,14 @@ use Rattle.method.specs.Rules.{methodBy}
 use Rattle.method.specs.Requested.{methodOf}
 use Rattle.method.specs.Method.{Method, Outcome, short, few, chose, outcome, daysOf, wholeReach, seen, eligibles, spares, window, chosen}
 use Rattle.method.specs.Method.{reach, isShort}
-use Rattle.method.proofs.HighXofY.{lawful}
+use Rattle.method.proofs.Requested.{lawful}
 use Rattle.method.proofs.Stable.{yesterday-held}
 use Rattle.method.specs.Verdict.{closing}
 use Rattle.engine_choice.specs.declared.Chosen.{Chosen}
 use Rattle.engine_choice.specs.declared.Choosing.the-variants.{Short, Few, Days}
 use Rattle.engine_choice.specs.declared.Choice.{Choice}
-use Rattle.engine_choice.specs.Choice.{choiceOf, noDays, inFive}
+use Rattle.engine_choice.specs.Choice.{inFive}
+use Rattle.engine_choice.specs.Steps.{choiceOf, noDays}
 use Rattle.engine_choice.proofs.Requested.{chosen-five}
 use Rattle.engine_baseline.specs.Engine.{withDays}
 use Rattle.engine_baseline.specs.Steps.{Fit, Ready, replyOf}

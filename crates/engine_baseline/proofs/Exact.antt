@@ -20,10 +20,10 @@ use Rattle.method.specs.Eligible.{complete}
 use Rattle.method.specs.Rules.{methodBy}
 use Rattle.method.specs.Requested.{methodOf}
 use Rattle.method.specs.Verdict.{Answer, Reply, refused, answered, methodology}
-use Rattle.method.proofs.HighXofY.{lawful}
+use Rattle.method.proofs.Requested.{lawful}
 use Rattle.method.proofs.Stable.{yesterday-held}
 use Rattle.base_lists.proofs.Places.{over-same}
-use Rattle.engine_window.proofs.Laws.{all-in-range, window-most, adjustment-holds}
+use Rattle.engine_adjustment.proofs.Laws.{all-in-range, window-most, adjustment-holds}
 use Rattle.engine_numerators.proofs.Signed.{numerator-is}
 use Rattle.engine_choice.proofs.Requested.{chosen-five}
 use Rattle.engine_baseline.specs.Engine.{withDays, inWords}

@@ -32,7 +32,7 @@ fn finish(
     let event = request.event;
     let yesterday = engine_rooms::readings_at(readings, rooms.at[1], day_ruler::size(event - 1));
     let today = engine_rooms::readings_at(readings, rooms.at[0], day_ruler::size(event));
-    let end = engine_window::adjustment_end(request, yesterday, today);
+    let end = engine_adjustment::adjustment_end(request, yesterday, today);
     if end == 0 {
         return engine_answer::refuse(Refusal::NoAdjustmentWindow(chosen.reach));
     }

@@ -17,12 +17,12 @@ use Rattle.engine_ranking.specs.Steps.{word}
 use Rattle.engine_rooms.specs.declared.Directory.{Directory}
 use Rattle.engine_rooms.specs.Rooms.{readingsAt, roomDay}
 use Rattle.engine_rooms.proofs.Parts.{part-few}
-use Rattle.engine_judging.specs.Steps.{room, wordAt, judgedAt}
+use Rattle.engine_judging.specs.Steps.{dayFrom, wordAt, judgedAt}
 use Rattle.engine_choice.specs.Steps.{roomsOf, judged}
 
--- the room of the day so far back
+-- the dayFrom of the day so far back
 pub room-back : (r : Request) (rooms : Directory) (readings : List ℕ) (back : ℕ) → back ≤ r .event
-    → room (getD (rooms .marks) back 0) (readingsAt (size (r .event - back)) readings (getD (rooms .at) back 0)) ≡ roomsOf r rooms readings (r .event - back)
+    → dayFrom (getD (rooms .marks) back 0) (readingsAt (size (r .event - back)) readings (getD (rooms .at) back 0)) ≡ roomsOf r rooms readings (r .event - back)
 unfolding roomDay
 room-back r rooms readings back h = let e : r .event - (r .event - back) ≡ back = omega arith in rw e
 
@@ -32,7 +32,7 @@ part-most readings at d {k} e = omega (arith, part-few k readings at, size-is d)
 
 module _ (r : Request) (back mark : ℕ) (part : List ℕ) (some : 1 ≤ back) (most : back ≤ 45) (within : back ≤ r .event) (few : length part ≤ mostQuarters)
     (small : (i : ℕ) → getD part i 0 < 2 ^ 32) where
-  sum-few : eventSum r (room mark part) ≤ missing * mostQuarters
+  sum-few : eventSum r (dayFrom mark part) ≤ missing * mostQuarters
   unfolding eventSum
   sum-few =
       let each = all-of (λ x. leb x missing) 0 part (λ i. le-leb (getD part i 0) missing (omega (arith, small i))) in
@@ -40,10 +40,10 @@ module _ (r : Request) (back mark : ℕ) (part : List ℕ) (some : 1 ≤ back) (
       sum-most missing (take (r .e - r .s) (drop (against (r .event) (r .s)) part)) mostQuarters l
       (all-take (λ x. leb x missing) (r .e - r .s) (drop (against (r .event) (r .s)) part) (all-drop (λ x. leb x missing) (against (r .event) (r .s)) part each))
 
-  same-word : wordAt r back (room mark part) ≡ word r (r .event - back, room mark part)
+  same-word : wordAt r back (dayFrom mark part) ≡ word r (r .event - back, dayFrom mark part)
   unfolding wordAt word
   same-word = omega (arith, sum-few)
 
-  pub same-judged : judgedAt r back (room mark part) ≡ judged r (r .event - back, room mark part)
+  pub same-judged : judgedAt r back (dayFrom mark part) ≡ judged r (r .event - back, dayFrom mark part)
   unfolding judgedAt judged
   same-judged = rw same-word

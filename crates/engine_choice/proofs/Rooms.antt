@@ -19,13 +19,13 @@ use Rattle.method.specs.Requested.{rulesOf, methodOf}
 use Rattle.method.proofs.LookBack.{daysBefore-is}
 use Rattle.method.proofs.Histories.{held-first, held-last}
 use Rattle.method.proofs.Stable.{window-of-seen, outcome-same}
-use Rattle.method.proofs.HighXofY.{lawful}
+use Rattle.method.proofs.Requested.{lawful}
 use Rattle.base_lists.proofs.Bools.{bool-cases, same-test}
 use Rattle.engine_rooms.specs.declared.Directory.{Directory}
 use Rattle.engine_rooms.specs.Rooms.{heldRooms, roomHistory}
 use Rattle.engine_rooms.specs.Agree.{Agree}
 use Rattle.engine_rooms.proofs.Held.{event-held, event-not}
-use Rattle.engine_choice.specs.Choice.{choiceOf}
+use Rattle.engine_choice.specs.Steps.{choiceOf}
 use Rattle.engine_choice.specs.Steps.{nearest, roomsOf}
 use Rattle.engine_choice.proofs.Days.{seen-nearest}
 use Rattle.engine_relevant.proofs.Reaching.{short-of-reach, reach-most}

@@ -37,7 +37,8 @@ use Rattle.engine_choice.specs.declared.Rules.{Rules as Numbers}
 use Rattle.engine_choice.specs.declared.Found.{Found}
 use Rattle.engine_choice.specs.declared.Choosing.the-variants.{Short, Few, Days}
 use Rattle.engine_choice.specs.declared.Choice.{Choice}
-use Rattle.engine_choice.specs.Choice.{choiceOf, noDays, inFive}
+use Rattle.engine_choice.specs.Choice.{inFive}
+use Rattle.engine_choice.specs.Steps.{choiceOf, noDays}
 use Rattle.engine_choice.specs.Steps.{Follows, inOrder, nearest, roomsOf, eligibleOf, spareOf, rowOf, spareRow, Enough, daysIn, picked, fillers, amongFew}
 use Rattle.engine_choice.proofs.Days.{seen-nearest, nearest-back, all-keep}
 use Rattle.engine_choice.proofs.Followed.{order-length, passed-at, taken-at, taken-within, lawful-by}

@@ -8,8 +8,8 @@ use lib.Dec.{ltb, eqb}
 use Rattle.base_lists.specs.Lists.{keep, leastOf, places}
 use Rattle.calendar_groups.specs.declared.Group.{Group}
 use Rattle.method.specs.declared.Request.{Request}
-use Rattle.method.specs.Table.{Day}
-use Rattle.method.specs.Method.{daysOf}
+use Rattle.method.specs.Table.{Day, History}
+use Rattle.method.specs.Method.{daysOf, Method, wholeReach, window, chosen, reach, isShort}
 use Rattle.method.specs.Relevant.{daysBefore, relevant}
 use Rattle.method.specs.Eligible.{eligible, spare, higher, sortBy}
 use Rattle.method.specs.Rules.{Rules}
@@ -24,7 +24,20 @@ use Rattle.engine_choice.specs.declared.Rules.{Rules as Numbers}
 use Rattle.engine_choice.specs.declared.Found.{Found}
 use Rattle.engine_choice.specs.declared.Choosing.the-variants.{Short, Few, Days}
 use Rattle.engine_choice.specs.declared.Choice.{Choice}
-use Rattle.engine_choice.specs.Choice.{inFive, noDays}
+use Rattle.engine_choice.specs.Choice.{inFive}
+use Rattle.engine_choice.specs.declared.Choosing.{Choosing}
+
+abbrev pub noDays : Choosing → Choice
+noDays refusal = record { choosing = refusal; chosen = record { days = inFive []; count = 0; reach = 0 } }
+
+unfoldable pub choiceOf : {A O : Type 0} → Method A O → History A → Choice
+choiceOf m h =
+    cond (isShort m h) (noDays (Short (wholeReach m)))
+    (cond (eqb (m .taken (length (window m h))) 0) (noDays (Few (length (window m h)) (reach m h)))
+    (record {
+      choosing = Days;
+      chosen = record { days = inFive (daysOf (chosen m h)); count = length (chosen m h); reach = reach m h };
+    }))
 
 -- Rules as numbers
 

@@ -8,8 +8,9 @@ ghost use Rattle.method.specs.Table.{mostQuarters};
 ghost use Rattle.method.specs.Method.{wholeReach};
 ghost use Rattle.method.specs.Requested.{rulesOf, methodOf};
 ghost use Rattle.engine_rooms.specs.Rooms.{roomHistory};
-ghost use Rattle.engine_judging.specs.Steps.{room};
-ghost use Rattle.engine_choice.specs.Choice.{choiceOf, noDays, inFive};
+ghost use Rattle.engine_judging.specs.Steps.{dayFrom};
+ghost use Rattle.engine_choice.specs.Choice.{inFive};
+ghost use Rattle.engine_choice.specs.Steps.{choiceOf, noDays};
 ghost use Rattle.engine_choice.specs.Steps.{Sound, Follows, firstRanks, roomsOf, nearest, ifRelevant, withSpare, Further, Adds, Enough};
 ghost use Rattle.engine_choice.specs.Steps.{wordDay, daysIn, picked, amongFew};
 use base_numbers::counts;
@@ -122,7 +123,7 @@ fn with_day(
     found: Found,
 ) -> Found
     requires { ⌜ (group ≡ groupOf (request .event)) × Further request back found × (length (now part) ≤ mostQuarters) ⌝ }
-    ensures { λ r. ⌜ Adds request spares back (ifRelevant groupOf request (request .event - back, room mark (now (part .entry)))) found r ⌝ }
+    ensures { λ r. ⌜ Adds request spares back (ifRelevant groupOf request (request .event - back, dayFrom mark (now (part .entry)))) found r ⌝ }
 {
     if engine_relevant::relevant(request, group, request.event - back) {
         let eligible = found.eligible;

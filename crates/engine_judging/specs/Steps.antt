@@ -9,8 +9,8 @@ use Rattle.engine_judging.specs.declared.Judged.{Judged}
 use Rattle.engine_judging.specs.declared.Judged.the-variants.{Eligible, Spare, Neither}
 
 -- what a mark and readings say of a day
-abbrev pub room : ℕ → List ℕ → Day
-room mark readings = record { mark = mark; readings = readings }
+abbrev pub dayFrom : ℕ → List ℕ → Day
+dayFrom mark readings = record { mark = mark; readings = readings }
 
 -- the word of the day `back` days before the event, as a number of 64 bits: its sum, and how near it lies
 unfoldable pub wordAt : Request → ℕ → Day → ℕ

@@ -2,7 +2,7 @@
 ghost use mathlib.Core.Path.{_≡_};
 ghost use Prim.Native.Nat.{_%_, _^_};
 ghost use Rattle.method.specs.Eligible.{eventSum};
-ghost use Rattle.engine_judging.specs.Steps.{room, judgedAt};
+ghost use Rattle.engine_judging.specs.Steps.{dayFrom, judgedAt};
 use base_numbers::counts;
 use method::Request;
 
@@ -15,16 +15,16 @@ pub enum Judged {
 
 // The sum of a day's readings over the event's own quarters, as a number of 64 bits.
 fn event_sum(request: Request, part: &[u32]) -> u64
-    ensures { λ r. ⌜ r ≡ eventSum request (room 0 (now (part .entry))) % 2 ^ 64 ⌝ }
+    ensures { λ r. ⌜ r ≡ eventSum request (dayFrom 0 (now (part .entry))) % 2 ^ 64 ⌝ }
 {
     let start = day_ruler::against(request.event, request.s) as usize;
     let end = start + counts::minus(request.e, request.s) as usize;
-    day_sums::sum_between(part, start, end)
+    base_sums::sum_between(part, start, end)
 }
 
 // What the mark and the readings of the day `back` days before the event make of it.
 pub fn judge(request: Request, mark: u8, part: &[u32], back: u32) -> Judged
-    ensures { λ r. ⌜ r ≡ judgedAt request back (room mark (now (part .entry))) ⌝ }
+    ensures { λ r. ⌜ r ≡ judgedAt request back (dayFrom mark (now (part .entry))) ⌝ }
 {
     if day_marks::is_out(mark) {
         return Judged::Neither;

@@ -145,7 +145,7 @@ fn sum_windows(readings: &[u32], at: [u32; 5], count: usize, quarters: u32, end:
     let mut k = 0;
     while k < count {
         let day = engine_rooms::readings_at(readings, at[k], quarters);
-        total += engine_window::window_sum(end, day, day);
+        total += engine_adjustment::window_sum(end, day, day);
         k += 1;
     }
     total
@@ -179,7 +179,7 @@ pub fn write(
 {
     let at = chosen.at;
     let count = counts::least(chosen.count, 5) as usize;
-    let own = engine_window::window_sum(chosen.end, yesterday, today);
+    let own = engine_adjustment::window_sum(chosen.end, yesterday, today);
     let adjustment = adjustment(readings, at, count, chosen.quarters, chosen.end, own);
     sum_days(
         readings,

@@ -16,7 +16,7 @@ use Rattle.method.specs.Relevant.{daysBefore, relevant, relevantDays}
 use Rattle.method.specs.Method.{wholeReach}
 use Rattle.method.specs.Rules.{methodBy}
 use Rattle.method.specs.Requested.{methodOf}
-use Rattle.method.proofs.HighXofY.{lawful}
+use Rattle.method.proofs.Requested.{lawful}
 use Rattle.method.proofs.LookBack.{daysBefore-is, days-then, days-least, one-before}
 
 pub leastOf-snoc : (top : ℕ) (xs : List ℕ) (x : ℕ) → leastOf top (xs ++ (x ∷ [])) ≡ min (leastOf top xs) x

@@ -7,7 +7,8 @@ use native.Mathlib.Omega.{arith}
 use borrow.Author.Tests.{le-leb, lt-leb}
 use lib.Dec.{leb}
 use lib.ListN.{length, take, drop, length-take}
-use Rattle.engine_rooms.specs.Rooms.{readingsAt, readingsStart, ReadingsAt}
+use Rattle.engine_rooms.specs.Rooms.{readingsAt}
+use Rattle.engine_rooms.specs.Steps.{readingsStart, ReadingsAt}
 use Rattle.base_lists.proofs.Unique.{unique}
 
 -- it has at most `size` readings

@@ -1,6 +1,5 @@
 -- A directory of rooms read as a history: where the days before the event stand in lent readings, and their marks.
-use Prim.Native.Nat.{ℕ, _+_, _-_, _*_, min}
-use mathlib.Core.Path.{_≡_}
+use Prim.Native.Nat.{ℕ, _+_, _-_, min}
 use mathlib.Core.Bool.{cond}
 use mathlib.Core.List.{List, []}
 use lib.ListN.{length, getD, take, drop}
@@ -12,16 +11,6 @@ use Rattle.engine_rooms.specs.declared.Directory.{Directory}
 -- the `size` readings that start at a place; none where they run past the end
 unfoldable pub readingsAt : ℕ → List ℕ → ℕ → List ℕ
 readingsAt size readings at = cond (leb (at + size) (length readings)) (take size (drop at readings)) []
-
--- where it starts; 0 where it is empty
-unfoldable pub readingsStart : ℕ → List ℕ → ℕ → ℕ
-readingsStart size readings at = cond (leb (at + size) (length readings)) at 0
-
--- `part` at the place `stands` is the part that starts at `at` of readings that stand at `whole`; a place is a block and a byte of it
-pub record ReadingsAt (size : ℕ) (readings : List ℕ) (at : ℕ) (whole : ℕ × ℕ) (part : List ℕ) (stands : ℕ × ℕ) : Type 0 where
-  pub list : part ≡ readingsAt size readings at
-  pub block : stands .0 ≡ whole .0
-  pub byte : stands .1 ≡ whole .1 + 4 * readingsStart size readings at
 
 -- what is held of the day `i` days before the event
 unfoldable pub roomDay : ℕ → Directory → List ℕ → ℕ → Day

@@ -1,7 +1,7 @@
 // Rooms: where the days of an event's look back stand in lent readings. A table, a ring and a shared store make a directory of rooms; what is
 // worked out from it is the same.
 ghost use denote.Ref.{ptr};
-ghost use Rattle.engine_rooms.specs.Rooms.{ReadingsAt};
+ghost use Rattle.engine_rooms.specs.Steps.{ReadingsAt};
 
 // How many days a directory is of: D and the look-back.
 pub const DAYS: usize = 46;

@@ -15,14 +15,15 @@ use Rattle.file_record.specs.declared.Shape.{Shape}
 use Rattle.file_record.specs.declared.Read.the-variants.{Refused as RefusedRead}
 use Rattle.file_record.specs.declared.EventAt.{EventAt}
 use Rattle.file_record.specs.declared.EventAt.the-variants.{Event, NoEvent as NoneThere, Refused as RefusedEvent}
-use Rattle.file_record.specs.Reader.{readFile, tableIn, tableWithin, eventAtPlace}
+use Rattle.file_record.specs.Reader.{readFile, tableIn, eventAtPlace}
+use Rattle.file_record.specs.Steps.{tableWithin}
 use Rattle.method.proofs.Tables.{offset-most}
 use Rattle.file_record.proofs.Files.{shape-fits}
 use Rattle.file_record.proofs.Lengths.{table-within}
 use Rattle.file_loading.specs.Steps.{fitsWithin}
 use Rattle.file_loading.proofs.Loading.{fits-own}
 use Rattle.file_loading.proofs.Buffers.{WithinBuffers}
-use Rattle.file_baseline.specs.Entry.{fileReply}
+use Rattle.file_baseline.specs.Reply.{fileReply}
 use Rattle.file_baseline.specs.Steps.{LaidDown, Fits}
 
 -- ---- the event at a place

@@ -10,7 +10,7 @@ use Rattle.base_lists.proofs.Bools.{lt-or-le}
 use Rattle.base_lists.proofs.Unique.{unique}
 use Rattle.method.specs.Verdict.{Reply}
 use Rattle.engine_answer.specs.declared.Answer.{Answer}
-use Rattle.file_baseline.specs.Bytewise.{FileAnswers}
+use Rattle.file_baseline.specs.Output.{FileAnswers}
 
 -- no two differing results meet the contract
 pub file-answers-unique : {reply : Reply} {r r′ : Answer} {out after after′ : List ℕ} → FileAnswers reply r out after → FileAnswers reply r′ out after′

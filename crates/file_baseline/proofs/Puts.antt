@@ -14,8 +14,8 @@ use Rattle.method.specs.Verdict.{Reply, refused, answered, verdict, written}
 use Rattle.engine_answer.specs.declared.Given.the-variants.{Answered, Refused as RefusedGiven}
 use Rattle.engine_answer.specs.declared.Answer.{Answer}
 use Rattle.engine_answer.specs.Answer.{answerOf, Answers}
-use Rattle.base_bytes.specs.Told.{toldFirst}
-use Rattle.file_baseline.specs.Bytewise.{bytesWritten, FileAnswers}
+use Rattle.base_bytes.specs.PutFirst.{putFirst}
+use Rattle.file_baseline.specs.Output.{bytesWritten, FileAnswers}
 use Rattle.table_baseline.proofs.Laws.{sound}
 use Rattle.file_baseline.proofs.Rooms.{room-same}
 use Rattle.base_bytes.specs.Bytes.{readingBytes}
@@ -49,10 +49,10 @@ module _ (t : Table) (r : Request) (out : List ℕ) {given : Answer} (before : L
     pub some : r .s ≤ r .e
     pub within : r .e - r .s ≤ length after
     pub size : length (take (r .e - r .s) after) ≡ r .e - r .s
-    pub puts : {now : List ℕ} → now ≡ toldFirst (readingBytes (take (r .e - r .s) after)) out → FileAnswers (verdict group t r (length out / 4)) given out now
+    pub puts : {now : List ℕ} → now ≡ putFirst (readingBytes (take (r .e - r .s) after)) out → FileAnswers (verdict group t r (length out / 4)) given out now
 
   pub numerators : given .given ≡ Answered → Numerators
-  unfolding answerOf written bytesWritten toldFirst
+  unfolding answerOf written bytesWritten putFirst
   numerators g = go (verdict group t r (length out / 4)) refl answer-is (q .output ∙ ap (λ (x : Reply). written x before) same)
     where
       go : (reply : Reply) → verdict group t r (length out / 4) ≡ reply → given ≡ answerOf reply → after ≡ written reply before → Numerators

@@ -1,3 +1,3 @@
-pub mod Bytewise
-pub mod Entry
+pub mod Output
+pub mod Reply
 pub mod Steps

@@ -8,8 +8,8 @@ ghost use Rattle.method.specs.Table.{mostQuarters};
 ghost use Rattle.method.specs.Verdict.{verdict};
 ghost use Rattle.table_days.specs.Lent.{tableOf};
 ghost use Rattle.file_record.specs.Reader.{tableIn};
-ghost use Rattle.file_baseline.specs.Bytewise.{FileAnswers};
-ghost use Rattle.file_baseline.specs.Entry.{fileReply};
+ghost use Rattle.file_baseline.specs.Output.{FileAnswers};
+ghost use Rattle.file_baseline.specs.Reply.{fileReply};
 ghost use Rattle.file_baseline.specs.Steps.{LaidDown, Fits};
 use base_numbers::sizes;
 use engine_answer::Answer;
@@ -46,7 +46,7 @@ fn through_numbers(
 }
 
 // The baseline over a table, with the numerators as bytes.
-pub fn table_baseline(
+pub fn baseline_in_bytes(
     first: u32,
     marks: &[u8],
     readings: &[u32],
@@ -83,7 +83,7 @@ fn loaded_baseline(
     if file_loading::load_within(file, shape, marks, readings) {
         let days = shape.days as usize;
         let count = day_ruler::offset(shape.first, shape.days);
-        table_baseline(
+        baseline_in_bytes(
             shape.first,
             &marks[..days],
             &readings[..count],

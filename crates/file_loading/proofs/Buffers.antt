@@ -7,7 +7,7 @@ use lib.ListN.{length, take, drop}
 use lib.Seq.{take-at}
 use Rattle.method.specs.Table.{offset}
 use Rattle.file_record.specs.declared.Shape.{Shape}
-use Rattle.file_record.specs.Reader.{tableWithin}
+use Rattle.file_record.specs.Steps.{tableWithin}
 use Rattle.file_loading.specs.Steps.{filledIf}
 use Rattle.file_loading.proofs.Loading.{marks-within, readings-within}
 

@@ -14,7 +14,8 @@ use mathlib.Core.Bool.{true, _&&_}
 use Rattle.file_record.specs.declared.Shape.{Shape}
 use Rattle.file_record.specs.declared.Read.the-variants.{File}
 use Rattle.method.specs.Table.{size, offset}
-use Rattle.file_record.specs.Reader.{numberAt, dyLength, shapeBase, dayStart, marksFrom, numbers, readingsFrom, tableWithin, readFile}
+use Rattle.file_record.specs.Reader.{numberAt, dyLength, shapeBase, dayStart, marksFrom, numbers, readingsFrom, readFile}
+use Rattle.file_record.specs.Steps.{tableWithin}
 use Rattle.file_loading.specs.Steps.{fitsWithin}
 use Rattle.file_record.proofs.Numbers.{number-drop, number-four}
 use Rattle.method.proofs.Tables.{offset-add, offset-suc}

@@ -6,7 +6,8 @@ use lib.ListN.{length, drop}
 use lib.Dec.{leb}
 use Rattle.method.specs.Table.{heldDays}
 use Rattle.file_record.specs.declared.Shape.{Shape}
-use Rattle.file_record.specs.Reader.{shapeBase, dayStart, tableWithin}
+use Rattle.file_record.specs.Reader.{shapeBase, dayStart}
+use Rattle.file_record.specs.Steps.{tableWithin}
 
 -- the bytes reach to the end of its days, and the buffers have room for its table
 unfoldable pub fitsWithin : Shape → List ℕ → ℕ → ℕ → Bool

@@ -12,7 +12,8 @@ use Rattle.method.specs.declared.Request.{Request}
 use Rattle.file_record.specs.declared.Shape.{Shape}
 use Rattle.file_record.specs.declared.Read.the-variants.{File, Refused}
 use Rattle.file_record.specs.declared.EventAt.the-variants.{Event as AnEvent, NoEvent, Refused as RefusedEvent}
-use Rattle.file_record.specs.Reader.{numberAt, evLength, shapeBase, dayStart, eventStart, shapeIn, readFile, eventOf, requestOf, requestAt, eventAtPlace, eventWithin}
+use Rattle.file_record.specs.Reader.{numberAt, evLength, shapeBase, dayStart, eventStart, shapeIn, readFile, eventOf, requestOf, requestAt, eventAtPlace}
+use Rattle.file_record.specs.Steps.{eventWithin}
 use Rattle.file_record.specs.Laws.{Accepted}
 use Rattle.file_record.proofs.Numbers.{number-drop}
 use Rattle.file_record.proofs.Starts.{base-is}

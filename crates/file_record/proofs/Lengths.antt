@@ -6,7 +6,8 @@ use lib.ListN.{length, drop, length-append}
 use Rattle.method.specs.Table.{offset}
 use Rattle.file_record.specs.declared.Shape.{Shape}
 use Rattle.file_record.specs.declared.Read.the-variants.{File}
-use Rattle.file_record.specs.Reader.{dyLength, marksFrom, numbers, readingsFrom, shapeIn, tableIn, tableWithin, readFile}
+use Rattle.file_record.specs.Reader.{dyLength, marksFrom, numbers, readingsFrom, shapeIn, tableIn, readFile}
+use Rattle.file_record.specs.Steps.{tableWithin}
 use Rattle.file_record.proofs.Starts.{base-is}
 use Rattle.file_record.proofs.Files.{shape-fits}
 

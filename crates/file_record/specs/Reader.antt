@@ -146,15 +146,6 @@ tableIn file =
       readings = readingsFrom (daysIn file) (firstIn file) (drop (fileBase file) file);
     }
 
--- the same for a shape that is known, whatever the bytes
-unfoldable pub tableWithin : Shape → List ℕ → Table
-tableWithin shape file =
-    record {
-      first = shape .first;
-      marks = marksFrom (shape .days) (shape .first) (drop (shapeBase shape) file);
-      readings = readingsFrom (shape .days) (shape .first) (drop (shapeBase shape) file);
-    }
-
 -- "mark, D 2, s, e, n one each"
 unfoldable pub eventOf : List ℕ → Event
 eventOf left = record { day = numberAt 2 2 left; s = getD left 4 0; e = getD left 5 0; n = getD left 6 0 }
@@ -195,9 +186,3 @@ requestAt file place = requestOf (numberAt 2 2 file) (eventOf (drop (eventStart 
 abbrev pub eventAtPlace : Read → List ℕ → ℕ → EventAt
 eventAtPlace (File shape) file place = cond (ltb place (shape .events)) (AnEvent (requestAt file place)) NoEvent
 eventAtPlace (Refused at) file place = RefusedEvent at
-
--- the same for a shape that is known: no event, too, where the bytes end before it does
-unfoldable pub eventWithin : Shape → List ℕ → ℕ → EventAt
-eventWithin shape file place =
-    let at = dayStart (shapeBase shape) (shape .first) (shape .days) + evLength * place in
-    cond (ltb place (shape .events) && leb (at + evLength) (length file)) (AnEvent (requestOf (shape .participation) (eventOf (drop at file)))) NoEvent

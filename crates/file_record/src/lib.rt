@@ -3,7 +3,8 @@ ghost use mathlib.Core.Path.{_≡_};
 ghost use Prim.Native.Nat.{_+_, _*_, _≤_, _<_};
 ghost use lib.ListN.{length, drop, getD};
 ghost use Rattle.file_record.specs.Reader.{numberAt, opensWith, isRecord, pfLength, dyLength, isEV, evLength, isDYof, daysFrom, eventsFrom, fileBase, shapeBase, firstIn};
-ghost use Rattle.file_record.specs.Reader.{dayStart, readFile, eventOf, requestOf, eventAtPlace, eventWithin};
+ghost use Rattle.file_record.specs.Reader.{dayStart, readFile, eventOf, requestOf, eventAtPlace};
+ghost use Rattle.file_record.specs.Steps.{eventWithin};
 use method::Request;
 
 // What a whole file holds: P, the portfolio number, the first day, and how many days and events.

@@ -4,16 +4,16 @@ use mathlib.Core.Path.{_≡_}
 use mathlib.Core.List.{List}
 use lib.ListN.{length}
 use lib.IntN.{ℤ}
-use Rattle.base_bytes.specs.Told.{toldFirst}
+use Rattle.base_bytes.specs.PutFirst.{putFirst}
 use Rattle.method.specs.declared.Request.{Request}
 use Rattle.method.specs.Table.{mostQuarters}
 use Rattle.method.specs.Verdict.{Reply, written}
 use Rattle.engine_answer.specs.Answer.{answerOf}
-use Rattle.file_baseline.specs.Bytewise.{bytesWritten}
+use Rattle.file_baseline.specs.Output.{bytesWritten}
 use Rattle.listing_lines.specs.Listing.{listing}
 use Rattle.listing_whole.specs.Lists.{listedIn}
 use Rattle.host_telling.specs.Telling.{numberOf}
-use Rattle.host_telling.specs.Showing.{listedTold}
+use Rattle.host_telling.specs.OfFile.{listedTold}
 
 -- room for the numerators of any event, four bytes each
 abbrev pub mostBytes : ℕ
@@ -35,4 +35,4 @@ pub record TableCall (reply : Reply) (r : ℕ) (out out′ : List ℕ) : Type 0 
 -- the listing of a file: it stands first in the output where it fits, and the rest is kept; where it does not fit nothing changes
 pub record ListingCall (file : List ℕ) (r : ℤ) (out out′ : List ℕ) : Type 0 where
   pub result : r ≡ listedTold (listedIn file (length out))
-  pub output : out′ ≡ toldFirst (listing file) out
+  pub output : out′ ≡ putFirst (listing file) out

@@ -8,9 +8,9 @@ ghost use Rattle.table_days.specs.Lent.{tableOf};
 ghost use Rattle.table_days.specs.Part.{partPlace};
 ghost use Rattle.file_record.specs.Reader.{readFile, eventAtPlace};
 ghost use Rattle.engine_answer.specs.Answer.{answerOf};
-ghost use Rattle.file_baseline.specs.Entry.{fileReply};
+ghost use Rattle.file_baseline.specs.Reply.{fileReply};
 ghost use Rattle.host_telling.specs.Telling.{toldBy};
-ghost use Rattle.host_telling.specs.Showing.{fileTold, eventTold, placeTold};
+ghost use Rattle.host_telling.specs.OfFile.{fileTold, eventTold, placeTold};
 ghost use Rattle.host_entries.specs.Host.{mostBytes, requestOf, TableCall, FileCall, ListingCall};
 use method::Request;
 

@@ -5,7 +5,7 @@ use lib.IntN.{ℤ}
 use Rattle.file_record.specs.declared.Read.{Read}
 use Rattle.file_record.specs.declared.EventAt.{EventAt}
 use Rattle.host_telling.specs.Names.{byName}
-use Rattle.host_telling.specs.Showing.{fileRow, fileTold, eventRow, eventTold}
+use Rattle.host_telling.specs.OfFile.{fileRow, fileTold, eventRow, eventTold}
 
 pub of-read : {read read′ : Read} (name : ℕ) {x : ℤ} → read ≡ read′ → x ≡ byName (fileRow read′) name → x ≡ fileTold read name
 unfolding fileTold

@@ -1,3 +1,3 @@
 pub mod Names
 pub mod Telling
-pub mod Showing
+pub mod OfFile

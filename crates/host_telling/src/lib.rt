@@ -6,7 +6,7 @@ ghost use lib.ListN.{take};
 ghost use lib.IntN.{pos};
 ghost use Rattle.host_telling.specs.Names.{byName, refusalRow};
 ghost use Rattle.host_telling.specs.Telling.{numberOf, answerRow, toldBy};
-ghost use Rattle.host_telling.specs.Showing.{shapeRow, fileTold, requestRow, eventTold, placeTold, listedTold};
+ghost use Rattle.host_telling.specs.OfFile.{shapeRow, fileTold, requestRow, eventTold, placeTold, listedTold};
 use engine_answer::Answer;
 use engine_answer::Given;
 use file_record::EventAt;

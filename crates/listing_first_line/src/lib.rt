@@ -2,7 +2,8 @@
 ghost use Prim.Native.Nat.{_≤_};
 ghost use lib.ListN.{length};
 ghost use Rattle.listing_lines.specs.Lines.{lineText};
-ghost use Rattle.listing_lines.specs.Listing.{headerLine, refusedLine, openingLine};
+ghost use Rattle.listing_lines.specs.Listing.{headerLine, refusedLine};
+ghost use Rattle.listing_lines.specs.WriteSteps.{openingLine};
 ghost use Rattle.listing_lines.specs.WriteSteps.{Writes, PutsWithin};
 ghost use Rattle.listing_first_line.specs.Room.{openingRoom};
 use file_record::Read;

@@ -26,9 +26,10 @@ use Rattle.file_record.proofs.Files.{shape-fits, event-start-is}
 use Rattle.file_record.proofs.Limits.{says-what-fits}
 use Rattle.file_record.proofs.RefusedWhere.{refused-where}
 use Rattle.listing_lines.specs.Lines.{lineText}
-use Rattle.listing_lines.specs.Listing.{openingLine, repliedLines, eventText, eventTexts, eventsOf, listing}
+use Rattle.listing_lines.specs.Listing.{repliedLines, eventText, listing}
+use Rattle.listing_lines.specs.WriteSteps.{openingLine, eventTexts, eventsOf}
 use Rattle.listing_lines.proofs.Whole.{listing-is}
-use Rattle.listing_event_lines.specs.Room.{linesRoom}
+use Rattle.listing_event.specs.Room.{linesRoom}
 use Rattle.listing_whole.specs.Lists.{mostListing}
 use Rattle.listing_length.specs.Most.{Most}
 use Rattle.listing_length.proofs.Near.{verdict-near}

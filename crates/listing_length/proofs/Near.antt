@@ -30,7 +30,7 @@ use Rattle.method.specs.Rules.{methodBy}
 use Rattle.method.specs.Requested.{rulesOf, methodOf}
 use Rattle.method.specs.Verdict.{Answer, Reply, refused, answered, carries, tableRefusals, requestRefusals, closing, firstOf, methodology, verdict}
 use Rattle.method.proofs.LookBack.{lookBack-is}
-use Rattle.method.proofs.HighXofY.{relevant-lookBack}
+use Rattle.method.proofs.Requested.{relevant-lookBack}
 use Rattle.method.proofs.Sort.{all-sorted}
 use Rattle.engine_choice.proofs.Days.{all-keep, all-mapped}
 use Rattle.base_lists.proofs.Places.{length-places}

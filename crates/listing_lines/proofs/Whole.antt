@@ -8,7 +8,8 @@ use Rattle.file_record.specs.declared.Read.{Read}
 use Rattle.file_record.specs.declared.Read.the-variants.{File, Refused}
 use Rattle.file_record.specs.Reader.{readFile, tableIn, requestAt}
 use Rattle.listing_lines.specs.Lines.{Line, lineText, linesText}
-use Rattle.listing_lines.specs.Listing.{openingLine, repliedLines, eventText, linesFrom, listingLines, listing, eventsOf, eventTexts, longest}
+use Rattle.listing_lines.specs.Listing.{repliedLines, eventText, linesFrom, listingLines, listing, longest}
+use Rattle.listing_lines.specs.WriteSteps.{openingLine, eventsOf, eventTexts}
 use Rattle.listing_lines.proofs.Longest.{read-cut, file-most}
 
 lines-both : (a c : List Line) → linesText (a ++ c) ≡ linesText a ++ linesText c

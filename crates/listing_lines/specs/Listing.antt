@@ -70,10 +70,6 @@ unfoldable pub linesFrom : List ℕ → ℕ → ℕ → List Line
 linesFrom file zero place = []
 linesFrom file (suc count) place = repliedLines (tableIn file) (requestAt file place) ++ linesFrom file count (suc place)
 
-unfoldable pub openingLine : Read → Line
-openingLine (File shape) = headerLine shape
-openingLine (Refused at) = refusedLine at
-
 unfoldable pub listingLines : Read → List ℕ → List Line
 listingLines (File shape) file = headerLine shape ∷ linesFrom file (shape .events) 0
 listingLines (Refused at) file = refusedLine at ∷ []
@@ -81,16 +77,6 @@ listingLines (Refused at) file = refusedLine at ∷ []
 -- "The listing program reads a file on standard input.": what it prints
 unfoldable pub listing : List ℕ → List ℕ
 listing file = linesText (listingLines (readFile file) file)
-
--- how many events are listed
-abbrev pub eventsOf : Read → ℕ
-eventsOf (File shape) = shape .events
-eventsOf (Refused at) = 0
-
--- the texts of so many events of a file, from a place on
-unfoldable pub eventTexts : List ℕ → ℕ → ℕ → List ℕ
-eventTexts file zero place = []
-eventTexts file (suc count) place = eventText (tableIn file) (requestAt file place) ++ eventTexts file count (suc place)
 
 -- the longest file that is as laid down: the most before the days, 128 of the longest days, and 64 events
 abbrev pub longest : ℕ

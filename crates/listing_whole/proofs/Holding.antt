@@ -11,7 +11,8 @@ use Rattle.file_record.specs.declared.Shape.{Shape}
 use Rattle.file_record.specs.declared.Read.the-variants.{File}
 use Rattle.file_record.specs.declared.EventAt.{EventAt}
 use Rattle.file_record.specs.declared.EventAt.the-variants.{Event, NoEvent, Refused as RefusedEvent}
-use Rattle.file_record.specs.Reader.{readFile, tableIn, shapeIn, requestAt, eventWithin}
+use Rattle.file_record.specs.Reader.{readFile, tableIn, shapeIn, requestAt}
+use Rattle.file_record.specs.Steps.{eventWithin}
 use Rattle.file_record.proofs.Files.{shape-fits}
 use Rattle.file_record.proofs.Lengths.{table-within}
 use Rattle.file_record.proofs.Events.{within-is}

@@ -12,18 +12,19 @@ use borrow.Rule.Slice.PartMut.{midOf, putMid, mid-len}
 use Rattle.base_lists.proofs.Unique.{unique}
 use Rattle.base_text.specs.TextSteps.{put, Puts}
 use Rattle.base_text.proofs.Text.{put-whole}
-use Rattle.base_bytes.specs.Told.{toldFirst}
+use Rattle.base_bytes.specs.PutFirst.{putFirst}
 use Rattle.base_bytes.proofs.Told.{tells-none}
 use Rattle.file_record.specs.declared.Shape.{Shape}
 use Rattle.file_record.specs.declared.Read.the-variants.{File, Refused}
 use Rattle.file_record.specs.Reader.{readFile, tableIn, requestAt}
 use Rattle.listing_lines.specs.Lines.{lineText}
-use Rattle.listing_lines.specs.Listing.{openingLine, eventText, eventTexts, listing}
+use Rattle.listing_lines.specs.Listing.{eventText, listing}
+use Rattle.listing_lines.specs.WriteSteps.{openingLine, eventTexts}
 use Rattle.listing_lines.specs.WriteSteps.{Writes, PutsWithin}
 use Rattle.listing_lines.proofs.Writing.{Writing, writing-next, writing-end, in-part, whole, then, same-length}
 use Rattle.listing_lines.proofs.Whole.{listing-is}
 use Rattle.listing_first_line.specs.Room.{openingRoom}
-use Rattle.listing_event_lines.specs.Room.{linesRoom}
+use Rattle.listing_event.specs.Room.{linesRoom}
 use Rattle.listing_whole.specs.declared.Listed.{Listed}
 use Rattle.listing_whole.specs.declared.Listed.the-variants.{Length, DoesNotFit}
 use Rattle.listing_whole.specs.Lists.{Lists}
@@ -57,8 +58,8 @@ module _ (file : List ℕ) {d : List ℕ} {next : ℕ} {e : List ℕ} (room : op
   refusal-listed refused p = rw (listing-is file, refused, append-nil) (whole room p)
 
 -- ---- told into a buffer
-put-first : (d t : List ℕ) → put d 0 t ≡ toldFirst t d
-unfolding put toldFirst
+put-first : (d t : List ℕ) → put d 0 t ≡ putFirst t d
+unfolding put putFirst
 put-first d t = rw zero-add
 
 module _ (file out : List ℕ) where

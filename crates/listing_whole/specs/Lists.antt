@@ -5,10 +5,10 @@ use mathlib.Core.Bool.{cond}
 use mathlib.Core.List.{List}
 use lib.ListN.{length}
 use lib.Dec.{leb}
-use Rattle.base_bytes.specs.Told.{toldFirst}
+use Rattle.base_bytes.specs.PutFirst.{putFirst}
 use Rattle.listing_lines.specs.Listing.{listing}
 use Rattle.listing_first_line.specs.Room.{openingRoom}
-use Rattle.listing_event_lines.specs.Room.{linesRoom}
+use Rattle.listing_event.specs.Room.{linesRoom}
 use Rattle.listing_whole.specs.declared.Listed.{Listed}
 use Rattle.listing_whole.specs.declared.Listed.the-variants.{Length, DoesNotFit}
 
@@ -23,4 +23,4 @@ listedIn file size = cond (leb (length (listing file)) size) (Length (length (li
 -- the listing stands first in the buffer where it fits, and the rest is kept; where it does not fit nothing changes
 pub record Lists (file out : List ℕ) (r : Listed) (out′ : List ℕ) : Type 0 where
   pub result : r ≡ listedIn file (length out)
-  pub output : out′ ≡ toldFirst (listing file) out
+  pub output : out′ ≡ putFirst (listing file) out

@@ -4,9 +4,10 @@ ghost use Prim.Native.Nat.{_+_, _*_, _≤_, _<_};
 ghost use lib.ListN.{length};
 ghost use Rattle.file_record.specs.Reader.{readFile, tableIn, requestAt};
 ghost use Rattle.file_record.specs.declared.Read.the-variants.{File};
-ghost use Rattle.listing_lines.specs.Listing.{listing, eventText, eventTexts};
+ghost use Rattle.listing_lines.specs.Listing.{listing, eventText};
+ghost use Rattle.listing_lines.specs.WriteSteps.{eventTexts};
 ghost use Rattle.listing_lines.specs.WriteSteps.{Writes, PutsWithin};
-ghost use Rattle.listing_event_lines.specs.Room.{linesRoom};
+ghost use Rattle.listing_event.specs.Room.{linesRoom};
 ghost use Rattle.listing_whole.specs.Steps.{Holds};
 ghost use Rattle.listing_whole.specs.Lists.{mostListing, Lists};
 use file_record::EventAt;
@@ -36,13 +37,7 @@ fn put_event(
     ensures { λ r. ⌜ PutsWithin linesRoom (now (out .entry)) 0 (eventText (tableIn (now (file .entry))) (requestAt (now (file .entry)) place)) r (now (out .exit)) ⌝ }
 {
     match file_record::event_within(file, shape, place) {
-        EventAt::Event(request) => listing_event_lines::event(
-            shape.first,
-            marks,
-            readings,
-            request,
-            out,
-        ),
+        EventAt::Event(request) => listing_event::event(shape.first, marks, readings, request, out),
         EventAt::NoEvent => 0,
         EventAt::Refused(_) => 0,
     }

@@ -6,7 +6,7 @@ use native.Mathlib.Omega.{arith}
 use lib.ListN.{getD}
 use Rattle.method.specs.Table.{Table, heldDays, dayOf, held, history}
 use Rattle.method.specs.Verdict.{wellFormed}
-use Rattle.method.specs.Demands.{LongerFormed}
+use Rattle.method.specs.CutTables.{LongerFormed}
 use Rattle.method.specs.AnotherOrder.{AnotherOrder, lastSaturday, saturdays}
 use Rattle.method.proofs.Histories.{held-first, held-last}
 use Rattle.method.proofs.Checks.{definitions}

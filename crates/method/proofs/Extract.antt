@@ -16,13 +16,13 @@ use Rattle.method.specs.Method.{reach, wholeReach}
 use Rattle.method.specs.Rules.{methodBy}
 use Rattle.method.specs.Requested.{methodOf}
 use Rattle.method.specs.Verdict.{refused, tableRefusals, firstOf, methodology, verdict, wellFormed}
-use Rattle.method.specs.Demands.{LongerFormed, CutFrom, heldBefore, cutTo, Undecided, Parted, isMargin, isSettled, reported, NoneEarlier}
+use Rattle.method.specs.CutTables.{LongerFormed, CutFrom, heldBefore, cutTo, Undecided, Parted, isMargin, isSettled, reported, NoneEarlier}
 use Rattle.method.proofs.Tables.{formed-is, cut-part, cut-before}
 use Rattle.method.proofs.Reach.{reach-held}
-use Rattle.method.proofs.HighXofY.{lawful}
+use Rattle.method.proofs.Requested.{lawful}
 use Rattle.method.proofs.Replies.{margin-is}
 use Rattle.method.proofs.Settled.{settled-margin, settled-early, settled-reach}
-use Rattle.method.proofs.Demand3.{demand3}
+use Rattle.method.proofs.CutTables.{demand3}
 
 -- of a well-formed extract the verdict is the methodology's reply
 pub verdict-is : (group : ℕ → Group) (t : Table) (r : Request) (room : ℕ) → isExtract t ≡ true → wellFormed t ≡ true

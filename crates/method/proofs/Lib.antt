@@ -12,13 +12,13 @@ pub mod Reach
 pub mod Apart
 pub mod Before
 pub mod Sort
-pub mod HighXofY
+pub mod Requested
 pub mod Tables
 pub mod Ruler
 pub mod Replies
 pub mod Settled
 pub mod Undecided
-pub mod Demand3
+pub mod CutTables
 pub mod Extract
 pub mod NoPart
 pub mod InRange

@@ -24,9 +24,9 @@ use Rattle.method.specs.Requested.{rulesOf, methodOf}
 use Rattle.method.specs.Ruler.{rulerStart}
 use Rattle.method.proofs.Ruler.{start-size, window-before}
 use Rattle.method.specs.Verdict.{closing, goodRequest, requestRefusals, methodology, verdict, wellFormed}
-use Rattle.method.specs.Demands.{NoneEarlier}
+use Rattle.method.specs.CutTables.{NoneEarlier}
 use Rattle.method.proofs.Before.{before-same}
-use Rattle.method.proofs.HighXofY.{lawful}
+use Rattle.method.proofs.Requested.{lawful}
 use Rattle.method.proofs.Tables.{day-size}
 use Rattle.method.proofs.Replies.{earlier-cases, plain, hidden-same, same-refusals}
 use Rattle.method.proofs.Extract.{verdict-is}

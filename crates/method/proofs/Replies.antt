@@ -19,7 +19,7 @@ use Rattle.method.specs.Method.{Method, short, few, chose, daysOf, windo
 use Rattle.method.specs.Adjustment.{Baseline}
 use Rattle.method.specs.Requested.{methodOf}
 use Rattle.method.specs.Verdict.{Reply, refused, requestRefusals, closing, firstOf, methodology}
-use Rattle.method.specs.Demands.{isMargin, NoneEarlier}
+use Rattle.method.specs.CutTables.{isMargin, NoneEarlier}
 
 abbrev pub test : Bool × Refusal → Bool
 test p = p .0

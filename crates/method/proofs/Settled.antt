@@ -16,7 +16,7 @@ use Rattle.method.specs.Method.{Method, short, few, chose, daysOf, windo
 use Rattle.method.specs.Adjustment.{Baseline}
 use Rattle.method.specs.Requested.{methodOf}
 use Rattle.method.specs.Verdict.{Reply, refused, answered, number, requestRefusals, closing, methodology}
-use Rattle.method.specs.Demands.{isMargin, isSettled, reported, NoneEarlier}
+use Rattle.method.specs.CutTables.{isMargin, isSettled, reported, NoneEarlier}
 use Rattle.method.proofs.Replies.{earlier-cases, plain, hidden-other}
 
 pub settled-margin : (reply : Reply) → isSettled reply ≡ true → isMargin reply ≡ false

@@ -17,7 +17,7 @@ use Rattle.calendar_dates.specs.Days.{lastDay}
 use Rattle.method.specs.declared.Request.{Request}
 use Rattle.method.specs.Table.{Table, heldDays, size, mostQuarters, offset, dayOf, goodMark, goodReading, held, history, shaped}
 use Rattle.method.specs.Verdict.{wellFormed}
-use Rattle.method.specs.Demands.{Longer, CutFrom, heldBefore, without, cutTo}
+use Rattle.method.specs.CutTables.{Longer, CutFrom, heldBefore, without, cutTo}
 use Rattle.method.proofs.Histories.{Extends, held-first, held-last, is-held}
 
 -- the readings before the (k + j)-th day: those of `k` days, and those of the `j` days after them

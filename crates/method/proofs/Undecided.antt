@@ -15,10 +15,10 @@ use Rattle.method.specs.Eligible.{complete, eligible, spare}
 use Rattle.method.specs.Rules.{methodBy}
 use Rattle.method.specs.Requested.{methodOf}
 use Rattle.method.specs.Verdict.{wellFormed}
-use Rattle.method.specs.Demands.{LongerFormed, windowDays, Parted}
+use Rattle.method.specs.CutTables.{LongerFormed, windowDays, Parted}
 use Rattle.method.proofs.Short.{short-day}
 use Rattle.method.proofs.Apart.{apart}
-use Rattle.method.proofs.HighXofY.{lawful}
+use Rattle.method.proofs.Requested.{lawful}
 use Rattle.method.proofs.Tables.{longer-extends, padded, padded-days, padded-longer, padded-formed, padded-mark, padded-readings}
 
 -- a day put before a table is eligible under mark 0, and neither eligible nor spare under mark 2

@@ -7,7 +7,7 @@ use Rattle.calendar_groups.specs.Holidays.{group}
 use Rattle.method.specs.declared.Refusal.the-variants.{MarginTooShort}
 use Rattle.method.specs.Table.{Table}
 use Rattle.method.specs.Verdict.{refused, verdict}
-use Rattle.method.specs.Demands.{LongerFormed, windowDays, Undecided}
+use Rattle.method.specs.CutTables.{LongerFormed, windowDays, Undecided}
 use Rattle.method.specs.Checks.{_January_, _February_, at15, marked}
 
 -- Saturday 2 February 2019 (day 6972) alone

@@ -17,7 +17,7 @@ use Rattle.method.specs.Adjustment.{S, adjustment, unfloored, floored, r
 use Rattle.method.specs.Eligible.{higher, sortBy, eventSum}
 use Rattle.method.specs.Requested.{methodOf}
 use Rattle.method.specs.Verdict.{refused, answered, verdict}
-use Rattle.method.specs.Demands.{windowDays}
+use Rattle.method.specs.CutTables.{windowDays}
 
 -- dates as dates: `28 August 2024` is day 9006
 infix 80 _January_ _February_ _April_ _May_ _July_ _August_

@@ -16,7 +16,7 @@ use Rattle.method.specs.Method.{chosen, daysOf}
 use Rattle.method.specs.Adjustment.{adjustmentEnd, S, A, B, rounded}
 use Rattle.method.specs.Requested.{methodOf}
 use Rattle.method.specs.Verdict.{Reply, refused, answered, number, carries, goodRequest, verdict, written}
-use Rattle.method.specs.Demands.{windowDays}
+use Rattle.method.specs.CutTables.{windowDays}
 use Rattle.method.specs.Checks.{_January_, _February_, _April_, _May_, _August_, at15, marked}
 use Rattle.base_lists.specs.Lists.{places}
 

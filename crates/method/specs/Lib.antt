@@ -9,7 +9,7 @@ pub mod HighXofY
 pub mod Requested
 pub mod Verdict
 pub mod Lawful
-pub mod Demands
+pub mod CutTables
 pub mod Checks
 pub mod Edges
 pub mod AnotherOrder

@@ -10,7 +10,7 @@ use mir.Syntax.{w8}
 use mir.Val.{Fits}
 use borrow.Author.Tests.{le-leb}
 use Rattle.base_lists.proofs.Bools.{lt-or-le}
-use Rattle.base_bytes.specs.Told.{toldFirst}
+use Rattle.base_bytes.specs.PutFirst.{putFirst}
 use Rattle.file_record.proofs.Bytes.{below-take}
 use Rattle.listing_lines.specs.Listing.{listing, longest}
 use Rattle.listing_lines.proofs.Whole.{listing-cut}
@@ -44,7 +44,7 @@ module _ (bytes : List ℕ) (count : ℕ) (within : count ≤ length bytes) (eno
     found = rw (le-leb (length (listing (take count bytes))) (length before) fits) at (q .result)
 
     pub printed : {size : ℕ} → r ≡ Length size → Prints bytes count size after
-    unfolding toldFirst
+    unfolding putFirst
     printed {size} e =
         let text = listing (take count bytes) in
         let long : length text ≡ size = cc (found) in

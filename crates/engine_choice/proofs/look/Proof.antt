@@ -5,7 +5,7 @@ use native.Mathlib.Omega.{arith}
 use borrow.Author.Needs.{needs}
 use lib.ListN.{getD}
 use Rattle.calendar_groups.specs.Holidays.{group as groupOf}
-use Rattle.engine_judging.specs.Steps.{room}
+use Rattle.engine_judging.specs.Steps.{dayFrom}
 use Rattle.engine_choice.specs.Steps.{roomsOf}
 use Rattle.engine_choice.proofs.Judging.{room-back, part-most}
 use Rattle.engine_choice.proofs.Looking.{Back, back-start, back-further, back-more, back-full, back-end}
@@ -69,7 +69,7 @@ loop-again c =
     let s = c .before .before .before .before .before .before .before .before .before .before .before .before in
     let a = s .args in
     let l = c .before .before .before .before .before .before .before .before .before .before .loop in
-    let part = ap (room (getD (a .t4 .marks) (l .back + 1) 0)) (rw (c .before .before .before .before .size .ensures) at (c .before .before .readings-at .ensures .list)) in
+    let part = ap (dayFrom (getD (a .t4 .marks) (l .back + 1) 0)) (rw (c .before .before .before .before .size .ensures) at (c .before .before .readings-at .ensures .list)) in
     let here = room-back (a .request) (a .t4) (a .readings .now) (l .back + 1) (omega (arith, c .before .before .before .before .before .before .before .before .before .loop-test .taken, s .pre .2)) in
     back-more (l .inv) (c .before .before .before .before .before .before .before .before .before .loop-test .taken) (s .pre .2) (c .before .before .before .before .before .before .if1 .left) (rw (part ∙ here) at (c .with-day .ensures))
 

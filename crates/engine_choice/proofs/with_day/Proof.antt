@@ -6,7 +6,7 @@ use borrow.Author.Needs.{needs}
 use Rattle.calendar_groups.specs.Holidays.{group as groupOf}
 use Rattle.method.specs.Table.{Day}
 use Rattle.engine_relevant.proofs.Relevance.{relevant-to}
-use Rattle.engine_judging.specs.Steps.{room}
+use Rattle.engine_judging.specs.Steps.{dayFrom}
 use Rattle.engine_choice.proofs.Judging.{same-judged}
 use Rattle.engine_choice.proofs.Looking.{adds-none, adds-eligible, adds-spare, adds-neither}
 use Rattle.engine_choice.proofs.with_day.Statement.{statement}
@@ -46,7 +46,7 @@ returns : tie.Need-returns
 returns c =
     let s = c .before .before .before .before .before .before .before .before .before .before .before .before in
     let a = s .args in
-    let p : ℕ × Day = (a .request .event - a .back, room (a .mark) (a .part .now)) in
+    let p : ℕ × Day = (a .request .event - a .back, dayFrom (a .mark) (a .part .now)) in
     let own = relevant-to groupOf _ (a .request) (p .0) (s .pre .0) in
     let sure = sym own ∙ sym (c .before .before .before .before .before .before .before .before .before .relevant .ensures) ∙ c .before .before .before .before .before .before .before .before .if1 .taken in
     let next = s .pre .1 in
@@ -57,7 +57,7 @@ returns-2 : tie.Need-returns-2
 returns-2 c =
     let s = c .before .before .before .before .before .before .before .before .before .before .before .before in
     let a = s .args in
-    let p : ℕ × Day = (a .request .event - a .back, room (a .mark) (a .part .now)) in
+    let p : ℕ × Day = (a .request .event - a .back, dayFrom (a .mark) (a .part .now)) in
     let own = relevant-to groupOf _ (a .request) (p .0) (s .pre .0) in
     let sure = sym own ∙ sym (c .before .before .before .before .before .before .before .before .before .relevant .ensures) ∙ c .before .before .before .before .before .before .before .before .if1 .taken in
     let next = s .pre .1 in
@@ -68,7 +68,7 @@ returns-3 : tie.Need-returns-3
 returns-3 c =
     let s = c .before .before .before .before .before .before .before .before .before in
     let a = s .args in
-    let p : ℕ × Day = (a .request .event - a .back, room (a .mark) (a .part .now)) in
+    let p : ℕ × Day = (a .request .event - a .back, dayFrom (a .mark) (a .part .now)) in
     let own = relevant-to groupOf _ (a .request) (p .0) (s .pre .0) in
     let sure = sym own ∙ sym (c .before .before .before .before .before .before .relevant .ensures) ∙ c .before .before .before .before .before .if1 .taken in
     let next = s .pre .1 in
@@ -79,7 +79,7 @@ returns-4 : tie.Need-returns-4
 returns-4 c =
     let s = c .before .before .before .before in
     let a = s .args in
-    let p : ℕ × Day = (a .request .event - a .back, room (a .mark) (a .part .now)) in
+    let p : ℕ × Day = (a .request .event - a .back, dayFrom (a .mark) (a .part .now)) in
     let own = relevant-to groupOf _ (a .request) (p .0) (s .pre .0) in
     adds-none groupOf p (s .pre .1) refl (sym own ∙ sym (c .before .relevant .ensures) ∙ c .if1 .left)
 

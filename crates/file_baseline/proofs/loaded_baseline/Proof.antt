@@ -25,20 +25,20 @@ cast-days c = search needs
 offset-requires : tie.Need-offset-requires
 offset-requires c κs = search needs
 
-slice-reshare-prefix-table-baseline : tie.Need-slice-reshare-prefix-table-baseline
-slice-reshare-prefix-table-baseline c = search needs
+slice-reshare-prefix-baseline-in-bytes : tie.Need-slice-reshare-prefix-baseline-in-bytes
+slice-reshare-prefix-baseline-in-bytes c = search needs
 
-slice-aggregate-table-baseline : tie.Need-slice-aggregate-table-baseline
-slice-aggregate-table-baseline c = sym (its (c .before) .marks-size)
+slice-aggregate-baseline-in-bytes : tie.Need-slice-aggregate-baseline-in-bytes
+slice-aggregate-baseline-in-bytes c = sym (its (c .before) .marks-size)
 
-slice-reshare-prefix-table-baseline-2 : tie.Need-slice-reshare-prefix-table-baseline-2
-slice-reshare-prefix-table-baseline-2 c = search needs
+slice-reshare-prefix-baseline-in-bytes-2 : tie.Need-slice-reshare-prefix-baseline-in-bytes-2
+slice-reshare-prefix-baseline-in-bytes-2 c = search needs
 
-slice-aggregate-table-baseline-2 : tie.Need-slice-aggregate-table-baseline-2
-slice-aggregate-table-baseline-2 c = sym (its (c .before .before) .readings-size)
+slice-aggregate-baseline-in-bytes-2 : tie.Need-slice-aggregate-baseline-in-bytes-2
+slice-aggregate-baseline-in-bytes-2 c = sym (its (c .before .before) .readings-size)
 
-table-baseline-requires : tie.Need-table-baseline-requires
-table-baseline-requires c κs = search needs
+baseline-in-bytes-requires : tie.Need-baseline-in-bytes-requires
+baseline-in-bytes-requires c κs = search needs
 
 refuse-requires : tie.Need-refuse-requires
 refuse-requires c κs = search needs
@@ -53,7 +53,7 @@ same-length-3 : tie.Need-same-length-3
 same-length-3 c = search needs
 
 returns : tie.Need-returns
-returns c = rw (its-table (c .before .before .before .before .before .before .before .before .before .before .before .before .before .before .before .before .before .before .before .before .pre .laid-down) (its (c .before .before .before .before .before .before))) at (c .before .before .table-baseline .ensures)
+returns c = rw (its-table (c .before .before .before .before .before .before .before .before .before .before .before .before .before .before .before .before .before .before .before .before .pre .laid-down) (its (c .before .before .before .before .before .before))) at (c .before .before .baseline-in-bytes .ensures)
 
 same-length-4 : tie.Need-same-length-4
 same-length-4 c = search needs
@@ -71,11 +71,11 @@ loaded-baseline-spec =
     load-within-requires
     cast-days
     offset-requires
-    slice-reshare-prefix-table-baseline
-    slice-aggregate-table-baseline
-    slice-reshare-prefix-table-baseline-2
-    slice-aggregate-table-baseline-2
-    table-baseline-requires
+    slice-reshare-prefix-baseline-in-bytes
+    slice-aggregate-baseline-in-bytes
+    slice-reshare-prefix-baseline-in-bytes-2
+    slice-aggregate-baseline-in-bytes-2
+    baseline-in-bytes-requires
     refuse-requires
     same-length
     same-length-2

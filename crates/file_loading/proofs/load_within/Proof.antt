@@ -1,7 +1,7 @@
 -- `file_loading::load_within` meets its contract: one law for each way out.
 use mathlib.Core.Path.{refl, sym, _∙_}
 use lib.ListN.{length}
-use Rattle.file_record.specs.Reader.{tableWithin}
+use Rattle.file_record.specs.Steps.{tableWithin}
 use Rattle.file_loading.proofs.Loading.{room-is, rest-kept, marks-within, readings-within, fits-is}
 use borrow.Author.Needs.{needs}
 use Rattle.file_loading.proofs.load_within.Statement.{statement}

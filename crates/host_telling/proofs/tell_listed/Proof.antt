@@ -2,7 +2,7 @@
 use mathlib.Core.Path.{sym, ap, _∙_}
 use borrow.Author.Needs.{needs}
 use Rattle.host_telling.proofs.Telling.{back}
-use Rattle.host_telling.specs.Showing.{listedTold}
+use Rattle.host_telling.specs.OfFile.{listedTold}
 use Rattle.host_telling.proofs.tell_listed.Statement.{statement}
 use Rattle.host_telling.proofs.tell_listed.Tie as tie
 

@@ -2,7 +2,7 @@
 use mathlib.Core.Path.{sym, ap, _∙_}
 use borrow.Author.Needs.{needs}
 use Rattle.host_telling.proofs.Telling.{back}
-use Rattle.host_telling.specs.Showing.{placeTold}
+use Rattle.host_telling.specs.OfFile.{placeTold}
 use Rattle.host_telling.proofs.tell_place.Statement.{statement}
 use Rattle.host_telling.proofs.tell_place.Tie as tie
 

@@ -3,7 +3,7 @@ use native.Mathlib.Omega.{arith}
 use borrow.Author.Needs.{needs}
 use Rattle.host_telling.specs.Names.{byName, rowFrom}
 use Rattle.host_telling.proofs.Telling.{back, no-name}
-use Rattle.host_telling.specs.Showing.{requestRow}
+use Rattle.host_telling.specs.OfFile.{requestRow}
 use Rattle.host_telling.proofs.tell_request.Statement.{statement}
 use Rattle.host_telling.proofs.tell_request.Tie as tie
 

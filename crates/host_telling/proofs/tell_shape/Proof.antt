@@ -3,7 +3,7 @@ use native.Mathlib.Omega.{arith}
 use borrow.Author.Needs.{needs}
 use Rattle.host_telling.specs.Names.{byName, rowFrom}
 use Rattle.host_telling.proofs.Telling.{back, no-name}
-use Rattle.host_telling.specs.Showing.{shapeRow}
+use Rattle.host_telling.specs.OfFile.{shapeRow}
 use Rattle.host_telling.proofs.tell_shape.Statement.{statement}
 use Rattle.host_telling.proofs.tell_shape.Tie as tie
 

@@ -1,6 +1,6 @@
 -- `listing_first_line::opening` meets its contract: too little room, a header, or a refused file.
 use borrow.Author.Needs.{needs}
-use Rattle.listing_lines.specs.Listing.{openingLine}
+use Rattle.listing_lines.specs.WriteSteps.{openingLine}
 use Rattle.listing_lines.proofs.Writing.{no-room, with-room}
 use Rattle.listing_first_line.proofs.opening.Statement.{statement}
 use Rattle.listing_first_line.proofs.opening.Tie as tie

@@ -5,9 +5,9 @@ use native.Mathlib.Omega.{arith}
 use native.Mathlib.Nat.{sub-zero}
 use lib.ListN.{length}
 use borrow.Author.Needs.{needs}
-use Rattle.listing_lines.specs.Listing.{eventTexts}
+use Rattle.listing_lines.specs.WriteSteps.{eventTexts}
 use Rattle.listing_lines.proofs.Writing.{Writing, writing-begin, same-length as still-as-long}
-use Rattle.listing_event_lines.specs.Room.{linesRoom}
+use Rattle.listing_event.specs.Room.{linesRoom}
 use Rattle.listing_whole.proofs.Whole.{events-next, events-end}
 use Rattle.listing_whole.proofs.put_events.Statement.{statement}
 use Rattle.listing_whole.proofs.put_events.Tie as tie

@@ -1,0 +1,26 @@
+-- What a file of a known shape holds, whatever its bytes.
+use Prim.Native.Nat.{ℕ, _+_, _*_}
+use mathlib.Core.Bool.{cond, _&&_}
+use mathlib.Core.List.{List}
+use lib.ListN.{length, drop}
+use lib.Dec.{leb, ltb}
+use Rattle.method.specs.Table.{Table}
+use Rattle.file_record.specs.declared.Shape.{Shape}
+use Rattle.file_record.specs.declared.EventAt.{EventAt}
+use Rattle.file_record.specs.declared.EventAt.the-variants.{Event as AnEvent, NoEvent}
+use Rattle.file_record.specs.Reader.{dayStart, evLength, eventOf, marksFrom, readingsFrom, requestOf, shapeBase}
+
+-- the extract that a file of this shape holds
+unfoldable pub tableWithin : Shape → List ℕ → Table
+tableWithin shape file =
+    record {
+      first = shape .first;
+      marks = marksFrom (shape .days) (shape .first) (drop (shapeBase shape) file);
+      readings = readingsFrom (shape .days) (shape .first) (drop (shapeBase shape) file);
+    }
+
+-- the event at a place of it: none, too, where the bytes end before it does
+unfoldable pub eventWithin : Shape → List ℕ → ℕ → EventAt
+eventWithin shape file place =
+    let at = dayStart (shapeBase shape) (shape .first) (shape .days) + evLength * place in
+    cond (ltb place (shape .events) && leb (at + evLength) (length file)) (AnEvent (requestOf (shape .participation) (eventOf (drop at file)))) NoEvent
