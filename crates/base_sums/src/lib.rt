@@ -1,4 +1,4 @@
-// Sums of lent readings. Total functions over slices of any length and any values.
+// Sums of lent numbers. Total functions over slices of any length and any values.
 ghost use mathlib.Core.Path.{_≡_};
 ghost use Prim.Native.Nat.{_-_};
 ghost use lib.ListN.{take, drop};
