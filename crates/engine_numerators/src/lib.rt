@@ -49,7 +49,7 @@ fn add_day(sums: &mut [u32], day: &[u32], start: usize)
 }
 
 // The sums over the first days, at most five and each of `size` readings, of the quarters from `start` on.
-pub fn sum_days(
+fn sum_days(
     readings: &[u32],
     at: [u32; 5],
     count: usize,

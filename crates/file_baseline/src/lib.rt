@@ -46,7 +46,7 @@ fn through_numbers(
 }
 
 // The baseline over a table, with the numerators as bytes.
-pub fn baseline_in_bytes(
+fn baseline_in_bytes(
     first: u32,
     marks: &[u8],
     readings: &[u32],

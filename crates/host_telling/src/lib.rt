@@ -34,7 +34,7 @@ pub fn number_of(given: Given) -> u32
 }
 
 // A number as a signed one.
-pub fn signed(x: u32) -> i64
+fn signed(x: u32) -> i64
     ensures { λ r. ⌜ r ≡ pos x ⌝ }
 {
     x as i64
@@ -54,7 +54,7 @@ fn number_at(numbers: &[u32], count: usize, place: usize) -> i64
 }
 
 // Of a refusal: its number under the name 0, and what it carries under 1 and 2.
-pub fn tell_refusal(refusal: Refusal, name: u32) -> i64
+fn tell_refusal(refusal: Refusal, name: u32) -> i64
     ensures { λ r. ⌜ r ≡ byName (refusalRow refusal) name ⌝ }
 {
     let told = engine_answer::tell(refusal);

@@ -34,7 +34,7 @@ pub fn is_extract(first: u32, marks: &[u8], readings: &[u32]) -> bool
 }
 
 // Whether the table holds a day, whatever its readings.
-pub fn is_held(first: u32, marks: &[u8], day: u32) -> bool
+fn is_held(first: u32, marks: &[u8], day: u32) -> bool
     ensures { λ r. ⌜ ((readings : List ℕ) → r ≡ held (history (tableOf first (now (marks .entry)) readings)) day) ⌝ }
 {
     if first <= day {
