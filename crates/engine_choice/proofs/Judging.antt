@@ -12,7 +12,7 @@ use Rattle.method.specs.declared.Request.{Request}
 use Rattle.method.specs.Table.{size, mostQuarters, missing}
 use Rattle.method.specs.Ruler.{against}
 use Rattle.method.specs.Eligible.{eventSum}
-use Rattle.method.proofs.Tables.{size-is}
+use Rattle.method.proofs.Tables.{size-most}
 use Rattle.engine_ranking.specs.Steps.{word}
 use Rattle.engine_rooms.specs.declared.Directory.{Directory}
 use Rattle.engine_rooms.specs.Rooms.{readingsAt, roomDay}
@@ -28,7 +28,7 @@ room-back r rooms readings back h = let e : r .event - (r .event - back) ≡ bac
 
 -- it has no more readings than a day
 pub part-most : (readings : List ℕ) (at d : ℕ) {k : ℕ} → k ≡ size d → length (readingsAt k readings at) ≤ mostQuarters
-part-most readings at d {k} e = omega (arith, part-few k readings at, size-is d)
+part-most readings at d {k} e = omega (arith, part-few k readings at, size-most d)
 
 module _ (r : Request) (back mark : ℕ) (part : List ℕ) (some : 1 ≤ back) (most : back ≤ 45) (within : back ≤ r .event) (few : length part ≤ mostQuarters)
     (small : (i : ℕ) → getD part i 0 < 2 ^ 32) where

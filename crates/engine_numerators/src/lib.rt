@@ -49,14 +49,7 @@ fn add_day(sums: &mut [u32], day: &[u32], start: usize)
 }
 
 // The sums over the first days, at most five and each of `size` readings, of the quarters from `start` on.
-fn sum_days(
-    readings: &[u32],
-    at: [u32; 5],
-    count: usize,
-    size: u32,
-    start: usize,
-    sums: &mut [u32],
-)
+fn sum_days(readings: &[u32], at: [u32; 5], count: usize, size: u32, start: usize, sums: &mut [u32])
     ensures { λ _. ⌜ now (sums .exit) ≡ map (λ q. quarterSum size (now (readings .entry)) (take (min count 5) at) (start + q) % 2 ^ 32) (places (length (now (sums .entry))) 0) ⌝ }
 {
     clear(sums);

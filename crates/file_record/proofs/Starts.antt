@@ -1,4 +1,4 @@
--- Where the days of a file start: one more, the first apart, and bounds. Only `day-start-is` says what a DY holds beside its readings.
+-- Where the days of a file start: one more, the first apart, and bounds.
 use Prim.Native.Nat.{ℕ, zero, suc, _+_, _-_, _*_, _<_, _≤_}
 use mathlib.Core.Path.{_≡_, refl}
 use mathlib.Core.List.{List}
@@ -32,7 +32,7 @@ module _ (base first : ℕ) where
           rw e (omega (arith, later j k, day-start-more (k + j)))
 
   -- for code
-  pub day-start-is : (k : ℕ) → dayStart base first k ≡ base + 6 * k + 4 * offset first k
+  pub day-start-is : (k : ℕ) → dayStart base first k ≡ base + dyBytes 0 * k + 4 * offset first k
   unfolding dayStart offset
   day-start-is zero = omega arith
   day-start-is (suc k) = omega (arith, day-start-is k, rw (add-one k) at (offset-suc first k))

@@ -36,6 +36,9 @@ const EV_LENGTH: usize = 8;
 
 pub const BEFORE_READINGS: usize = 6;
 
+// The bytes of a DY that are not readings.
+const BESIDE_READINGS: usize = 6;
+
 const MOST_DAYS: u32 = 128;
 
 const MOST_EVENTS: u32 = 64;
@@ -44,14 +47,14 @@ const MOST_EVENTS: u32 = 64;
 fn day_length(day: u32) -> usize
     ensures { λ r. ⌜ r ≡ dyLength day ⌝ }
 {
-    BEFORE_READINGS + 4 * (day_ruler::size(day) as usize)
+    BESIDE_READINGS + 4 * (day_ruler::size(day) as usize)
 }
 
 // Where the k-th DY starts, counted from 0, the first standing at `base`; after the last DY, where the first EV does.
 pub fn day_start(base: u32, first: u32, k: u32) -> usize
     ensures { λ r. ⌜ r ≡ dayStart base first k ⌝ }
 {
-    (base as usize) + BEFORE_READINGS * (k as usize) + 4 * day_ruler::offset(first, k)
+    (base as usize) + BESIDE_READINGS * (k as usize) + 4 * day_ruler::offset(first, k)
 }
 
 // Where the DY of a file of this shape start.

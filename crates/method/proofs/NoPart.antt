@@ -2,19 +2,20 @@
 -- The idea: the days before D decide the choice (`Before`), and no adjustment window ends after s.
 use mathlib.Core.Path.{_≡_, refl, sym, ap, _∙_}
 use mathlib.Core.Logic.{⊎-elim}
-use mathlib.Core.Bool.{Bool, true, false, not, cond, _||_}
-use mathlib.Core.List.{List}
+use mathlib.Core.Bool.{Bool, true, false, cond}
+use mathlib.Core.List.{List, _∷_}
 use Prim.Native.Nat.{ℕ, zero, suc, _+_, _-_, _≤_, _<_}
 use native.Mathlib.Omega.{arith}
 use lib.ListN.{length, take}
 use lib.Seq.{take-append-add}
-use lib.Dec.{leb, ltb}
-use borrow.Author.Tests.{leb-true}
+use lib.Dec.{leb}
+use borrow.Author.Tests.{leb-true, not-false}
 use Rattle.base_lists.specs.Lists.{any}
 use Rattle.base_lists.proofs.Bools.{and-left, and-right, clash}
 use Rattle.base_lists.proofs.Parts.{take-drop-take}
 use Rattle.calendar_groups.specs.declared.Group.{Group}
 use Rattle.method.specs.declared.Request.{Request}
+use Rattle.method.specs.declared.Refusal.{Refusal}
 use Rattle.method.specs.Table.{Table, Day, dayOf, held, history, isExtract}
 use Rattle.method.specs.Method.{outcome}
 use Rattle.method.specs.Adjustment.{baseline, ruler, twelve, windowEnds, latestEnd, adjustmentEnd, A}
@@ -95,15 +96,18 @@ ruler-same start s yesterday a b size e alike =
     split = omega arith
 
 -- what is known once no refusal before 8 applies
-first-two : (a b c : Bool) → (not a || (not b || c)) ≡ false → (a ≡ true) × (b ≡ true)
-first-two true true c e = (refl, refl)
-first-two true false c e = absurd (clash refl e)
-first-two false b c e = absurd (clash refl e)
+none-first : (a : Bool) (w : Refusal) (ts : List (Bool × Refusal)) → any (λ (p : Bool × Refusal). p .0) ((a, w) ∷ ts) ≡ false
+    → (a ≡ false) × (any (λ (p : Bool × Refusal). p .0) ts ≡ false)
+unfolding any
+none-first true w ts e = absurd (clash refl e)
+none-first false w ts e = (refl, e)
 
 pub known : (t : Table) (r : Request) (room : ℕ) → NoneEarlier t r room → (goodRequest r ≡ true) × (held (history t) (r .event) ≡ true)
-unfolding requestRefusals any
+unfolding requestRefusals
 known t r room n =
-    first-two (goodRequest r) (held (history t) (r .event)) (ltb (r .event) (r .participation) || (ltb room (r .e - r .s) || false)) n
+    let a = none-first _ _ _ n in
+    let b = none-first _ _ _ (a .1) in
+    (not-false (goodRequest r) (a .0), not-false (held (history t) (r .event)) (b .0))
 
 known-quarters : (r : Request) → goodRequest r ≡ true → (rulerStart (r .event) ≤ r .s) × (r .n ≤ r .s)
 unfolding goodRequest

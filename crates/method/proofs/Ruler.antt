@@ -9,7 +9,7 @@ use lib.Dec.{ltb}
 use borrow.Author.Tests.{lt-ltb, le-ltb, ltb-true, ltb-false}
 use Rattle.method.specs.Table.{size, mostQuarters}
 use Rattle.method.specs.Ruler.{rulerStart, rulerEnd, quarterOf, against}
-use Rattle.method.proofs.Tables.{size-is}
+use Rattle.method.proofs.Tables.{size-is, size-most, size-least}
 
 -- "day D-1 is 0 to 95 and day D is 96 to 191"
 pub start-is : (event : ℕ) → rulerStart event ≡ 96
@@ -27,11 +27,13 @@ end-is event = omega (arith, start-is event, size-is event)
 
 -- an event has at most a day's quarters
 pub day-most : (event : ℕ) → rulerEnd event ≤ rulerStart event + mostQuarters
-day-most event = omega (arith, start-is event, end-is event)
+unfolding rulerEnd
+day-most event = omega (arith, size-most event)
 
 -- an adjustment window has room before day D
 pub window-before : (event : ℕ) → 12 ≤ rulerStart event
-window-before event = omega (arith, start-is event)
+unfolding rulerStart
+window-before event = size-least (event - 1)
 
 pub quarter-before : (event t : ℕ) → t < rulerStart event → quarterOf event t ≡ t
 unfolding quarterOf

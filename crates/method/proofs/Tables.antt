@@ -1,5 +1,5 @@
 -- Laws of tables: where a day's readings stand, a table without its first days, and a table with days put before it.
--- Only `size-is` and `offset-is`, and the three laws after them, look into how many readings a day has.
+-- Only `size-is`, `offset-is`, `offset-even` and the two bounds of a day's size look into how many readings a day has.
 use mathlib.Core.Path.{_≡_, refl, sym, ap, _∙_}
 use mathlib.Core.Bool.{Bool, true, not}
 use mathlib.Core.List.{List, _++_}
@@ -57,12 +57,17 @@ offset-is f (suc k) = omega (arith, offset-is (suc f) k)
 pub offset-even : (f k : ℕ) → size f * k ≡ offset f k
 offset-even f k = rw (size-is f) (sym (offset-is f k))
 
--- no day is longer than the longest, nor are several
+-- no day is longer than the longest, nor are several; every day has room for an adjustment window
 pub size-most : (d : ℕ) → size d ≤ mostQuarters
 size-most d = omega (arith, size-is d)
 
+pub size-least : (d : ℕ) → 12 ≤ size d
+size-least d = omega (arith, size-is d)
+
 pub offset-most : (f k n : ℕ) → k ≤ n → offset f k ≤ mostQuarters * n
-offset-most f k n h = omega (arith, offset-is f k)
+unfolding offset
+offset-most f zero n h = omega arith
+offset-most f (suc k) n h = let less : k ≤ n - 1 = omega arith in omega (arith, size-most f, offset-most (suc f) k (n - 1) less)
 
 -- what "well formed" says
 pub record Formed (t : Table) : Type 0 where

@@ -1,8 +1,9 @@
 -- `day_ruler::end` meets its contract.
+use Prim.Native.Nat.{_-_}
 use native.Mathlib.Omega.{arith}
 use Rattle.day_ruler.proofs.Stands.{ends}
-use Rattle.method.proofs.Tables.{size-is}
-use Rattle.method.proofs.Ruler.{start-is}
+use Rattle.method.proofs.Tables.{size-most}
+use Rattle.method.proofs.Ruler.{start-size}
 use borrow.Author.Needs.{needs}
 use Rattle.day_ruler.proofs.end.Statement.{statement}
 use Rattle.day_ruler.proofs.end.Tie as tie
@@ -16,7 +17,7 @@ size-requires c κs = search needs
 add-result : tie.Need-add-result
 add-result c =
     let event = c .before .before .args .event in
-    omega (arith, c .before .start .ensures, c .size .ensures, start-is event, size-is event)
+    omega (arith, c .before .start .ensures, start-size event, size-most (event - 1), c .size .ensures, size-most event)
 
 returns : tie.Need-returns
 returns c = ends (c .before .before .args .event) (c .before .start .ensures) (c .size .ensures)

@@ -3,7 +3,7 @@ use Prim.Native.Nat.{_+_, _-_}
 use mathlib.Core.Path.{refl, ap}
 use native.Mathlib.Omega.{arith}
 use borrow.Author.Needs.{needs}
-use Rattle.method.proofs.Tables.{size-is}
+use Rattle.method.proofs.Tables.{size-most}
 use Rattle.engine_example.proofs.Apart.{no-day, too-short, both-agree}
 use Rattle.engine_example.proofs.rooms_apart.Statement.{statement}
 use Rattle.engine_example.proofs.rooms_apart.Tie as tie
@@ -12,7 +12,7 @@ size-requires : tie.Need-size-requires
 size-requires c κs = search needs
 
 add-start : tie.Need-add-start
-add-start c = let a = c .before .before .args in omega (arith, c .size .ensures, size-is (a .request .event))
+add-start c = let a = c .before .before .args in omega (arith, c .size .ensures, size-most (a .request .event))
 
 array-write-at : tie.Need-array-write-at
 array-write-at c = search needs
@@ -32,7 +32,7 @@ size-requires-2 c κs = search needs
 add-end : tie.Need-add-end
 add-end c =
     let event = c .before .before .before .before .args .request .event in
-    omega (arith, c .before .before .size .ensures, size-is event, c .size2 .ensures, size-is (event - 1))
+    omega (arith, c .before .before .size .ensures, size-most event, c .size2 .ensures, size-most (event - 1))
 
 cast-if2 : tie.Need-cast-if2
 cast-if2 c = search needs
