@@ -20,7 +20,7 @@ use Rattle.engine_rooms.proofs.Parts.{part-few}
 use Rattle.engine_judging.specs.Steps.{dayFrom, wordAt, judgedAt}
 use Rattle.engine_choice.specs.Steps.{roomsOf, judged}
 
--- the dayFrom of the day so far back
+-- the room of the day so far back
 pub room-back : (r : Request) (rooms : Directory) (readings : List ℕ) (back : ℕ) → back ≤ r .event
     → dayFrom (getD (rooms .marks) back 0) (readingsAt (size (r .event - back)) readings (getD (rooms .at) back 0)) ≡ roomsOf r rooms readings (r .event - back)
 unfolding roomDay

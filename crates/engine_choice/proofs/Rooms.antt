@@ -1,4 +1,4 @@
--- A directory whose rooms say of the days before an event what a history holds gives the same choice and the same outcome.
+-- A directory whose rooms say of the days before an event what a history holds gives the same outcome.
 use Prim.Native.Nat.{ℕ, _+_, _-_, _≤_, _<_, min}
 use mathlib.Core.Path.{_≡_, sym, ap, _∙_}
 use mathlib.Core.Bool.{true, false, _&&_}
@@ -13,7 +13,7 @@ use Rattle.calendar_groups.specs.declared.Group.{Group}
 use Rattle.method.specs.declared.Request.{Request}
 use Rattle.method.specs.Table.{Day, History, held}
 use Rattle.method.specs.Relevant.{daysBefore, relevant}
-use Rattle.method.specs.Method.{Method, seen, eligibles, window, chosen, reach, wholeReach, isShort, outcome}
+use Rattle.method.specs.Method.{Method, seen, eligibles, window, wholeReach, isShort, outcome}
 use Rattle.method.specs.Rules.{methodBy}
 use Rattle.method.specs.Requested.{rulesOf, methodOf}
 use Rattle.method.proofs.LookBack.{daysBefore-is}
@@ -25,7 +25,6 @@ use Rattle.engine_rooms.specs.declared.Directory.{Directory}
 use Rattle.engine_rooms.specs.Rooms.{heldRooms, roomHistory}
 use Rattle.engine_rooms.specs.Agree.{Agree}
 use Rattle.engine_rooms.proofs.Held.{event-held, event-not}
-use Rattle.engine_choice.specs.Steps.{choiceOf}
 use Rattle.engine_choice.specs.Steps.{nearest, roomsOf}
 use Rattle.engine_choice.proofs.Days.{seen-nearest}
 use Rattle.engine_relevant.proofs.Reaching.{short-of-reach, reach-most}
@@ -40,18 +39,6 @@ module _ {A O : Type 0} (m : Method A O) (h l : History A) (sees : seen m h ≡ 
   pub same-short : isShort m h ≡ isShort m l
   unfolding isShort eligibles
   same-short i = ltb (length (keep (λ (p : ℕ × A). m .eligible (p .1)) (sees i))) (m .most) && begins i
-
-  pub same-reach : reach m h ≡ reach m l
-  unfolding reach
-  same-reach = rw same-window
-
-  pub same-chosen : chosen m h ≡ chosen m l
-  unfolding chosen
-  same-chosen = rw same-window
-
-  pub same-choice : choiceOf m h ≡ choiceOf m l
-  unfolding choiceOf
-  same-choice = rw (same-short, same-window, same-reach, same-chosen)
 
 module _ (group : ℕ → Group) (r : Request) where
   -- days that hold the same are seen alike
@@ -116,9 +103,6 @@ module _ (group : ℕ → Group) {r : Request} {rooms : Directory} {readings : L
       where
         within : (far : ℕ) → far ≤ 45 → ltb (min 45 (r .event - h .first)) far ≡ ltb (r .event - h .first) far
         within far o = same-test (min 45 (r .event - h .first)) far (r .event - h .first) far (omega arith) (omega arith)
-
-    pub rooms-choice : choiceOf (methodOf group r) (roomHistory r rooms readings) ≡ choiceOf (methodOf group r) h
-    rooms-choice = same-choice (methodOf group r) (roomHistory r rooms readings) h rooms-seen rooms-begin
 
     pub rooms-outcome : outcome (methodOf group r) (roomHistory r rooms readings) ≡ outcome (methodOf group r) h
     unfolding methodOf methodBy
