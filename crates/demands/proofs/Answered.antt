@@ -18,7 +18,7 @@ use Rattle.method.specs.Eligible.{higher}
 use Rattle.method.specs.HighXofY.{N, highXofY}
 use Rattle.method.specs.Rules.{methodBy}
 use Rattle.method.specs.Requested.{rulesOf, methodOf}
-use Rattle.method.proofs.Sort.{length-sorted}
+use Rattle.method_laws.proofs.Sort.{length-sorted}
 use Rattle.base_lists.proofs.Places.{length-places}
 use Rattle.demands.specs.Calls.{Call, overTable, ofFile, extract, request, perQuarter, room}
 use Rattle.demands.specs.Rows.{windowOf, chosenOf, NOf, numeratorsOf, dayRows, earlier, rows, applies}

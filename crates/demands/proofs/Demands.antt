@@ -18,10 +18,10 @@ use Rattle.method.specs.Method.{wholeReach}
 use Rattle.method.specs.Requested.{methodOf}
 use Rattle.method.specs.Verdict.{Reply, Answer as Numbers, refused, answered, methodology, verdict}
 use Rattle.method.specs.CutTables.{LongerFormed, heldBefore, cutTo, Undecided, Parted, isMargin, isSettled, reported as reportedIn}
-use Rattle.method.proofs.Replies.{none-early}
-use Rattle.method.proofs.Settled.{settled-margin}
-use Rattle.method.proofs.Extract.{none-of-table, verdict-stable, verdict-margin, reach-within, reach-same, reach-fewest}
-use Rattle.method.proofs.NoPart.{no-part}
+use Rattle.method_laws.proofs.Replies.{none-early}
+use Rattle.method_laws.proofs.Settled.{settled-margin}
+use Rattle.method_laws.proofs.Extract.{none-of-table, verdict-stable, verdict-margin, reach-within, reach-same, reach-fewest}
+use Rattle.method_laws.proofs.NoPart.{no-part}
 use Rattle.engine_answer.specs.declared.Given.the-variants.{Answered, Refused}
 use Rattle.engine_answer.specs.declared.Answer.{Answer}
 use Rattle.engine_answer.specs.Answer.{answerOf}

@@ -20,7 +20,7 @@ use Rattle.method.specs.Method.{outcome}
 use Rattle.method.specs.Requested.{methodOf}
 use Rattle.method.specs.Verdict.{Reply, refused, answered, number, goodRequest, tableRefusals, requestRefusals, closing, firstOf, methodology, verdict}
 use Rattle.method.specs.Verdict.{written}
-use Rattle.method.proofs.Replies.{other, none-early}
+use Rattle.method_laws.proofs.Replies.{other, none-early}
 use Rattle.engine_answer.specs.declared.Answer.{Answer}
 use Rattle.engine_answer.specs.Answer.{answerOf}
 use Rattle.engine_answer.proofs.Laws.{answers-unique}

@@ -13,9 +13,9 @@ use Rattle.method.specs.declared.Refusal.{Refusal}
 use Rattle.method.specs.Table.{Table, held, history, isExtract}
 use Rattle.method.specs.Verdict.{Reply, answered, firstOf, verdict, wellFormed}
 use Rattle.method.specs.CutTables.{NoneEarlier}
-use Rattle.method.proofs.Replies.{test, other, none-early, early-other}
-use Rattle.method.proofs.Extract.{none-of-table}
-use Rattle.method.proofs.NoPart.{known}
+use Rattle.method_laws.proofs.Replies.{test, other, none-early, early-other}
+use Rattle.method_laws.proofs.Extract.{none-of-table}
+use Rattle.method_laws.proofs.NoPart.{known}
 use Rattle.engine_refusals.proofs.FirstRefusal.{first-append}
 use Rattle.demands.specs.Calls.{Call, overTable, ofFile, extract, request, perQuarter, room}
 use Rattle.demands.specs.Rows.{fileRows, tableRows, requestRows, dayRows, earlier, rows, applies, answerOver}

@@ -19,7 +19,7 @@ use Rattle.method.specs.declared.Request.{Request}
 use Rattle.method.specs.Table.{Day, present, goodReading}
 use Rattle.method.specs.Ruler.{rulerStart, quarterOf, against}
 use Rattle.method.specs.Adjustment.{twelve, windowEnds, latestEnd, adjustmentEnd, S, A, B}
-use Rattle.method.proofs.InRange.{in-range}
+use Rattle.method_laws.proofs.InRange.{in-range}
 use Rattle.method.proofs.Ruler.{quarter-before, quarter-from}
 use Rattle.engine_adjustment.proofs.Windows.{latest-here, latest-earlier, latest-none}
 

@@ -20,8 +20,8 @@ use Rattle.method.specs.Rules.{methodBy}
 use Rattle.method.specs.Requested.{methodOf}
 use Rattle.method.specs.Method.{Method, Outcome, short, few, chose, outcome, daysOf, wholeReach, seen, eligibles, spares, window, chosen}
 use Rattle.method.specs.Method.{reach, isShort}
-use Rattle.method.proofs.Requested.{lawful}
-use Rattle.method.proofs.Stable.{yesterday-held}
+use Rattle.method_laws.proofs.Requested.{lawful}
+use Rattle.method_laws.proofs.Stable.{yesterday-held}
 use Rattle.method.specs.Verdict.{closing}
 use Rattle.engine_choice.specs.declared.Chosen.{Chosen}
 use Rattle.engine_choice.specs.declared.Choosing.the-variants.{Short, Few, Days}

@@ -20,8 +20,8 @@ use Rattle.method.specs.Eligible.{complete}
 use Rattle.method.specs.Rules.{methodBy}
 use Rattle.method.specs.Requested.{methodOf}
 use Rattle.method.specs.Verdict.{Answer, Reply, refused, answered, methodology}
-use Rattle.method.proofs.Requested.{lawful}
-use Rattle.method.proofs.Stable.{yesterday-held}
+use Rattle.method_laws.proofs.Requested.{lawful}
+use Rattle.method_laws.proofs.Stable.{yesterday-held}
 use Rattle.base_lists.proofs.Places.{over-same}
 use Rattle.engine_adjustment.proofs.Laws.{all-in-range, window-most, adjustment-holds}
 use Rattle.engine_numerators.proofs.Signed.{numerator-is}

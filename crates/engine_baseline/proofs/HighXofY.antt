@@ -17,7 +17,7 @@ use Rattle.method.specs.HighXofY.{N, highXofY}
 use Rattle.method.specs.Rules.{methodBy}
 use Rattle.method.specs.Requested.{rulesOf, methodOf}
 use Rattle.method.specs.Method.{Method, window, chosen}
-use Rattle.method.proofs.Sort.{length-sorted}
+use Rattle.method_laws.proofs.Sort.{length-sorted}
 
 module _ (group : ℕ → Group) (r : Request) where
   abbrev how : Method Day (Option Baseline)

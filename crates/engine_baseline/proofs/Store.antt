@@ -13,7 +13,7 @@ use Rattle.method.specs.Adjustment.{Baseline}
 use Rattle.method.specs.Method.{Method, chosen}
 use Rattle.method.specs.Requested.{methodOf}
 use Rattle.method.specs.Verdict.{Answer, Reply, refused, answered, requestRefusals, firstOf, methodology}
-use Rattle.method.proofs.Stable.{window-of-seen}
+use Rattle.method_laws.proofs.Stable.{window-of-seen}
 use Rattle.engine_rooms.specs.declared.Directory.{Directory}
 use Rattle.engine_rooms.specs.Rooms.{roomHistory}
 use Rattle.engine_rooms.specs.Agree.{Agree}

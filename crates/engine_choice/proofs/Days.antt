@@ -15,7 +15,7 @@ use Rattle.method.specs.Table.{Day, History, held}
 use Rattle.method.specs.Relevant.{daysBefore, relevant, relevantDays}
 use Rattle.method.specs.Method.{seen}
 use Rattle.method.specs.Rules.{Rules, methodBy}
-use Rattle.method.proofs.LookBack.{daysBefore-is, none-before, days-then, one-before}
+use Rattle.method_laws.proofs.LookBack.{daysBefore-is, none-before, days-then, one-before}
 use Rattle.method.proofs.Histories.{is-held}
 use Rattle.engine_ranking.proofs.Rank.{lookedBack}
 use Rattle.engine_choice.specs.Steps.{nearest, ifRelevant}

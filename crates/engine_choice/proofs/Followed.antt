@@ -19,9 +19,9 @@ use Rattle.method.specs.Method.{daysOf, eligibles, window, chosen}
 use Rattle.method.specs.Rules.{Rules, methodBy}
 use Rattle.method.specs.Requested.{methodOf}
 use Rattle.method.specs.Lawful.{Lawful}
-use Rattle.method.proofs.Window.{full-size, size-below}
-use Rattle.method.proofs.Sort.{member-sorted, length-sorted}
-use Rattle.method.proofs.Requested.{lawful}
+use Rattle.method_laws.proofs.Window.{full-size, size-below}
+use Rattle.method_laws.proofs.Sort.{member-sorted, length-sorted}
+use Rattle.method_laws.proofs.Requested.{lawful}
 use Rattle.base_lists.proofs.Places.{at-place}
 use Rattle.engine_choice.specs.declared.SpareOrder.{SpareOrder}
 use Rattle.engine_choice.specs.declared.SpareOrder.the-variants.{Highest, Latest}

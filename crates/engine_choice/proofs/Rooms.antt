@@ -16,10 +16,10 @@ use Rattle.method.specs.Relevant.{daysBefore, relevant}
 use Rattle.method.specs.Method.{Method, seen, eligibles, window, wholeReach, isShort, outcome}
 use Rattle.method.specs.Rules.{methodBy}
 use Rattle.method.specs.Requested.{rulesOf, methodOf}
-use Rattle.method.proofs.LookBack.{daysBefore-is}
+use Rattle.method_laws.proofs.LookBack.{daysBefore-is}
 use Rattle.method.proofs.Histories.{held-first, held-last}
-use Rattle.method.proofs.Stable.{window-of-seen, outcome-same}
-use Rattle.method.proofs.Requested.{lawful}
+use Rattle.method_laws.proofs.Stable.{window-of-seen, outcome-same}
+use Rattle.method_laws.proofs.Requested.{lawful}
 use Rattle.base_lists.proofs.Bools.{bool-cases, same-test}
 use Rattle.engine_rooms.specs.declared.Directory.{Directory}
 use Rattle.engine_rooms.specs.Rooms.{heldRooms, roomHistory}

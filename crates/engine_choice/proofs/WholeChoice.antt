@@ -23,9 +23,9 @@ use Rattle.method.specs.Eligible.{eligible, spare, higher}
 use Rattle.method.specs.Adjustment.{Baseline}
 use Rattle.method.specs.Rules.{Rules, methodBy}
 use Rattle.method.specs.Requested.{rulesOf, methodOf}
-use Rattle.method.proofs.Window.{window-full, full-size, size-below}
-use Rattle.method.proofs.Short.{full-enough}
-use Rattle.method.proofs.Sort.{length-sorted, all-sorted}
+use Rattle.method_laws.proofs.Window.{window-full, full-size, size-below}
+use Rattle.method_laws.proofs.Short.{full-enough}
+use Rattle.method_laws.proofs.Sort.{length-sorted, all-sorted}
 use Rattle.engine_ranking.specs.Steps.{word, sortDown, insertAll}
 use Rattle.engine_ranking.proofs.Rank.{lookedBack, take-padded, first-words, ranks-of-row, row-with}
 use Rattle.engine_rooms.specs.declared.Directory.{Directory}

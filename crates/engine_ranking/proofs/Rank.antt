@@ -20,7 +20,7 @@ use Rattle.base_lists.proofs.All.{all-append, all-replicate, all-take, all-drop
 use Rattle.base_lists.proofs.Bools.{both, lt-or-le}
 use Rattle.base_lists.proofs.Maps.{map-take}
 use Rattle.base_lists.proofs.Parts.{take-drop-take}
-use Rattle.method.proofs.Sort.{length-sorted, all-inserted, all-sorted}
+use Rattle.method_laws.proofs.Sort.{length-sorted, all-inserted, all-sorted}
 use Rattle.engine_ranking.proofs.Sorting.{map-sorted}
 use Rattle.engine_ranking.proofs.Insertion.{into-none, goes-here, goes-later, smaller-first, none-above, before-noughts}
 use Rattle.engine_ranking.proofs.Carry.{keeps-hand, keeps-own}

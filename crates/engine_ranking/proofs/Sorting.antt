@@ -5,7 +5,7 @@ use mathlib.Core.List.{List, [], _∷_, map}
 use Rattle.base_lists.specs.Lists.{all}
 use Rattle.base_lists.proofs.Bools.{both}
 use Rattle.method.specs.Eligible.{insertBy, sortBy}
-use Rattle.method.proofs.Sort.{all-sorted}
+use Rattle.method_laws.proofs.Sort.{all-sorted}
 
 -- where `f` keeps the tests of the days of which `p` holds
 module _ {A B : Type 0} (before : A → A → Bool) (before′ : B → B → Bool) (p : A → Bool) (f : A → B)

@@ -16,8 +16,8 @@ use Rattle.method.specs.Relevant.{daysBefore, relevant, relevantDays}
 use Rattle.method.specs.Method.{wholeReach}
 use Rattle.method.specs.Rules.{methodBy}
 use Rattle.method.specs.Requested.{methodOf}
-use Rattle.method.proofs.Requested.{lawful}
-use Rattle.method.proofs.LookBack.{daysBefore-is, days-then, days-least, one-before}
+use Rattle.method_laws.proofs.Requested.{lawful}
+use Rattle.method_laws.proofs.LookBack.{daysBefore-is, days-then, days-least, one-before}
 
 pub leastOf-snoc : (top : ℕ) (xs : List ℕ) (x : ℕ) → leastOf top (xs ++ (x ∷ [])) ≡ min (leastOf top xs) x
 unfolding leastOf

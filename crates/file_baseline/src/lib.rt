@@ -142,7 +142,7 @@ fn place_baseline(file: &[u8], shape: Shape, place: usize, out: &mut [u8]) -> An
     requires { ⌜ LaidDown (now file) shape ⌝ }
     ensures { λ r. ⌜ FileAnswers (fileReply (now (file .entry)) place (length (now (out .entry)))) r (now (out .entry)) (now (out .exit)) ⌝ }
 {
-    match file_record::event_within(file, shape, place) {
+    match file_events::event_within(file, shape, place) {
         EventAt::Refused(at) => engine_answer::refuse(Refusal::BadFile(at)),
         EventAt::NoEvent => engine_answer::refuse(Refusal::NoEvent),
         EventAt::Event(request) => event_baseline(file, shape, request, out),
@@ -154,7 +154,7 @@ fn place_baseline(file: &[u8], shape: Shape, place: usize, out: &mut [u8]) -> An
 pub fn file_baseline(file: &[u8], place: usize, out: &mut [u8]) -> Answer
     ensures { λ r. ⌜ FileAnswers (fileReply (now (file .entry)) place (length (now (out .entry)))) r (now (out .entry)) (now (out .exit)) ⌝ }
 {
-    match file_record::read_file(file) {
+    match file_reading::read_file(file) {
         Read::Refused(at) => engine_answer::refuse(Refusal::BadFile(at)),
         Read::File(shape) => place_baseline(file, shape, place, out),
     }

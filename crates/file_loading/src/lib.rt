@@ -9,18 +9,18 @@ ghost use Rattle.method.specs.Table.{offset};
 ghost use Rattle.file_record.specs.Reader.{shapeBase, dayStart, numbers};
 ghost use Rattle.file_record.specs.Steps.{tableWithin};
 ghost use Rattle.file_loading.specs.Steps.{fitsWithin, filledIf};
-use file_record::BEFORE_READINGS;
 use file_record::Shape;
+use file_starts::BEFORE_READINGS;
 
 // The mark bytes of the days, put first.
 fn load_marks(file: &[u8], shape: Shape, marks: &mut [u8])
     requires { ⌜ (dayStart (shapeBase shape) (shape .first) (shape .days) ≤ length (now file)) × (shape .days ≤ length (now marks)) ⌝ }
     ensures { λ r. ⌜ now (marks .exit) ≡ tableWithin shape (now (file .entry)) .marks ++ drop (shape .days) (now (marks .entry)) ⌝ }
 {
-    let base = file_record::base(shape);
+    let base = file_starts::base(shape);
     let mut k: u32 = 0;
     while k < shape.days {
-        marks[k as usize] = file[file_record::day_start(base, shape.first, k) + 4];
+        marks[k as usize] = file[file_starts::day_start(base, shape.first, k) + 4];
         k += 1;
     }
 }
@@ -44,12 +44,12 @@ fn load_readings(file: &[u8], shape: Shape, readings: &mut [u32])
     requires { ⌜ (dayStart (shapeBase shape) (shape .first) (shape .days) ≤ length (now file)) × (offset (shape .first) (shape .days) ≤ length (now readings)) ⌝ }
     ensures { λ r. ⌜ now (readings .exit) ≡ tableWithin shape (now (file .entry)) .readings ++ drop (offset (shape .first) (shape .days)) (now (readings .entry)) ⌝ }
 {
-    let base = file_record::base(shape);
+    let base = file_starts::base(shape);
     let mut k: u32 = 0;
     while k < shape.days {
         let start = day_ruler::offset(shape.first, k);
         let end = day_ruler::offset(shape.first, k + 1);
-        let at = file_record::day_start(base, shape.first, k) + BEFORE_READINGS;
+        let at = file_starts::day_start(base, shape.first, k) + BEFORE_READINGS;
         load_day(file, at, &mut readings[start..end]);
         k += 1;
     }
@@ -59,7 +59,7 @@ fn load_readings(file: &[u8], shape: Shape, readings: &mut [u32])
 fn has_room(shape: Shape, size: usize, marks: usize, readings: usize) -> bool
     ensures { λ r. ⌜ r ≡ (leb (dayStart (shapeBase shape) (shape .first) (shape .days)) size && (leb (shape .days) marks && leb (offset (shape .first) (shape .days)) readings)) ⌝ }
 {
-    let end = file_record::day_start(file_record::base(shape), shape.first, shape.days);
+    let end = file_starts::day_start(file_starts::base(shape), shape.first, shape.days);
     let count = day_ruler::offset(shape.first, shape.days);
     (end <= size) & ((shape.days as usize <= marks) & (count <= readings))
 }

@@ -105,7 +105,7 @@ pub extern "C" fn hp_day_part(first: u32, marks: &[u8], readings: &[u32], day: u
 pub extern "C" fn hp_file(file: &[u8], name: u32) -> i64
     ensures { λ r. ⌜ r ≡ fileTold (readFile (now (file .entry))) name ⌝ }
 {
-    let read = file_record::read_file(file);
+    let read = file_reading::read_file(file);
     host_telling::tell_file(read, name)
 }
 
@@ -114,7 +114,7 @@ pub extern "C" fn hp_file(file: &[u8], name: u32) -> i64
 pub extern "C" fn hp_event(file: &[u8], place: usize, name: u32) -> i64
     ensures { λ r. ⌜ r ≡ eventTold (eventAtPlace (readFile (now (file .entry))) (now (file .entry)) place) name ⌝ }
 {
-    let at = file_record::event_at(file, place);
+    let at = file_events::event_at(file, place);
     host_telling::tell_event(at, name)
 }
 

@@ -29,9 +29,9 @@ use Rattle.method.specs.HighXofY.{Y, N, highXofY}
 use Rattle.method.specs.Rules.{methodBy}
 use Rattle.method.specs.Requested.{rulesOf, methodOf}
 use Rattle.method.specs.Verdict.{Answer, Reply, refused, answered, carries, tableRefusals, requestRefusals, closing, firstOf, methodology, verdict}
-use Rattle.method.proofs.LookBack.{lookBack-is}
-use Rattle.method.proofs.Requested.{relevant-lookBack}
-use Rattle.method.proofs.Sort.{all-sorted}
+use Rattle.method_laws.proofs.LookBack.{lookBack-is}
+use Rattle.method_laws.proofs.Requested.{relevant-lookBack}
+use Rattle.method_laws.proofs.Sort.{all-sorted}
 use Rattle.engine_choice.proofs.Days.{all-keep, all-mapped}
 use Rattle.base_lists.proofs.Places.{length-places}
 use Rattle.engine_numerators.proofs.Signed.{mag-difference}

@@ -36,7 +36,7 @@ fn put_event(
     requires { ⌜ Holds (now file) shape (now marks) (now readings) × (place < shape .events) ⌝ }
     ensures { λ r. ⌜ PutsWithin linesRoom (now (out .entry)) 0 (eventText (tableIn (now (file .entry))) (requestAt (now (file .entry)) place)) r (now (out .exit)) ⌝ }
 {
-    match file_record::event_within(file, shape, place) {
+    match file_events::event_within(file, shape, place) {
         EventAt::Event(request) => listing_event::event(shape.first, marks, readings, request, out),
         EventAt::NoEvent => 0,
         EventAt::Refused(_) => 0,
@@ -84,7 +84,7 @@ fn put_listing(file: &[u8], out: &mut [u8]) -> usize
     requires { ⌜ mostListing ≤ length (now out) ⌝ }
     ensures { λ r. ⌜ Writes (now (out .entry)) 0 (listing (now (file .entry))) r (now (out .exit)) × (r ≤ mostListing) ⌝ }
 {
-    match file_record::read_file(file) {
+    match file_reading::read_file(file) {
         Read::Refused(at) => listing_first_line::opening(Read::Refused(at), out),
         Read::File(shape) => put_file(file, shape, out),
     }

@@ -1,0 +1,28 @@
+// Where the records of a file start.
+ghost use mathlib.Core.Path.{_≡_};
+ghost use Rattle.file_record.specs.Reader.{shapeBase, dayStart};
+use file_record::Shape;
+
+// The bytes of a PF, of an EV, and of a DY before its readings.
+pub const PF_LENGTH: usize = 8;
+
+pub const EV_LENGTH: usize = 8;
+
+pub const BEFORE_READINGS: usize = 6;
+
+// The bytes of a DY that are not readings.
+pub const BESIDE_READINGS: usize = 6;
+
+// Where the k-th DY starts, counted from 0, the first standing at `base`; after the last DY, where the first EV does.
+pub fn day_start(base: u32, first: u32, k: u32) -> usize
+    ensures { λ r. ⌜ r ≡ dayStart base first k ⌝ }
+{
+    (base as usize) + BESIDE_READINGS * (k as usize) + 4 * day_ruler::offset(first, k)
+}
+
+// Where the DY of a file of this shape start.
+pub fn base(shape: Shape) -> u32
+    ensures { λ r. ⌜ r ≡ shapeBase shape ⌝ }
+{
+    PF_LENGTH as u32
+}
