@@ -1,7 +1,3 @@
-pub mod Digits
-pub mod Spelling
-mod Signed
-mod DigitExamples
 pub mod Text
 mod Copying
 mod Numbers

@@ -7,11 +7,11 @@ use lib.ListN.{length, take, drop, length-drop}
 use lib.Seq.{take-all}
 use lib.IntN.{ℤ}
 use lib.Signed.{mag}
-use Rattle.base_text.specs.declared.Spelt.{Spelt}
-use Rattle.base_text.specs.Digits.{dec, decimal}
-use Rattle.base_text.specs.DigitSteps.{speltOf}
-use Rattle.base_text.proofs.Digits.{dec-some, dec-length-32, decimal-some, decimal-length}
-use Rattle.base_text.proofs.Spelling.{Ends, ends}
+use Rattle.base_digits.specs.declared.Spelt.{Spelt}
+use Rattle.base_digits.specs.Digits.{dec, decimal}
+use Rattle.base_digits.specs.DigitSteps.{speltOf}
+use Rattle.base_digits.proofs.Digits.{dec-some, dec-length-32, decimal-some, decimal-length}
+use Rattle.base_digits.proofs.Spelling.{Ends, ends}
 use Rattle.base_text.specs.TextSteps.{Puts}
 use Rattle.base_text.proofs.Text.{puts-most}
 

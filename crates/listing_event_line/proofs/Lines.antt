@@ -8,7 +8,7 @@ use lib.ListN.{length, take, drop, getD, length-take, drop-of-length-le}
 use lib.Seq.{length-take-le, drop-cons}
 use lib.IntN.{ℤ}
 use Rattle.base_lists.specs.Ascii.{ascii}
-use Rattle.base_text.specs.Digits.{dec, decimal}
+use Rattle.base_digits.specs.Digits.{dec, decimal}
 use Rattle.method.specs.declared.Request.{Request}
 use Rattle.method.specs.declared.Refusal.{Refusal}
 use Rattle.method.specs.Verdict.{number, carries}

@@ -4,7 +4,7 @@ ghost use mathlib.Core.List.{[], _∷_, _++_, map};
 ghost use Prim.Native.Nat.{_+_, _*_, _≤_};
 ghost use lib.ListN.{length, take};
 ghost use Rattle.base_lists.specs.Ascii.{ascii};
-ghost use Rattle.base_text.specs.Digits.{dec, decimal};
+ghost use Rattle.base_digits.specs.Digits.{dec, decimal};
 ghost use Rattle.listing_lines.specs.Lines.{newline, spaced, lineText};
 ghost use Rattle.listing_lines.specs.Listing.{numbers, eventLine, refusalLine};
 ghost use Rattle.listing_lines.specs.WriteSteps.{Writes, PutsWithin};

@@ -3,7 +3,7 @@ use Prim.Native.Nat.{ℕ}
 use mathlib.Core.Path.{_≡_}
 use mathlib.Core.List.{[], _∷_, _++_, append-assoc}
 use Rattle.base_lists.specs.Ascii.{ascii}
-use Rattle.base_text.specs.Digits.{dec}
+use Rattle.base_digits.specs.Digits.{dec}
 use Rattle.file_record.specs.declared.Shape.{Shape}
 use Rattle.listing_lines.specs.Lines.{newline, spaced, lineText}
 use Rattle.listing_lines.specs.Listing.{headerLine, refusedLine}

@@ -12,8 +12,8 @@ use Rattle.base_lists.specs.Lists.{all}
 use Rattle.base_lists.specs.Ascii.{ascii}
 use Rattle.base_lists.proofs.Bools.{both}
 use Rattle.base_lists.proofs.All.{all-append}
-use Rattle.base_text.specs.Digits.{dec, decimal}
-use Rattle.base_text.proofs.Digits.{dec-length, dec-length-32, decimal-length}
+use Rattle.base_digits.specs.Digits.{dec, decimal}
+use Rattle.base_digits.proofs.Digits.{dec-length, dec-length-32, decimal-length}
 use Rattle.method.specs.declared.Request.{Request}
 use Rattle.method.specs.declared.Refusal.{Refusal}
 use Rattle.method.specs.Table.{mostQuarters}

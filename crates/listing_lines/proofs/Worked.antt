@@ -4,7 +4,7 @@ use mathlib.Core.Path.{_≡_, refl}
 use Rattle.base_lists.specs.Lists.{keep, all, any, leading, member, sumOf, leastOf, places}
 use Rattle.calendar_dates.specs.Days.{leap, months, newYear, dayNumber, yearOf}
 use Rattle.calendar_groups.specs.Holidays.{easter, fixedHolidays, easterHolidays, holidays, isHoliday, group}
-use Rattle.base_text.specs.Digits.{digits, dec, decimal}
+use Rattle.base_digits.specs.Digits.{digits, dec, decimal}
 use Rattle.method.specs.Table.{size, offset, dayOf, held, shaped, isExtract}
 use Rattle.method.specs.Relevant.{daysBefore, relevant, relevantDays}
 use Rattle.method.specs.Method.{wholeReach, seen, eligibles, spares, window, chosen, reach, isShort, outcome}

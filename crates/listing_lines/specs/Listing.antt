@@ -4,7 +4,7 @@ use mathlib.Core.List.{List, [], _∷_, _++_, map}
 use lib.ListN.{length}
 use lib.IntN.{ℤ}
 use Rattle.calendar_groups.specs.Holidays.{group}
-use Rattle.base_text.specs.Digits.{dec, decimal}
+use Rattle.base_digits.specs.Digits.{dec, decimal}
 use Rattle.base_lists.specs.Ascii.{ascii}
 use Rattle.method.specs.declared.Request.{Request}
 use Rattle.method.specs.declared.Refusal.{Refusal}

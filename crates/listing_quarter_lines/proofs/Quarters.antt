@@ -5,7 +5,7 @@ use mathlib.Core.List.{List, [], _∷_, _++_}
 use native.Mathlib.Numerals.{add-one}
 use lib.ListN.{length, take, drop, getD, drop-of-length-le}
 use lib.Seq.{length-take-le, drop-cons, getD-take}
-use Rattle.base_text.specs.Digits.{dec}
+use Rattle.base_digits.specs.Digits.{dec}
 use Rattle.method.specs.Adjustment.{rounded}
 use Rattle.listing_lines.specs.Lines.{spaced, newline, lineText, linesText}
 use Rattle.listing_lines.specs.Listing.{quarterLine, quarterLines}

@@ -5,7 +5,7 @@ use mir.Syntax.{w64}
 use mir.ValLaws.{toZ-ofZ}
 use borrow.Author.Needs.{needs}
 use Rattle.base_lists.specs.Ascii.{ascii}
-use Rattle.base_text.specs.Digits.{dec, decimal}
+use Rattle.base_digits.specs.Digits.{dec, decimal}
 use Rattle.listing_lines.proofs.Writing.{placed, both-placed, then, named}
 use Rattle.listing_lines.proofs.Lines.{spaced-word-and, fields-both}
 use Rattle.listing_event_line.proofs.put_close.Statement.{statement}

@@ -6,7 +6,7 @@ use mir.Syntax.{w64}
 use mir.ValLaws.{toZ-ofZ}
 use borrow.Author.Needs.{needs}
 use Rattle.base_lists.specs.Ascii.{ascii}
-use Rattle.base_text.specs.Digits.{dec}
+use Rattle.base_digits.specs.Digits.{dec}
 use Rattle.listing_lines.proofs.Writing.{same-length as kept-length, both-placed, then, named, no-room, with-room}
 use Rattle.listing_lines.proofs.Lines.{spaced-word-and}
 use Rattle.listing_event_line.proofs.Lines.{Few, few-days, days-are, event-is}

@@ -5,7 +5,7 @@ use mathlib.Core.List.{map}
 use native.Mathlib.Omega.{arith}
 use lib.ListN.{length, drop, getD}
 use borrow.Author.Needs.{needs}
-use Rattle.base_text.specs.Digits.{dec}
+use Rattle.base_digits.specs.Digits.{dec}
 use Rattle.listing_lines.specs.Lines.{spaced}
 use Rattle.listing_lines.proofs.Writing.{both-placed, Writing, writing-begin}
 use Rattle.listing_event_line.proofs.Lines.{numbers-next, numbers-end}

@@ -3,7 +3,7 @@ use mathlib.Core.Path.{sym}
 use native.Mathlib.Omega.{arith}
 use borrow.Author.Needs.{needs}
 use Rattle.base_lists.specs.Ascii.{ascii}
-use Rattle.base_text.specs.Digits.{dec}
+use Rattle.base_digits.specs.Digits.{dec}
 use Rattle.engine_answer.proofs.Carried.{tells}
 use Rattle.listing_lines.proofs.Writing.{placed, both-placed, then, named, no-room, with-room}
 use Rattle.listing_lines.proofs.Lines.{spaced-word-and}

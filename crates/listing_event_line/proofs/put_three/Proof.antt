@@ -1,7 +1,7 @@
 -- `listing_event_line::put_three` meets its contract: three pieces in a row.
 use native.Mathlib.Omega.{arith}
 use borrow.Author.Needs.{needs}
-use Rattle.base_text.specs.Digits.{dec}
+use Rattle.base_digits.specs.Digits.{dec}
 use Rattle.listing_lines.proofs.Writing.{placed, then-both}
 use Rattle.listing_lines.proofs.Lines.{three-fields}
 use Rattle.listing_event_line.proofs.put_three.Statement.{statement}

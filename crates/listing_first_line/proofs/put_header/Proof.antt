@@ -3,7 +3,7 @@ use mathlib.Core.Path.{refl}
 use native.Mathlib.Omega.{arith}
 use borrow.Author.Needs.{needs}
 use Rattle.base_lists.specs.Ascii.{ascii}
-use Rattle.base_text.specs.Digits.{dec}
+use Rattle.base_digits.specs.Digits.{dec}
 use Rattle.listing_lines.proofs.Writing.{placed, both-placed, then, named}
 use Rattle.listing_lines.proofs.Lines.{word-and, spaced-word-and, next-is}
 use Rattle.listing_first_line.proofs.Header.{header-is}

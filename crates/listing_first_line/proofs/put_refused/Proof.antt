@@ -1,7 +1,7 @@
 -- `listing_first_line::put_refused` meets its contract.
 use native.Mathlib.Omega.{arith}
 use borrow.Author.Needs.{needs}
-use Rattle.base_text.specs.Digits.{dec}
+use Rattle.base_digits.specs.Digits.{dec}
 use Rattle.listing_lines.proofs.Writing.{both-placed, then-put, named}
 use Rattle.listing_first_line.proofs.Header.{refused-is}
 use Rattle.listing_first_line.proofs.put_refused.Statement.{statement}

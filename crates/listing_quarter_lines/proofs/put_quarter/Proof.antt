@@ -1,7 +1,7 @@
 -- `listing_quarter_lines::put_quarter` meets its contract: three numbers and the end of the line.
 use native.Mathlib.Omega.{arith}
 use borrow.Author.Needs.{needs}
-use Rattle.base_text.specs.Digits.{dec}
+use Rattle.base_digits.specs.Digits.{dec}
 use Rattle.listing_lines.proofs.Writing.{placed, then-both, then-put, named}
 use Rattle.listing_lines.proofs.Lines.{three-fields}
 use Rattle.listing_quarter_lines.proofs.Quarters.{quarter-is}

@@ -1,13 +1,13 @@
--- `base_text::spell_negative` meets its contract: the digits leave room for the sign (`sign-room`).
+-- `base_digits::spell_negative` meets its contract: the digits leave room for the sign (`sign-room`).
 use Prim.Native.Nat.{_<_}
 use native.Mathlib.Omega.{arith}
 use lib.ListN.{length}
 use borrow.Author.Needs.{needs}
-use Rattle.base_text.specs.Digits.{dec}
-use Rattle.base_text.proofs.Digits.{dec-length}
-use Rattle.base_text.proofs.Spelling.{sign-room, signed}
-use Rattle.base_text.proofs.spell_negative.Statement.{statement}
-use Rattle.base_text.proofs.spell_negative.Tie as tie
+use Rattle.base_digits.specs.Digits.{dec}
+use Rattle.base_digits.proofs.Digits.{dec-length}
+use Rattle.base_digits.proofs.Spelling.{sign-room, signed}
+use Rattle.base_digits.proofs.spell_negative.Statement.{statement}
+use Rattle.base_digits.proofs.spell_negative.Tie as tie
 
 spell-requires : tie.Need-spell-requires
 spell-requires c κs = search needs

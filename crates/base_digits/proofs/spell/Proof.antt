@@ -1,11 +1,11 @@
--- `base_text::spell` meets its contract. The loop's invariant: what is left of the number, spelt, and the bytes so far are the whole (`Spelling`).
+-- `base_digits::spell` meets its contract. The loop's invariant: what is left of the number, spelt, and the bytes so far are the whole (`Spelling`).
 use mathlib.Core.Path.{refl}
 use mathlib.Core.List.{[], append-nil}
 use native.Mathlib.Omega.{arith}
-use Rattle.base_text.specs.Digits.{dec}
-use Rattle.base_text.proofs.Spelling.{Spelling, room, one-more, last-one}
-use Rattle.base_text.proofs.spell.Statement.{statement}
-use Rattle.base_text.proofs.spell.Tie as tie
+use Rattle.base_digits.specs.Digits.{dec}
+use Rattle.base_digits.proofs.Spelling.{Spelling, room, one-more, last-one}
+use Rattle.base_digits.proofs.spell.Statement.{statement}
+use Rattle.base_digits.proofs.spell.Tie as tie
 
 abbrev Inv-loop : tie.InvT-loop
 Inv-loop n bytes₀ start₀ rest₀ bytes start rest = Spelling n bytes start rest

@@ -1,8 +1,8 @@
 -- `table_baseline::baseline` meets the demands, by its contract.
 use borrow.Author.Needs.{needs}
 use Rattle.demands.proofs.Demands.{demands}
-use Rattle.demands.proofs.over_table.Statement.{statement}
-use Rattle.demands.proofs.over_table.Tie as tie
+use Rattle.demands_calls.proofs.over_table.Statement.{statement}
+use Rattle.demands_calls.proofs.over_table.Tie as tie
 
 baseline-requires : tie.Need-baseline-requires
 baseline-requires c κs = search needs

@@ -3,7 +3,7 @@ use Prim.Native.Nat.{_-_, _^_}
 use mathlib.Core.Path.{_≡_, refl}
 use mathlib.Core.List.{_++_}
 use lib.IntN.{negsuc}
-use Rattle.base_text.specs.Digits.{digits, dec, decimal}
+use Rattle.base_digits.specs.Digits.{digits, dec, decimal}
 use Rattle.base_lists.specs.Ascii.{ascii}
 
 header : ascii "portfolio " ++ dec 77 ++ ascii " from " ++ dec 6900 ≡ ascii "portfolio 77 from 6900"

@@ -1,8 +1,8 @@
 -- `file_baseline::file_baseline` meets the demands, by its contract.
 use borrow.Author.Needs.{needs}
 use Rattle.demands.proofs.Demands.{demands}
-use Rattle.demands.proofs.of_file.Statement.{statement}
-use Rattle.demands.proofs.of_file.Tie as tie
+use Rattle.demands_calls.proofs.of_file.Statement.{statement}
+use Rattle.demands_calls.proofs.of_file.Tie as tie
 
 file-baseline-requires : tie.Need-file-baseline-requires
 file-baseline-requires c κs = search needs

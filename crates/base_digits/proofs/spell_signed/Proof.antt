@@ -1,12 +1,12 @@
--- `base_text::spell_signed` meets its contract: the text of either sign (`Signed`).
+-- `base_digits::spell_signed` meets its contract: the text of either sign (`Signed`).
 use native.Mathlib.Omega.{arith}
 use borrow.Author.Needs.{needs}
 use lib.Signed.{natAbs-le}
 use mir.Syntax.{w64}
 use mir.ValLaws.{toZ-ofZ}
-use Rattle.base_text.proofs.Signed.{not-negative, negative, other}
-use Rattle.base_text.proofs.spell_signed.Statement.{statement}
-use Rattle.base_text.proofs.spell_signed.Tie as tie
+use Rattle.base_digits.proofs.Signed.{not-negative, negative, other}
+use Rattle.base_digits.proofs.spell_signed.Statement.{statement}
+use Rattle.base_digits.proofs.spell_signed.Tie as tie
 
 magnitude-requires : tie.Need-magnitude-requires
 magnitude-requires c κs = search needs

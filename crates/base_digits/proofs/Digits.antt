@@ -13,7 +13,7 @@ use lib.Signed.{mag}
 use borrow.Author.Tests.{lt-ltb, le-ltb, le-leb}
 use Rattle.base_lists.specs.Lists.{all}
 use Rattle.base_lists.proofs.Bools.{both, lt-or-le}
-use Rattle.base_text.specs.Digits.{digits, dec, decimal, valueFrom, value, isDigit}
+use Rattle.base_digits.specs.Digits.{digits, dec, decimal, valueFrom, value, isDigit}
 
 -- more divisions than are needed change nothing
 enough : (j k n : ℕ) → n < j → n < k → digits j n ≡ digits k n

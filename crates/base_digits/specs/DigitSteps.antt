@@ -2,7 +2,7 @@
 use Prim.Native.Nat.{ℕ, _-_}
 use mathlib.Core.List.{List, _++_}
 use lib.ListN.{length, replicate}
-use Rattle.base_text.specs.declared.Spelt.{Spelt}
+use Rattle.base_digits.specs.declared.Spelt.{Spelt}
 
 -- the bytes end in the text, with noughts before it
 unfoldable pub speltOf : List ℕ → Spelt

@@ -1,8 +1,8 @@
 -- `host_entries::hp_baseline` meets the demands, by its contract.
 use borrow.Author.Needs.{needs}
 use Rattle.demands.proofs.Entries.{file-entry}
-use Rattle.demands.proofs.entry_of_file.Statement.{statement}
-use Rattle.demands.proofs.entry_of_file.Tie as tie
+use Rattle.demands_calls.proofs.entry_of_file.Statement.{statement}
+use Rattle.demands_calls.proofs.entry_of_file.Tie as tie
 
 hp-baseline-requires : tie.Need-hp-baseline-requires
 hp-baseline-requires c κs = search needs

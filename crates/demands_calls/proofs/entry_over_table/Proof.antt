@@ -1,8 +1,8 @@
 -- `host_entries::hp_baseline_table` meets the demands, by its contract.
 use borrow.Author.Needs.{needs}
 use Rattle.demands.proofs.Entries.{table-entry}
-use Rattle.demands.proofs.entry_over_table.Statement.{statement}
-use Rattle.demands.proofs.entry_over_table.Tie as tie
+use Rattle.demands_calls.proofs.entry_over_table.Statement.{statement}
+use Rattle.demands_calls.proofs.entry_over_table.Tie as tie
 
 hp-baseline-table-requires : tie.Need-hp-baseline-table-requires
 hp-baseline-table-requires c κs = search needs

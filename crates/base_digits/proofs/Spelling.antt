@@ -6,10 +6,10 @@ use mathlib.Core.List.{List, _∷_, _++_}
 use native.Mathlib.Omega.{arith}
 use lib.ListN.{length, drop, set, replicate, length-append, length-replicate}
 use lib.Seq.{append-snoc, set-at, drop-at}
-use Rattle.base_text.specs.declared.Spelt.{Spelt}
-use Rattle.base_text.specs.Digits.{dec}
-use Rattle.base_text.specs.DigitSteps.{speltOf}
-use Rattle.base_text.proofs.Digits.{dec-small, dec-step, dec-some, dec-length-64}
+use Rattle.base_digits.specs.declared.Spelt.{Spelt}
+use Rattle.base_digits.specs.Digits.{dec}
+use Rattle.base_digits.specs.DigitSteps.{speltOf}
+use Rattle.base_digits.proofs.Digits.{dec-small, dec-step, dec-some, dec-length-64}
 
 -- the last nought before a text, and that nought overwritten
 last-nought : (k : ℕ) (t : List ℕ) → replicate (suc k) 0 ++ t ≡ replicate k 0 ++ (0 ∷ t)

@@ -12,9 +12,9 @@ use mir.Syntax.{w64}
 use mir.Val.{SFits, toZ, ofZ}
 use mir.ValLaws.{toZ-ofZ}
 use borrow.Author.Tests.{le-ltb, ltb-true}
-use Rattle.base_text.specs.declared.Spelt.{Spelt}
-use Rattle.base_text.specs.Digits.{dec, decimal}
-use Rattle.base_text.specs.DigitSteps.{speltOf}
+use Rattle.base_digits.specs.declared.Spelt.{Spelt}
+use Rattle.base_digits.specs.Digits.{dec, decimal}
+use Rattle.base_digits.specs.DigitSteps.{speltOf}
 
 -- one less than the magnitude
 minus : (z : ℤ) → z <ℤ pos 0 → negsuc 0 -ℤ z ≡ pos (mag z)

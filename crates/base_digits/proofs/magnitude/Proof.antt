@@ -1,8 +1,8 @@
--- `base_text::magnitude` meets its contract: the laws of a negative word (`Signed`).
+-- `base_digits::magnitude` meets its contract: the laws of a negative word (`Signed`).
 use native.Mathlib.Omega.{arith}
-use Rattle.base_text.proofs.Signed.{one-less, read-back, one-more}
-use Rattle.base_text.proofs.magnitude.Statement.{statement}
-use Rattle.base_text.proofs.magnitude.Tie as tie
+use Rattle.base_digits.proofs.Signed.{one-less, read-back, one-more}
+use Rattle.base_digits.proofs.magnitude.Statement.{statement}
+use Rattle.base_digits.proofs.magnitude.Tie as tie
 
 sub-result : tie.Need-sub-result
 sub-result c = rw (one-less (c .args .z) (c .fits .z) (c .pre)) (record { sfits = c .fits .z .sfits })

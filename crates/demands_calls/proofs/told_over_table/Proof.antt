@@ -1,9 +1,9 @@
 -- `host_entries::hp_told_table` tells what the answer that meets the demands tells, by its contract.
 use borrow.Author.Needs.{needs}
 use Rattle.host_telling.proofs.Telling.{back}
 use Rattle.demands.proofs.Entries.{table-tells}
-use Rattle.demands.proofs.told_over_table.Statement.{statement}
-use Rattle.demands.proofs.told_over_table.Tie as tie
+use Rattle.demands_calls.proofs.told_over_table.Statement.{statement}
+use Rattle.demands_calls.proofs.told_over_table.Tie as tie
 
 hp-told-table-requires : tie.Need-hp-told-table-requires
 hp-told-table-requires c κs = search needs

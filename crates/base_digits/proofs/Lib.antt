@@ -1,0 +1,4 @@
+pub mod Digits
+mod Signed
+pub mod Spelling
+mod DigitExamples
