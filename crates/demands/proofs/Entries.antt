@@ -28,8 +28,8 @@ use Rattle.file_baseline.specs.Output.{bytesWritten}
 use Rattle.file_baseline.proofs.Laws.{file-answers-unique}
 use Rattle.file_baseline.proofs.Rooms.{room-enough}
 use Rattle.file_baseline.specs.Reply.{fileReply}
-use Rattle.host_telling.specs.Names.{byName, refusalRow, rowFrom}
-use Rattle.host_telling.specs.Telling.{answerRow, toldBy}
+use Rattle.host_answer.specs.Names.{byName, refusalRow, rowFrom}
+use Rattle.host_answer.specs.Telling.{answerRow, toldBy}
 use Rattle.host_entries.specs.Host.{mostBytes, FileCall, TableCall}
 use Rattle.demands.specs.Calls.{Call, overTable, ofFile, extract, request, room, result}
 use Rattle.demands.specs.Rows.{fileRows}

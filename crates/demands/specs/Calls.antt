@@ -11,7 +11,7 @@ use Rattle.engine_answer.specs.declared.Given.the-variants.{Answered, Refused}
 use Rattle.engine_answer.specs.declared.Answer.{Answer}
 use Rattle.engine_answer.specs.Answer.{Answers}
 use Rattle.file_baseline.specs.Output.{FileAnswers}
-use Rattle.host_telling.specs.Telling.{numberOf}
+use Rattle.host_answer.specs.Telling.{numberOf}
 use Rattle.base_bytes.specs.Bytes.{readingBytes}
 
 -- a request over a lent table (`table_baseline::baseline`, and `hp_baseline_table` for C), or the event at a place of a file (`file_baseline::file_baseline`, and

@@ -4,7 +4,7 @@ use mathlib.Core.Path.{_≡_}
 use mathlib.Core.List.{List}
 use lib.IntN.{ℤ, pos}
 use Rattle.engine_answer.specs.declared.Answer.{Answer}
-use Rattle.host_telling.specs.Telling.{toldBy}
+use Rattle.host_answer.specs.Telling.{toldBy}
 use Rattle.demands.specs.Calls.{Call, result}
 use Rattle.demands.specs.Demands.{Demands}
 

@@ -7,10 +7,10 @@ use Rattle.method.specs.Verdict.{Reply}
 use Rattle.engine_answer.specs.declared.Answer.{Answer}
 use Rattle.engine_answer.specs.Answer.{answerOf, Answers}
 use Rattle.file_baseline.specs.Output.{FileAnswers}
-use Rattle.host_telling.specs.Telling.{numberOf, toldBy}
+use Rattle.host_answer.specs.Telling.{numberOf, toldBy}
 use Rattle.listing_whole.specs.declared.Listed.{Listed}
 use Rattle.listing_whole.specs.Lists.{Lists}
-use Rattle.host_telling.specs.OfFile.{listedTold}
+use Rattle.host_file.specs.OfFile.{listedTold}
 use Rattle.host_entries.specs.Host.{TableCall, FileCall, ListingCall}
 
 module _ {reply : Reply} {answer : Answer} {r : ℕ} {out out′ : List ℕ} (n : r ≡ numberOf (answer .given)) where

@@ -12,8 +12,8 @@ use Rattle.engine_answer.specs.Answer.{answerOf}
 use Rattle.file_baseline.specs.Output.{bytesWritten}
 use Rattle.listing_lines.specs.Listing.{listing}
 use Rattle.listing_whole.specs.Lists.{listedIn}
-use Rattle.host_telling.specs.Telling.{numberOf}
-use Rattle.host_telling.specs.OfFile.{listedTold}
+use Rattle.host_answer.specs.Telling.{numberOf}
+use Rattle.host_file.specs.OfFile.{listedTold}
 
 -- room for the numerators of any event, four bytes each
 abbrev pub mostBytes : ℕ

@@ -9,8 +9,8 @@ ghost use Rattle.table_days.specs.Part.{partPlace};
 ghost use Rattle.file_record.specs.Reader.{readFile, eventAtPlace};
 ghost use Rattle.engine_answer.specs.Answer.{answerOf};
 ghost use Rattle.file_baseline.specs.Reply.{fileReply};
-ghost use Rattle.host_telling.specs.Telling.{toldBy};
-ghost use Rattle.host_telling.specs.OfFile.{fileTold, eventTold, placeTold};
+ghost use Rattle.host_answer.specs.Telling.{toldBy};
+ghost use Rattle.host_file.specs.OfFile.{fileTold, eventTold, placeTold};
 ghost use Rattle.host_entries.specs.Host.{mostBytes, requestOf, TableCall, FileCall, ListingCall};
 use method::Request;
 
@@ -24,7 +24,7 @@ pub extern "C" fn hp_baseline(file: &[u8], place: usize, out: &mut [u8]) -> u32
 {
     let answer = file_baseline::file_baseline(file, place, out);
     let given = answer.given;
-    host_telling::number_of(given)
+    host_answer::number_of(given)
 }
 
 // What that result tells by name, with room for any event.
@@ -34,7 +34,7 @@ pub extern "C" fn hp_told(file: &[u8], place: usize, name: u32) -> i64
 {
     let mut out = [0u8; MOST_BYTES];
     let file_answer = file_baseline::file_baseline(file, place, &mut out);
-    host_telling::tell(file_answer, name)
+    host_answer::tell(file_answer, name)
 }
 
 fn request_of(participation: u32, event: u32, s: u32, e: u32, n: u32) -> Request
@@ -67,7 +67,7 @@ pub extern "C" fn hp_baseline_table(
     let request = request_of(participation, event, s, e, n);
     let table_answer = table_baseline::baseline(first, marks, readings, request, out);
     let given = table_answer.given;
-    host_telling::number_of(given)
+    host_answer::number_of(given)
 }
 
 // What that result tells by name, with room for any event.
@@ -88,7 +88,7 @@ pub extern "C" fn hp_told_table(
     let request = request_of(participation, event, s, e, n);
     let mut out = [0u32; method::QUARTERS];
     let answer = table_baseline::baseline(first, marks, readings, request, &mut out);
-    host_telling::tell(answer, name)
+    host_answer::tell(answer, name)
 }
 
 // The place of a day's first reading in a table in memory.
@@ -97,7 +97,7 @@ pub extern "C" fn hp_day_part(first: u32, marks: &[u8], readings: &[u32], day: u
     ensures { λ r. ⌜ r ≡ placeTold (partPlace (tableOf first (now (marks .entry)) (now (readings .entry))) day) ⌝ }
 {
     let place = table_days::part_place(first, marks, readings, day);
-    host_telling::tell_place(place)
+    host_file::tell_place(place)
 }
 
 // What a record file tells by name: what it holds, or refusal 11.
@@ -106,7 +106,7 @@ pub extern "C" fn hp_file(file: &[u8], name: u32) -> i64
     ensures { λ r. ⌜ r ≡ fileTold (readFile (now (file .entry))) name ⌝ }
 {
     let read = file_reading::read_file(file);
-    host_telling::tell_file(read, name)
+    host_file::tell_file(read, name)
 }
 
 // What the event at a place of a record file tells by name: the event, or refusal 11 or 12.
@@ -115,7 +115,7 @@ pub extern "C" fn hp_event(file: &[u8], place: usize, name: u32) -> i64
     ensures { λ r. ⌜ r ≡ eventTold (eventAtPlace (readFile (now (file .entry))) (now (file .entry)) place) name ⌝ }
 {
     let at = file_events::event_at(file, place);
-    host_telling::tell_event(at, name)
+    host_file::tell_event(at, name)
 }
 
 // The listing of a record file: its length, and the text into `out`; minus 7 where it does not fit.
@@ -124,5 +124,5 @@ pub extern "C" fn hp_listing(file: &[u8], out: &mut [u8]) -> i64
     ensures { λ r. ⌜ ListingCall (now (file .entry)) r (now (out .entry)) (now (out .exit)) ⌝ }
 {
     let listed = listing_whole::listing(file, out);
-    host_telling::tell_listed(listed)
+    host_file::tell_listed(listed)
 }

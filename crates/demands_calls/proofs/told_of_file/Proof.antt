@@ -1,6 +1,6 @@
 -- `host_entries::hp_told` tells what the answer that meets the demands tells, by its contract.
 use borrow.Author.Needs.{needs}
-use Rattle.host_telling.proofs.Telling.{back}
+use Rattle.host_answer.proofs.Telling.{back}
 use Rattle.demands.proofs.Entries.{file-tells}
 use Rattle.demands_calls.proofs.told_of_file.Statement.{statement}
 use Rattle.demands_calls.proofs.told_of_file.Tie as tie

@@ -1,6 +1,6 @@
 -- `host_entries::hp_told_table` tells what the answer that meets the demands tells, by its contract.
 use borrow.Author.Needs.{needs}
-use Rattle.host_telling.proofs.Telling.{back}
+use Rattle.host_answer.proofs.Telling.{back}
 use Rattle.demands.proofs.Entries.{table-tells}
 use Rattle.demands_calls.proofs.told_over_table.Statement.{statement}
 use Rattle.demands_calls.proofs.told_over_table.Tie as tie

@@ -1,6 +1,6 @@
 -- `host_entries::hp_day_part` meets its contract, by those of the part's place and of what is told.
 use borrow.Author.Needs.{needs}
-use Rattle.host_telling.proofs.Telling.{back}
+use Rattle.host_answer.proofs.Telling.{back}
 use Rattle.host_entries.proofs.hp_day_part.Statement.{statement}
 use Rattle.host_entries.proofs.hp_day_part.Tie as tie
 

@@ -1,6 +1,6 @@
 -- `host_entries::hp_listing` meets its contract, by those of the listing and of what is told.
 use borrow.Author.Needs.{needs}
-use Rattle.host_telling.proofs.Telling.{back}
+use Rattle.host_answer.proofs.Telling.{back}
 use Rattle.host_entries.proofs.Calls.{listing-call}
 use Rattle.host_entries.proofs.hp_listing.Statement.{statement}
 use Rattle.host_entries.proofs.hp_listing.Tie as tie

@@ -1,0 +1,53 @@
+-- What a caller written in C is told of a file, of an event in it, of the part of a day, and of a listing, by include/honeyplank.h.
+use Prim.Native.Nat.{ℕ}
+use mathlib.Core.List.{List, [], _∷_}
+use lib.IntN.{ℤ, pos, negsuc}
+use Rattle.method.specs.declared.Request.{Request}
+use Rattle.method.specs.declared.Refusal.the-variants.{BadFile, NoEvent}
+use Rattle.file_record.specs.declared.Shape.{Shape}
+use Rattle.file_record.specs.declared.Read.{Read}
+use Rattle.file_record.specs.declared.Read.the-variants.{File, Refused}
+use Rattle.file_record.specs.declared.EventAt.{EventAt}
+use Rattle.file_record.specs.declared.EventAt.the-variants.{Event, NoEvent as NoneThere, Refused as RefusedEvent}
+use Rattle.listing_whole.specs.declared.Listed.{Listed}
+use Rattle.listing_whole.specs.declared.Listed.the-variants.{Length, DoesNotFit}
+use Rattle.table_days.specs.declared.Place.{Place}
+use Rattle.table_days.specs.declared.Place.the-variants.{Nowhere, From}
+use Rattle.host_answer.specs.Names.{untold, byName, refusalRow, rowFrom}
+
+-- from HP_FILE_PARTICIPATION on, which is 12: P, the portfolio number, F, h and the number of events
+unfoldable pub shapeRow : Shape → List ℤ
+shapeRow shape =
+    rowFrom 12
+    (pos (shape .participation) ∷ pos (shape .portfolio) ∷ pos (shape .first) ∷ pos (shape .days) ∷ pos (shape .events) ∷ [])
+
+abbrev pub fileRow : Read → List ℤ
+fileRow (File shape) = shapeRow shape
+fileRow (Refused at) = refusalRow (BadFile at)
+
+-- what a file tells by name; refused, it is 11: "file not as laid down"
+unfoldable pub fileTold : Read → ℕ → ℤ
+fileTold read name = byName (fileRow read) name
+
+-- from HP_EVENT_DAY on, which is 17: D, s, e and n
+unfoldable pub requestRow : Request → List ℤ
+requestRow r = rowFrom 17 (pos (r .event) ∷ pos (r .s) ∷ pos (r .e) ∷ pos (r .n) ∷ [])
+
+abbrev pub eventRow : EventAt → List ℤ
+eventRow (Event request) = requestRow request
+eventRow NoneThere = refusalRow NoEvent
+eventRow (RefusedEvent at) = refusalRow (BadFile at)
+
+-- what an event tells by name; refused, it is 11, or 12: "no event at that place"
+unfoldable pub eventTold : EventAt → ℕ → ℤ
+eventTold at name = byName (eventRow at) name
+
+-- the place of a day's first reading
+abbrev pub placeTold : Place → ℤ
+placeTold Nowhere = untold
+placeTold (From at) = pos at
+
+-- the length of a listing; -HP_NO_ROOM, which is -7, where it does not fit
+abbrev pub listedTold : Listed → ℤ
+listedTold (Length size) = pos size
+listedTold DoesNotFit = negsuc 6
