@@ -30,7 +30,7 @@ use Rattle.method.proofs.Ruler.{start-size, quarter-from}
 use Rattle.engine_rooms.specs.declared.Directory.{Directory}
 use Rattle.engine_rooms.specs.Rooms.{readingsAt, roomDay, roomHistory}
 use Rattle.base_lists.proofs.Places.{length-over, over-same, over-shift, over-list}
-use Rattle.engine_numerators.specs.QuarterSteps.{quarterSum}
+use Rattle.engine_sums.specs.QuarterSteps.{quarterSum}
 use Rattle.engine_numerators.specs.declared.Places.{Places}
 use Rattle.engine_numerators.specs.NumeratorSteps.{windowSums, placedOf, chosenAt, adjustmentOf, numeratorsOf, Written}
 use Rattle.engine_numerators.proofs.Signed.{mag-difference}

@@ -23,8 +23,8 @@ use Rattle.method_laws.proofs.Window.{full-size, size-below}
 use Rattle.method_laws.proofs.Sort.{member-sorted, length-sorted}
 use Rattle.method_laws.proofs.Requested.{lawful}
 use Rattle.base_lists.proofs.Places.{at-place}
-use Rattle.engine_choice.specs.declared.SpareOrder.{SpareOrder}
-use Rattle.engine_choice.specs.declared.SpareOrder.the-variants.{Highest, Latest}
+use Rattle.engine_look_back.specs.declared.SpareOrder.{SpareOrder}
+use Rattle.engine_look_back.specs.declared.SpareOrder.the-variants.{Highest, Latest}
 use Rattle.engine_choice.specs.declared.Rules.{Rules as Numbers}
 use Rattle.engine_choice.specs.Steps.{inOrder, bySize, Sound, Follows}
 

@@ -1,6 +1,3 @@
-pub mod Days
-pub mod Judging
-pub mod Looking
 pub mod Five
 pub mod Followed
 pub mod HighXofY

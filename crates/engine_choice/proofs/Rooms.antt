@@ -1,7 +1,7 @@
 -- A directory whose rooms say of the days before an event what a history holds gives the same outcome.
 use Prim.Native.Nat.{ℕ, _+_, _-_, _≤_, _<_, min}
 use mathlib.Core.Path.{_≡_, sym, ap, _∙_}
-use mathlib.Core.Bool.{true, false, _&&_}
+use mathlib.Core.Bool.{Bool, true, false, _&&_}
 use mathlib.Core.List.{List}
 use mathlib.Core.Logic.{⊎-elim}
 use native.Mathlib.Omega.{arith}
@@ -25,10 +25,10 @@ use Rattle.engine_rooms.specs.declared.Directory.{Directory}
 use Rattle.engine_rooms.specs.Rooms.{heldRooms, roomHistory}
 use Rattle.engine_rooms.specs.Agree.{Agree}
 use Rattle.engine_rooms.proofs.Held.{event-held, event-not}
-use Rattle.engine_choice.specs.Steps.{nearest, roomsOf}
-use Rattle.engine_choice.proofs.Days.{seen-nearest}
+use Rattle.engine_look_back.specs.Steps.{nearest, roomsOf, roomsBefore}
+use Rattle.engine_look_back.proofs.Days.{seen-nearest}
 use Rattle.engine_relevant.proofs.Reaching.{short-of-reach, reach-most}
-use Rattle.engine_choice.proofs.WholeChoice.{roomsBefore, before-first, not-after, seen-rooms}
+use Rattle.engine_choice.proofs.WholeChoice.{before-first, not-after, seen-rooms}
 
 -- two histories that show the same days, and both or neither of which begins after a relevant day
 module _ {A O : Type 0} (m : Method A O) (h l : History A) (sees : seen m h ≡ seen m l)
@@ -40,16 +40,16 @@ module _ {A O : Type 0} (m : Method A O) (h l : History A) (sees : seen m h ≡ 
   unfolding isShort eligibles
   same-short i = ltb (length (keep (λ (p : ℕ × A). m .eligible (p .1)) (sees i))) (m .most) && begins i
 
-module _ (group : ℕ → Group) (r : Request) where
+module _ (test : ℕ → Bool) (r : Request) where
   -- days that hold the same are seen alike
-  pub nearest-same : (f g : ℕ → Day) (k : ℕ) → ((i : ℕ) → i ≤ k → f (r .event - i) ≡ g (r .event - i)) → nearest group r f k ≡ nearest group r g k
+  pub nearest-same : (f g : ℕ → Day) (k : ℕ) → ((i : ℕ) → i ≤ k → f (r .event - i) ≡ g (r .event - i)) → nearest test r f k ≡ nearest test r g k
   unfolding nearest
   nearest-same f g k same =
-      map-same {B = ℕ × Day} (λ d. (d, f d)) (λ d. (d, g d)) (keep (relevant group r) (daysBefore k (r .event))) each
+      map-same {B = ℕ × Day} (λ d. (d, f d)) (λ d. (d, g d)) (keep test (daysBefore k (r .event))) each
     where
-      each : (d : ℕ) → member d (keep (relevant group r) (daysBefore k (r .event))) ≡ true → _≡_ {A = ℕ × Day} (d, f d) (d, g d)
+      each : (d : ℕ) → member d (keep test (daysBefore k (r .event))) ≡ true → _≡_ {A = ℕ × Day} (d, f d) (d, g d)
       each d m =
-          let i = daysBefore-is k (r .event) d .0 (kept-member (relevant group r) (daysBefore k (r .event)) d m) in
+          let i = daysBefore-is k (r .event) d .0 (kept-member test (daysBefore k (r .event)) d m) in
           let e : r .event - (r .event - d) ≡ d = omega arith in
           let o : r .event - d ≤ k = omega arith in
           ap (λ (x : Day). (d, x)) (rw e at (same (r .event - d) o))
@@ -90,8 +90,8 @@ module _ (group : ℕ → Group) {r : Request} {rooms : Directory} {readings : L
     pub rooms-seen : seen (methodOf group r) (roomHistory r rooms readings) ≡ seen (methodOf group r) h
     unfolding methodOf
     rooms-seen =
-        seen-rooms group r rooms readings (rulesOf (group (r .event)) r) ∙ ap (nearest group r (roomsOf r rooms readings)) before-is
-        ∙ nearest-same group r (roomsOf r rooms readings) (h .day) (min 45 (r .event - h .first)) (λ i o. same-day i (omega arith) (omega arith))
+        seen-rooms group r rooms readings (rulesOf (group (r .event)) r) ∙ ap (nearest (relevant group r) r (roomsOf r rooms readings)) before-is
+        ∙ nearest-same (relevant group r) r (roomsOf r rooms readings) (h .day) (min 45 (r .event - h .first)) (λ i o. same-day i (omega arith) (omega arith))
         ∙ sym (seen-nearest group r h (rulesOf (group (r .event)) r) (omega (arith, held-last h (r .event) holds)))
 
     rooms-begin : any (λ d. ltb d (roomHistory r rooms readings .first)) (methodOf group r .relevant) ≡ any (λ d. ltb d (h .first)) (methodOf group r .relevant)

@@ -12,12 +12,13 @@ use lib.Dec.{ltb, eqb}
 use borrow.Author.Tests.{lt-ltb, le-ltb, eq-eqb, ne-eqb}
 use Rattle.base_lists.specs.Lists.{all, keep}
 use Rattle.base_lists.proofs.All.{all-append, all-take}
-use Rattle.base_lists.proofs.Bools.{lt-or-le}
+use Rattle.base_lists.proofs.Bools.{lt-or-le, same-test}
 use Rattle.base_lists.proofs.Maps.{map-take}
 use Rattle.base_lists.proofs.Parts.{take-within}
 use Rattle.calendar_groups.specs.declared.Group.{Group}
 use Rattle.method.specs.declared.Request.{Request}
 use Rattle.method.specs.Table.{Day, History}
+use Rattle.method.specs.Relevant.{relevant}
 use Rattle.method.specs.Method.{Method, daysOf, wholeReach, seen, eligibles, spares, window, chosen, reach, isShort}
 use Rattle.method.specs.Eligible.{eligible, spare, higher}
 use Rattle.method.specs.Adjustment.{Baseline}
@@ -30,17 +31,21 @@ use Rattle.engine_ranking.specs.Steps.{word, sortDown, insertAll}
 use Rattle.engine_ranking.proofs.Rank.{lookedBack, take-padded, first-words, ranks-of-row, row-with}
 use Rattle.engine_rooms.specs.declared.Directory.{Directory}
 use Rattle.engine_rooms.specs.Rooms.{heldRooms, roomHistory}
-use Rattle.engine_relevant.proofs.Reaching.{short-of-reach}
-use Rattle.engine_choice.specs.declared.SpareOrder.{SpareOrder}
-use Rattle.engine_choice.specs.declared.SpareOrder.the-variants.{Highest, Latest}
+use Rattle.engine_relevant.proofs.Relevance.{relevant-to}
+use Rattle.engine_relevant.proofs.Reaching.{short-of-reach, reach-most}
+use Rattle.engine_look_back.specs.declared.SpareOrder.{SpareOrder}
+use Rattle.engine_look_back.specs.declared.SpareOrder.the-variants.{Highest, Latest}
 use Rattle.engine_choice.specs.declared.Rules.{Rules as Numbers}
-use Rattle.engine_choice.specs.declared.Found.{Found}
+use Rattle.engine_look_back.specs.declared.Found.{Found}
 use Rattle.engine_choice.specs.declared.Choosing.the-variants.{Short, Few, Days}
 use Rattle.engine_choice.specs.declared.Choice.{Choice}
 use Rattle.engine_choice.specs.Choice.{inFive}
 use Rattle.engine_choice.specs.Steps.{choiceOf, noDays}
-use Rattle.engine_choice.specs.Steps.{Follows, inOrder, nearest, roomsOf, eligibleOf, spareOf, rowOf, spareRow, Enough, daysIn, picked, fillers, amongFew}
-use Rattle.engine_choice.proofs.Days.{seen-nearest, nearest-back, all-keep}
+use Rattle.engine_choice.specs.Steps.{Follows, inOrder, daysIn, picked, fillers, amongFew}
+use Rattle.engine_look_back.specs.Steps.{roomsOf, roomsBefore, nearest, heldDays, upTo, eligibleOf, spareOf, rowOf, spareRow, Looked}
+use Rattle.engine_look_back.proofs.Held.{before-is, before-most}
+use Rattle.engine_look_back.proofs.Enough.{Enough, enough}
+use Rattle.engine_look_back.proofs.Days.{seen-nearest, nearest-back, all-keep}
 use Rattle.engine_choice.proofs.Followed.{order-length, passed-at, taken-at, taken-within, lawful-by}
 
 -- The first words of a row of spare days are those of the days that fill a shortage
@@ -260,19 +265,7 @@ module _ (group : ℕ → Group) {r : Request} {rules : Rules} {numbers : Number
 
 -- Over a directory
 
--- how many days are held before the event
-unfoldable pub roomsBefore : Request → Directory → ℕ
-roomsBefore r rooms = heldRooms r rooms - 1
-
-pub before-is : (r : Request) (rooms : Directory) {a b k : ℕ} → a ≡ rooms .held - 1 → b ≡ min 45 (r .event) → k ≡ min a b → k ≡ roomsBefore r rooms
-unfolding roomsBefore heldRooms
-before-is r rooms e f g = omega arith
-
 module _ (r : Request) (rooms : Directory) (readings : List ℕ) where
-  within-45 : roomsBefore r rooms ≤ 45
-  unfolding roomsBefore heldRooms
-  within-45 = omega arith
-
   within-event : heldRooms r rooms ≤ r .event + 1
   unfolding heldRooms
   within-event = omega arith
@@ -291,38 +284,58 @@ module _ (r : Request) (rooms : Directory) (readings : List ℕ) where
 
 module _ (group : ℕ → Group) (r : Request) (rooms : Directory) (readings : List ℕ) where
   pub seen-rooms : (rules : Rules)
-      → seen (methodBy group r rules) (roomHistory r rooms readings) ≡ nearest group r (roomsOf r rooms readings) (roomsBefore r rooms)
+      → seen (methodBy group r rules) (roomHistory r rooms readings) ≡ nearest (relevant group r) r (roomsOf r rooms readings) (roomsBefore r rooms)
   unfolding roomHistory
   seen-rooms rules =
-      let e : min 45 (r .event - roomHistory r rooms readings .first) ≡ roomsBefore r rooms = omega (arith, within-45 r rooms readings, before-first r rooms readings) in
-      seen-nearest group r (roomHistory r rooms readings) rules (up-to-event r rooms readings) ∙ ap (nearest group r (roomsOf r rooms readings)) e
+      let e : min 45 (r .event - roomHistory r rooms readings .first) ≡ roomsBefore r rooms = omega (arith, before-most r rooms, before-first r rooms readings) in
+      seen-nearest group r (roomHistory r rooms readings) rules (up-to-event r rooms readings) ∙ ap (nearest (relevant group r) r (roomsOf r rooms readings)) e
 
   module _ {rules : Rules} {numbers : Numbers} (f : Follows r rules numbers) (found : Found)
-      (q : Enough r (numbers .most) (numbers .spares) (nearest group r (roomsOf r rooms readings) (roomsBefore r rooms)) found) where
+      (q : Enough r (numbers .most) (numbers .spares) (nearest (relevant group r) r (roomsOf r rooms readings) (roomsBefore r rooms)) found) where
     pub choose-full : numbers .most ≤ found .count
         → picked (r .event) numbers (found .eligible) (numbers .most) (found .oldest) ≡ choiceOf (methodBy group r rules) (roomHistory r rooms readings)
     choose-full =
-        full-choice group f (roomHistory r rooms readings) (nearest group r (roomsOf r rooms readings) (roomsBefore r rooms)) found (seen-rooms rules)
-        (nearest-back group r (roomsOf r rooms readings) (roomsBefore r rooms) (within-45 r rooms readings)) q
+        full-choice group f (roomHistory r rooms readings) (nearest (relevant group r) r (roomsOf r rooms readings) (roomsBefore r rooms)) found (seen-rooms rules)
+        (nearest-back (relevant group r) r (roomsOf r rooms readings) (roomsBefore r rooms) (before-most r rooms)) q
 
     pub choose-few : found .count < numbers .most
         → amongFew r numbers found (roomsBefore r rooms) (wholeReach (methodBy group r rules)) ≡ choiceOf (methodBy group r rules) (roomHistory r rooms readings)
     choose-few less =
         ap (λ (n : ℕ). amongFew r numbers found n (wholeReach (methodBy group r rules))) (sym (before-first r rooms readings))
-        ∙ few-choice group f (roomHistory r rooms readings) (nearest group r (roomsOf r rooms readings) (roomsBefore r rooms)) found (seen-rooms rules)
-        (nearest-back group r (roomsOf r rooms readings) (roomsBefore r rooms) (within-45 r rooms readings)) q less (not-after r rooms readings)
+        ∙ few-choice group f (roomHistory r rooms readings) (nearest (relevant group r) r (roomsOf r rooms readings) (roomsBefore r rooms)) found (seen-rooms rules)
+        (nearest-back (relevant group r) r (roomsOf r rooms readings) (roomsBefore r rooms) (before-most r rooms)) q less (not-after r rooms readings)
+
+-- no relevant day lies beyond the look back: days held further back play no part in the test of the whole reach
+module _ (group : ℕ → Group) (r : Request) (rooms : Directory) where
+  reach-event : wholeReach (methodOf group r) ≤ r .event
+  unfolding wholeReach methodOf methodBy
+  reach-event = omega arith
+
+  held-test : ltb (rooms .held - 1) (wholeReach (methodOf group r)) ≡ ltb (roomsBefore r rooms) (wholeReach (methodOf group r))
+  held-test = rw (sym (before-is r rooms)) (same (wholeReach (methodOf group r)) (reach-most group r) reach-event)
+    where
+      same : (far : ℕ) → far ≤ 45 → far ≤ r .event → ltb (rooms .held - 1) far ≡ ltb (min (rooms .held - 1) (min 45 (r .event))) far
+      same far a b = same-test (rooms .held - 1) far (min (rooms .held - 1) (min 45 (r .event))) far (omega arith) (omega arith)
+
+  few-held : (numbers : Numbers) (found : Found)
+      → amongFew r numbers found (rooms .held - 1) (wholeReach (methodOf group r)) ≡ amongFew r numbers found (roomsBefore r rooms) (wholeReach (methodOf group r))
+  unfolding amongFew
+  few-held numbers found = rw held-test
 
 -- By the request's own rules
 
-module _ (group : ℕ → Group) (r : Request) (rooms : Directory) (readings : List ℕ) {g : Group} {numbers : Numbers} {before : ℕ} (found : Found)
-    (own : g ≡ group (r .event)) (f : Follows r (rulesOf g r) numbers) (held : before ≡ roomsBefore r rooms)
-    (q : Enough r (numbers .most) (numbers .spares) (nearest group r (roomsOf r rooms readings) before) found) where
+module _ (group : ℕ → Group) (r : Request) (rooms : Directory) (readings : List ℕ) {g : Group} {numbers : Numbers} (found : Found)
+    (own : g ≡ group (r .event)) (f : Follows r (rulesOf g r) numbers)
+    (q : Looked r (numbers .spares) (upTo (numbers .most) (heldDays group g r rooms readings)) found) where
+  own-days : heldDays group g r rooms readings ≡ nearest (relevant group r) r (roomsOf r rooms readings) (roomsBefore r rooms)
+  own-days i = nearest (λ d. relevant-to group g r d own i) r (roomsOf r rooms readings) (roomsBefore r rooms)
+
   pub request-full : numbers .most ≤ found .count
       → picked (r .event) numbers (found .eligible) (numbers .most) (found .oldest) ≡ choiceOf (methodOf group r) (roomHistory r rooms readings)
   unfolding methodOf
-  request-full = choose-full group r rooms readings (rw own at f) found (rw held at q)
+  request-full = choose-full group r rooms readings (rw own at f) found (enough (rw own-days at q))
 
-  pub request-few : found .count < numbers .most
+  pub request-few : {before : ℕ} → before ≡ rooms .held - 1 → found .count < numbers .most
       → amongFew r numbers found before (wholeReach (methodOf group r)) ≡ choiceOf (methodOf group r) (roomHistory r rooms readings)
   unfolding methodOf
-  request-few less = rw held (choose-few group r rooms readings (rw own at f) found (rw held at q) less)
+  request-few held less = rw held (few-held group r rooms numbers found ∙ choose-few group r rooms readings (rw own at f) found (enough (rw own-days at q)) less)

@@ -1,21 +1,18 @@
-// The choice of days over a directory of rooms: which days are relevant, eligible and spare, the window, the chosen days and the reach
-// (document 01, "Choosing the days"). A table, a ring and a shared store make a directory; the choice is the same function.
+// The choice of days over a directory of rooms: the window, the chosen days and the reach (document 01, "Choosing the days"). A table, a ring and
+// a shared store make a directory; the choice is the same function.
 ghost use mathlib.Core.Path.{_≡_};
-ghost use Prim.Native.Nat.{_+_, _-_, _%_, _≤_, _<_};
-ghost use lib.ListN.{length, set};
+ghost use Prim.Native.Nat.{_+_, _≤_, _<_};
 ghost use Rattle.calendar_groups.specs.Holidays.{group as groupOf};
-ghost use Rattle.method.specs.Table.{mostQuarters};
 ghost use Rattle.method.specs.Method.{wholeReach};
 ghost use Rattle.method.specs.Requested.{rulesOf, methodOf};
 ghost use Rattle.engine_rooms.specs.Rooms.{roomHistory};
-ghost use Rattle.engine_judging.specs.Steps.{dayFrom};
 ghost use Rattle.engine_choice.specs.Choice.{inFive};
 ghost use Rattle.engine_choice.specs.Steps.{choiceOf, noDays};
-ghost use Rattle.engine_choice.specs.Steps.{Sound, Follows, firstRanks, roomsOf, nearest, ifRelevant, withSpare, Further, Adds, Enough};
-ghost use Rattle.engine_choice.specs.Steps.{wordDay, daysIn, picked, amongFew};
+ghost use Rattle.engine_choice.specs.Steps.{Sound, Follows, firstRanks, wordDay, daysIn, picked, amongFew};
 use base_numbers::counts;
 use calendar_groups::Group;
-use engine_judging::Judged;
+use engine_look_back::Found;
+use engine_look_back::SpareOrder;
 use engine_rooms::Directory;
 use method::Request;
 
@@ -39,12 +36,6 @@ pub struct Choice {
     pub chosen: Chosen,
 }
 
-// The order in which spare days fill a shortage: the highest first, or the latest.
-enum SpareOrder {
-    Highest,
-    Latest,
-}
-
 // The rules of a request as numbers: Y; up to how many days spares fill the window, and in which order; and by the window's size, 0 to 10, the
 // ranks passed over and the days taken.
 struct Rules {
@@ -53,16 +44,6 @@ struct Rules {
     spares: SpareOrder,
     passed: [u32; 11],
     taken: [u32; 11],
-}
-
-// What was found looking back: the words of eligible days, how many there are, how far back the last of them lies, and the same of spare
-// days but for their place.
-struct Found {
-    eligible: [u64; 10],
-    count: u32,
-    oldest: u32,
-    spare: [u64; 10],
-    spares: u32,
 }
 
 // Rules by which no rank is passed over, and the highest spares fill first.
@@ -87,110 +68,6 @@ fn rules_of(request: Request, group: Group) -> Rules
         Group::Saturday => first_ranks(3, 2, [0, 0, 2, 2, 2, 2, 2, 2, 2, 2, 2]),
         Group::HolidayGroup => first_ranks(3, 2, [0, 0, 2, 2, 2, 2, 2, 2, 2, 2, 2]),
     }
-}
-
-// A row with one more word after the `count` that stand there; it is lost where there is no place for it.
-fn append(row: [u64; 10], count: u32, word: u64) -> [u64; 10]
-    ensures { λ r. ⌜ r ≡ set row count word ⌝ }
-{
-    if count < 10 {
-        let mut next = row;
-        next[count as usize] = word;
-        next
-    } else {
-        row
-    }
-}
-
-// A row of `count` spare days with one more.
-fn with_spare(spares: SpareOrder, row: [u64; 10], count: u32, word: u64) -> [u64; 10]
-    ensures { λ r. ⌜ r ≡ withSpare spares row count word ⌝ }
-{
-    match spares {
-        SpareOrder::Highest => engine_ranking::insert(row, word),
-        SpareOrder::Latest => append(row, count, word),
-    }
-}
-
-// What was found once one more day is looked at, `back` days before the event.
-fn with_day(
-    request: Request,
-    group: Group,
-    spares: SpareOrder,
-    back: u32,
-    mark: u8,
-    part: &[u32],
-    found: Found,
-) -> Found
-    requires { ⌜ (group ≡ groupOf (request .event)) × Further request back found × (length (now part) ≤ mostQuarters) ⌝ }
-    ensures { λ r. ⌜ Adds request spares back (ifRelevant groupOf request (request .event - back, dayFrom mark (now (part .entry)))) found r ⌝ }
-{
-    if engine_relevant::relevant(request, group, request.event - back) {
-        let eligible = found.eligible;
-        let spare = found.spare;
-        match engine_judging::judge(request, mark, part, back) {
-            Judged::Eligible(word) => Found {
-                eligible: engine_ranking::insert(eligible, word),
-                count: found.count + 1,
-                oldest: back,
-                spare,
-                spares: found.spares,
-            },
-            Judged::Spare(word) => Found {
-                eligible,
-                count: found.count,
-                oldest: found.oldest,
-                spare: with_spare(spares, spare, found.spares, word),
-                spares: found.spares + 1,
-            },
-            Judged::Neither => found,
-        }
-    } else {
-        found
-    }
-}
-
-// The look back over the days held before the event, nearest first. It ends at the day that fills the window.
-fn look(
-    request: Request,
-    group: Group,
-    rules: Rules,
-    rooms: Directory,
-    readings: &[u32],
-    before: u32,
-) -> Found
-    requires { ⌜ (group ≡ groupOf (request .event)) × (before ≤ 45) × (before ≤ request .event) ⌝ }
-    ensures { λ r. ⌜ Enough request (rules .most) (rules .spares) (nearest groupOf request (roomsOf request rooms (now (readings .entry))) before) r ⌝ }
-{
-    let spares = rules.spares;
-    let mut found = Found {
-        eligible: [0; 10],
-        count: 0,
-        oldest: 0,
-        spare: [0; 10],
-        spares: 0,
-    };
-    let mut back = 0;
-    while back < before {
-        if found.count == rules.most {
-            return found;
-        }
-        back += 1;
-        let place = back as usize;
-        let size = day_ruler::size(request.event - back);
-        let part = engine_rooms::readings_at(readings, rooms.at[place], size);
-        let next = with_day(
-            request,
-            group,
-            spares,
-            back,
-            rooms.marks[place],
-            part,
-            found,
-        );
-        found = next;
-    }
-    found
 }
 
 // The day of a word.
@@ -251,7 +128,7 @@ fn pick(event: u32, rules: Rules, row: [u64; 10], size: u32, reach: u32) -> Choi
 
 // The choice where the eligible days do not fill the window: spare days are put in, and the reach is that of all relevant days.
 fn choose_among_few(request: Request, rules: Rules, found: Found, before: u32) -> Choice
-    requires { ⌜ Sound rules × (found .count < rules .most) × (found .spares ≤ 45) ⌝ }
+    requires { ⌜ Sound rules × (found .count < rules .most) ⌝ }
     ensures { λ r. ⌜ r ≡ amongFew request rules found before (wholeReach (methodOf groupOf request)) ⌝ }
 {
     let reach = engine_relevant::whole_reach(request);
@@ -272,13 +149,10 @@ pub fn choose(request: Request, rooms: Directory, readings: &[u32]) -> Choice
     let event = request.event;
     let group = calendar_groups::group_of(event);
     let rules = rules_of(request, group);
-    let before = counts::least(
-        counts::minus(rooms.held, 1),
-        counts::least(method::LOOK_BACK, event),
-    );
-    let found = look(request, group, rules, rooms, readings, before);
+    let spares = rules.spares;
+    let found = engine_look_back::look(request, group, rules.most, spares, rooms, readings);
     if found.count < rules.most {
-        choose_among_few(request, rules, found, before)
+        choose_among_few(request, rules, found, counts::minus(rooms.held, 1))
     } else {
         let eligible = found.eligible;
         pick(event, rules, eligible, rules.most, found.oldest)

@@ -1,4 +1,3 @@
-pub mod Adding
 pub mod Signed
 pub mod Windows
 pub mod Standing

@@ -16,7 +16,7 @@ use Rattle.method.specs.Ruler.{rulerStart, against}
 use Rattle.method.specs.Adjustment.{A, B, S}
 use Rattle.engine_rooms.specs.Rooms.{readingsAt}
 use Rattle.engine_adjustment.proofs.Laws.{stands, B-by-days}
-use Rattle.engine_numerators.specs.QuarterSteps.{quarterSum}
+use Rattle.engine_sums.specs.QuarterSteps.{quarterSum}
 use Rattle.engine_numerators.specs.NumeratorSteps.{windowSums}
 
 -- the readings that start at a place are all there, or none is

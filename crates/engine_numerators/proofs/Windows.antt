@@ -18,8 +18,8 @@ use Rattle.base_lists.proofs.Sums.{part-most}
 use Rattle.method.specs.Adjustment.{A, adjustment, unfloored, floored}
 use Rattle.engine_rooms.specs.Rooms.{readingsAt}
 use Rattle.base_lists.proofs.Places.{length-over, at-place, over-same}
-use Rattle.engine_numerators.specs.QuarterSteps.{quarterSum}
-use Rattle.engine_numerators.proofs.Adding.{sum-more}
+use Rattle.engine_sums.specs.QuarterSteps.{quarterSum}
+use Rattle.engine_sums.proofs.Adding.{sum-more}
 use Rattle.engine_numerators.specs.declared.Places.{Places}
 use Rattle.engine_numerators.specs.NumeratorSteps.{windowSums, counted, chosenAt, adjustmentOf, numeratorsOf, Written}
 

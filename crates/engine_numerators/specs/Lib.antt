@@ -1,2 +1,1 @@
-pub mod QuarterSteps
 pub mod NumeratorSteps

@@ -10,7 +10,7 @@ use Rattle.method.specs.Table.{size}
 use Rattle.method.specs.Ruler.{against}
 use Rattle.method.specs.Adjustment.{A, adjustment, unfloored, floored}
 use Rattle.engine_rooms.specs.Rooms.{readingsAt}
-use Rattle.engine_numerators.specs.QuarterSteps.{quarterSum}
+use Rattle.engine_sums.specs.QuarterSteps.{quarterSum}
 use Rattle.engine_numerators.specs.declared.Places.{Places}
 
 -- B: the sum, over days of so many quarters, of the twelve readings that end at a place of the ruler that has the day twice

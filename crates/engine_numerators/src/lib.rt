@@ -1,66 +1,16 @@
-// The sums of quarters, the adjustment and the numerators of days that are read where they stand in lent readings. Total: a day that runs past the
-// end has no readings, and numbers of 32 bits wrap.
+// The adjustment and the numerators of days that are read where they stand in lent readings. Total: a day that runs past the end has no
+// readings, and numbers of 32 bits wrap.
 ghost use mathlib.Core.Path.{_≡_};
 ghost use mathlib.Core.List.{map};
-ghost use Prim.Native.Nat.{_+_, _%_, _^_, min, _≤_, _<_};
+ghost use Prim.Native.Nat.{_+_, _%_, _^_, _≤_, _<_};
 ghost use lib.ListN.{length, getD, take};
 ghost use lib.Signed.{mag};
 ghost use Rattle.base_lists.specs.Lists.{places};
 ghost use Rattle.method.specs.Adjustment.{unfloored, floored, adjustment as adjusted};
-ghost use Rattle.engine_numerators.specs.QuarterSteps.{quarterSum};
 ghost use Rattle.engine_numerators.specs.NumeratorSteps.{windowSums, placedOf, Written};
 use base_numbers::counts;
-use base_numbers::sizes;
 use engine_rooms::Directory;
 use method::Request;
-
-// Every sum becomes nought.
-fn clear(sums: &mut [u32])
-    ensures { λ _. ⌜ now (sums .exit) ≡ map (λ q. 0) (places (length (now (sums .entry))) 0) ⌝ }
-{
-    let mut q = 0;
-    while q < sums.len() {
-        sums[q] = 0;
-        q += 1;
-    }
-}
-
-// The readings of a part are added to the sums, quarter by quarter.
-fn add_part(sums: &mut [u32], part: &[u32])
-    requires { ⌜ length (now part) ≡ length (now sums) ⌝ }
-    ensures { λ _. ⌜ now (sums .exit) ≡ map (λ q. (getD (now (sums .entry)) q 0 + getD (now (part .entry)) q 0) % 2 ^ 32) (places (length (now (sums .entry))) 0) ⌝ }
-{
-    let mut q = 0;
-    while q < sums.len() {
-        sums[q] = std::num::wrapping_add_u32(sums[q], part[q]);
-        q += 1;
-    }
-}
-
-// What a day has from `start` on is added to the sums.
-fn add_day(sums: &mut [u32], day: &[u32], start: usize)
-    ensures { λ _. ⌜ now (sums .exit) ≡ map (λ q. (getD (now (sums .entry)) q 0 + getD (now (day .entry)) (start + q) 0) % 2 ^ 32) (places (length (now (sums .entry))) 0) ⌝ }
-{
-    let from = sizes::least(start, day.len());
-    let length = sizes::least(day.len() - from, sums.len());
-    let end = from + length;
-    let part = &mut sums[..length];
-    add_part(part, &day[from..end]);
-}
-
-// The sums over the first days, at most five and each of `size` readings, of the quarters from `start` on.
-fn sum_days(readings: &[u32], at: [u32; 5], count: usize, size: u32, start: usize, sums: &mut [u32])
-    ensures { λ _. ⌜ now (sums .exit) ≡ map (λ q. quarterSum size (now (readings .entry)) (take (min count 5) at) (start + q) % 2 ^ 32) (places (length (now (sums .entry))) 0) ⌝ }
-{
-    clear(sums);
-    let days = sizes::least(count, 5);
-    let mut k = 0;
-    while k < days {
-        let day = engine_rooms::readings_at(readings, at[k], size);
-        add_day(sums, day, start);
-        k += 1;
-    }
-}
 
 // Where the chosen days stand, how many of the five they are, how many quarters each has, where the adjustment window ends, and which of its
 // quarters stands against the event's first.
@@ -174,7 +124,7 @@ pub fn write(
     let count = counts::least(chosen.count, 5) as usize;
     let own = engine_adjustment::window_sum(chosen.end, yesterday, today);
     let adjustment = adjustment(readings, at, count, chosen.quarters, chosen.end, own);
-    sum_days(
+    engine_sums::sum_days(
         readings,
         at,
         chosen.count as usize,

@@ -32,7 +32,7 @@ use Rattle.method.specs.Verdict.{Answer, Reply, refused, answered, carries, tab
 use Rattle.method_laws.proofs.LookBack.{lookBack-is}
 use Rattle.method_laws.proofs.Requested.{relevant-lookBack}
 use Rattle.method_laws.proofs.Sort.{all-sorted}
-use Rattle.engine_choice.proofs.Days.{all-keep, all-mapped}
+use Rattle.engine_look_back.proofs.Days.{all-keep, all-mapped}
 use Rattle.base_lists.proofs.Places.{length-places}
 use Rattle.engine_numerators.proofs.Signed.{mag-difference}
 use Rattle.engine_numerators.proofs.Windows.{small, ruler-most}

@@ -2,7 +2,7 @@
 use mathlib.Core.Path.{_∙_}
 use borrow.Author.Needs.{needs}
 use Rattle.calendar_groups.specs.Holidays.{group as groupOf}
-use Rattle.engine_choice.proofs.WholeChoice.{before-is, request-few, request-full}
+use Rattle.engine_choice.proofs.WholeChoice.{request-few, request-full}
 use Rattle.engine_choice.proofs.choose.Statement.{statement}
 use Rattle.engine_choice.proofs.choose.Tie as tie
 
@@ -12,17 +12,11 @@ group-of-requires c κs = search needs
 rules-of-requires : tie.Need-rules-of-requires
 rules-of-requires c κs = search needs
 
-minus-requires : tie.Need-minus-requires
-minus-requires c κs = search needs
-
-least-requires : tie.Need-least-requires
-least-requires c κs = search needs
-
-least-requires-2 : tie.Need-least-requires-2
-least-requires-2 c κs = search needs
-
 look-requires : tie.Need-look-requires
 look-requires c κs = search needs
+
+minus-requires : tie.Need-minus-requires
+minus-requires c κs = search needs
 
 choose-among-few-requires : tie.Need-choose-among-few-requires
 choose-among-few-requires c κs = search needs
@@ -32,20 +26,18 @@ pick-requires c κs = search needs
 
 returns : tie.Need-returns
 returns c =
-    let a = c .before .before .before .before .before .before .before .before .before .before .before .args in
-    let before = before-is (a .request) (a .rooms) (c .before .before .before .before .before .before .before .minus .ensures) (c .before .before .before .before .before .before .least .ensures) (c .before .before .before .before .before .least2 .ensures) in
-    let found = c .before .before .before .before .look in
+    let a = c .before .before .before .before .before .before .before .before .before .args in
+    let found = c .before .before .before .before .before .look in
     c .choose-among-few .ensures
-    ∙ request-few groupOf (a .request) (a .rooms) (a .readings .now) (found .result) (c .before .before .before .before .before .before .before .before .before .group-of .ensures) (c .before .before .before .before .before .before .before .before .rules-of .ensures) before
-    (found .ensures) (c .before .if1 .taken)
+    ∙ request-few groupOf (a .request) (a .rooms) (a .readings .now) (found .result) (c .before .before .before .before .before .before .before .group-of .ensures) (c .before .before .before .before .before .before .rules-of .ensures)
+    (found .ensures) (c .before .minus .ensures) (c .before .before .if1 .taken)
 
 returns-2 : tie.Need-returns-2
 returns-2 c =
-    let a = c .before .before .before .before .before .before .before .before .before .before .before .before .args in
-    let before = before-is (a .request) (a .rooms) (c .before .before .before .before .before .before .before .before .minus .ensures) (c .before .before .before .before .before .before .before .least .ensures) (c .before .before .before .before .before .before .least2 .ensures) in
+    let a = c .before .before .before .before .before .before .before .before .before .args in
     let found = c .before .before .before .before .before .look in
     c .pick .ensures
-    ∙ request-full groupOf (a .request) (a .rooms) (a .readings .now) (found .result) (c .before .before .before .before .before .before .before .before .before .before .group-of .ensures) (c .before .before .before .before .before .before .before .before .before .rules-of .ensures) before
+    ∙ request-full groupOf (a .request) (a .rooms) (a .readings .now) (found .result) (c .before .before .before .before .before .before .before .group-of .ensures) (c .before .before .before .before .before .before .rules-of .ensures)
     (found .ensures) (c .before .before .if1 .left)
 
 pub choose-spec : {M : Type 1} → statement M
@@ -54,10 +46,8 @@ choose-spec =
     (tie.spec
     group-of-requires
     rules-of-requires
-    minus-requires
-    least-requires
-    least-requires-2
     look-requires
+    minus-requires
     choose-among-few-requires
     pick-requires
     returns

@@ -14,7 +14,7 @@ use Rattle.base_lists.proofs.Bools.{lt-or-le}
 use Rattle.base_lists.proofs.Parts.{getD-append-past}
 use Rattle.engine_rooms.specs.Rooms.{readingsAt}
 use Rattle.base_lists.proofs.Places.{length-over, at-place, over-same}
-use Rattle.engine_numerators.specs.QuarterSteps.{quarterSum}
+use Rattle.engine_sums.specs.QuarterSteps.{quarterSum}
 
 -- ---- one day more
 pub sum-more : (f : ℕ → ℕ) (at : List ℕ) (k : ℕ) → k < length at

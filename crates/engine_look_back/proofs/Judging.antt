@@ -18,7 +18,7 @@ use Rattle.engine_rooms.specs.declared.Directory.{Directory}
 use Rattle.engine_rooms.specs.Rooms.{readingsAt, roomDay}
 use Rattle.engine_rooms.proofs.Parts.{part-few}
 use Rattle.engine_judging.specs.Steps.{dayFrom, wordAt, judgedAt}
-use Rattle.engine_choice.specs.Steps.{roomsOf, judged}
+use Rattle.engine_look_back.specs.Steps.{roomsOf, judged}
 
 -- the room of the day so far back
 pub room-back : (r : Request) (rooms : Directory) (readings : List ℕ) (back : ℕ) → back ≤ r .event

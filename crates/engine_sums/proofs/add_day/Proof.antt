@@ -1,10 +1,10 @@
--- `engine_numerators::add_day` meets its contract: the law is `clipped`.
+-- `engine_sums::add_day` meets its contract: the law is `clipped`.
 use native.Mathlib.Omega.{arith}
 use borrow.Author.Needs.{needs}
 use lib.ListN.{length-take, length-drop}
-use Rattle.engine_numerators.proofs.Adding.{clipped}
-use Rattle.engine_numerators.proofs.add_day.Statement.{statement}
-use Rattle.engine_numerators.proofs.add_day.Tie as tie
+use Rattle.engine_sums.proofs.Adding.{clipped}
+use Rattle.engine_sums.proofs.add_day.Statement.{statement}
+use Rattle.engine_sums.proofs.add_day.Tie as tie
 
 least-requires : tie.Need-least-requires
 least-requires c κs = search needs

@@ -1,4 +1,4 @@
--- `engine_numerators::sum_days` meets its contract. The loop's invariant: the sums of the first `k` days (`Added`).
+-- `engine_sums::sum_days` meets its contract. The loop's invariant: the sums of the first `k` days (`Added`).
 use Prim.Native.Nat.{ℕ, _-_, _≤_, min}
 use mathlib.Core.Path.{_≡_, ap, sym, _∙_}
 use mathlib.Core.List.{List, map}
@@ -6,10 +6,10 @@ use native.Mathlib.Omega.{arith}
 use borrow.Author.Needs.{needs}
 use lib.ListN.{length}
 use Rattle.base_lists.proofs.Places.{length-over}
-use Rattle.engine_numerators.proofs.Adding.{Added, added-begin, added-next}
-use Rattle.engine_numerators.proofs.sum_days.Statement.{statement}
+use Rattle.engine_sums.proofs.Adding.{Added, added-begin, added-next}
+use Rattle.engine_sums.proofs.sum_days.Statement.{statement}
 use Rattle.base_lists.specs.Lists.{places}
-use Rattle.engine_numerators.proofs.sum_days.Tie as tie
+use Rattle.engine_sums.proofs.sum_days.Tie as tie
 
 -- the cleared sums are as many as there were
 cleared : (n : ℕ) {after : List ℕ} → after ≡ map (λ q. 0) (places n 0) → length after ≡ n

@@ -1,12 +1,12 @@
--- `engine_numerators::clear` meets its contract.
+-- `engine_sums::clear` meets its contract.
 use Prim.Native.Nat.{_-_}
 use native.Mathlib.Omega.{arith}
 use borrow.Author.Needs.{needs}
 use lib.ListN.{length}
 use mathlib.Core.Path.{refl}
 use Rattle.base_lists.proofs.Places.{Storing, storing-begin, storing-next, storing-end}
-use Rattle.engine_numerators.proofs.clear.Statement.{statement}
-use Rattle.engine_numerators.proofs.clear.Tie as tie
+use Rattle.engine_sums.proofs.clear.Statement.{statement}
+use Rattle.engine_sums.proofs.clear.Tie as tie
 
 abbrev Inv-loop : tie.InvT-loop
 Inv-loop sums₀ q₀ sums q = Storing (λ q. 0) sums₀ sums q

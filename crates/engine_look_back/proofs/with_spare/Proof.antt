@@ -1,7 +1,7 @@
--- `engine_choice::with_spare` meets its contract: one way out an order.
+-- `engine_look_back::with_spare` meets its contract: one way out an order.
 use borrow.Author.Needs.{needs}
-use Rattle.engine_choice.proofs.with_spare.Statement.{statement}
-use Rattle.engine_choice.proofs.with_spare.Tie as tie
+use Rattle.engine_look_back.proofs.with_spare.Statement.{statement}
+use Rattle.engine_look_back.proofs.with_spare.Tie as tie
 
 enum-told : tie.Need-enum-told
 enum-told c = search needs

@@ -1,11 +1,11 @@
--- `engine_numerators::add_part` meets its contract.
+-- `engine_sums::add_part` meets its contract.
 use Prim.Native.Nat.{_+_, _-_, _%_, _^_}
 use borrow.Author.Needs.{needs}
 use lib.ListN.{length, getD}
 use mathlib.Core.Path.{ap, _∙_}
 use Rattle.base_lists.proofs.Places.{Storing, storing-begin, storing-here, storing-next, storing-end}
-use Rattle.engine_numerators.proofs.add_part.Statement.{statement}
-use Rattle.engine_numerators.proofs.add_part.Tie as tie
+use Rattle.engine_sums.proofs.add_part.Statement.{statement}
+use Rattle.engine_sums.proofs.add_part.Tie as tie
 
 abbrev Inv-loop : tie.InvT-loop
 Inv-loop sums₀ part q₀ sums q = Storing (λ q. (getD sums₀ q 0 + getD part q 0) % 2 ^ 32) sums₀ sums q

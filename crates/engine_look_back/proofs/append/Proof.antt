@@ -1,10 +1,10 @@
--- `engine_choice::append` meets its contract.
+-- `engine_look_back::append` meets its contract.
 use mathlib.Core.Path.{sym}
 use borrow.Author.Needs.{needs}
 use native.Mathlib.Omega.{arith}
 use lib.Seq.{set-out}
-use Rattle.engine_choice.proofs.append.Statement.{statement}
-use Rattle.engine_choice.proofs.append.Tie as tie
+use Rattle.engine_look_back.proofs.append.Statement.{statement}
+use Rattle.engine_look_back.proofs.append.Tie as tie
 
 mul-next : tie.Need-mul-next
 mul-next c = search needs

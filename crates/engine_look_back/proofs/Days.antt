@@ -18,28 +18,28 @@ use Rattle.method.specs.Rules.{Rules, methodBy}
 use Rattle.method_laws.proofs.LookBack.{daysBefore-is, none-before, days-then, one-before}
 use Rattle.method.proofs.Histories.{is-held}
 use Rattle.engine_ranking.proofs.Rank.{lookedBack}
-use Rattle.engine_choice.specs.Steps.{nearest, ifRelevant}
+use Rattle.engine_look_back.specs.Steps.{nearest, ifRelevant}
 
-module _ (group : ℕ → Group) (r : Request) (day : ℕ → Day) where
+module _ (test : ℕ → Bool) (r : Request) (day : ℕ → Day) where
   pub nearest-then : (i k : ℕ)
-      → nearest group r day (i + k)
-      ≡ nearest group r day i ++ map {B = ℕ × Day} (λ d. (d, day d)) (keep (relevant group r) (daysBefore k (r .event - i)))
+      → nearest test r day (i + k)
+      ≡ nearest test r day i ++ map {B = ℕ × Day} (λ d. (d, day d)) (keep test (daysBefore k (r .event - i)))
   unfolding nearest
   nearest-then i k =
-      rw (days-then i k (r .event), keep-append (relevant group r) (daysBefore i (r .event)) (daysBefore k (r .event - i)))
-      (map-append {B = ℕ × Day} (λ d. (d, day d)) (keep (relevant group r) (daysBefore i (r .event))) (keep (relevant group r) (daysBefore k (r .event - i))))
+      rw (days-then i k (r .event), keep-append test (daysBefore i (r .event)) (daysBefore k (r .event - i)))
+      (map-append {B = ℕ × Day} (λ d. (d, day d)) (keep test (daysBefore i (r .event))) (keep test (daysBefore k (r .event - i))))
 
-  pub nearest-more : (i k : ℕ) → i ≤ k → (more : List (ℕ × Day)) × (nearest group r day k ≡ nearest group r day i ++ more)
+  pub nearest-more : (i k : ℕ) → i ≤ k → (more : List (ℕ × Day)) × (nearest test r day k ≡ nearest test r day i ++ more)
   nearest-more i k h =
       let e : k ≡ i + (k - i) = omega arith in
-      (map {B = ℕ × Day} (λ d. (d, day d)) (keep (relevant group r) (daysBefore (k - i) (r .event - i))), ap (nearest group r day) e ∙ nearest-then i (k - i))
+      (map {B = ℕ × Day} (λ d. (d, day d)) (keep test (daysBefore (k - i) (r .event - i))), ap (nearest test r day) e ∙ nearest-then i (k - i))
 
   pub nearest-one : (i : ℕ) → i < r .event
-      → nearest group r day (i + 1) ≡ nearest group r day i ++ ifRelevant group r (r .event - (i + 1), day (r .event - (i + 1)))
+      → nearest test r day (i + 1) ≡ nearest test r day i ++ ifRelevant test (r .event - (i + 1), day (r .event - (i + 1)))
   unfolding ifRelevant keep
   nearest-one i h =
       let e : r .event - i ≡ suc (r .event - (i + 1)) = omega arith in
-      nearest-then i 1 ∙ rw (e, one-before) (ap (λ (l : List (ℕ × Day)). nearest group r day i ++ l) (go (relevant group r (r .event - (i + 1)))))
+      nearest-then i 1 ∙ rw (e, one-before) (ap (λ (l : List (ℕ × Day)). nearest test r day i ++ l) (go (test (r .event - (i + 1)))))
     where
       d : ℕ
       d = r .event - (i + 1)
@@ -48,7 +48,7 @@ module _ (group : ℕ → Group) (r : Request) (day : ℕ → Day) where
       go true = refl
       go false = refl
 
-  pub nearest-none : nearest group r day 0 ≡ []
+  pub nearest-none : nearest test r day 0 ≡ []
   unfolding nearest keep daysBefore
   nearest-none = refl
 
@@ -90,7 +90,7 @@ module _ (group : ℕ → Group) (r : Request) (h : History Day) where
           (is-held h d b (omega arith)) later)
 
   pub seen-nearest : (rules : Rules) → r .event ≤ h .first + h .count
-      → seen (methodBy group r rules) h ≡ nearest group r (h .day) (min 45 (r .event - h .first))
+      → seen (methodBy group r rules) h ≡ nearest (relevant group r) r (h .day) (min 45 (r .event - h .first))
   unfolding seen nearest methodBy relevantDays
   seen-nearest rules o = ap (map {B = ℕ × Day} (λ d. (d, h .day d))) (held-days 45 (r .event) o)
 
@@ -110,12 +110,12 @@ module _ {A : Type 0} (q : A → Bool) where
   all-mapped f (d ∷ ds) w = rw (w d (member-head d ds)) (all-mapped f ds (λ x m. w x (member-tail x d ds m)))
 
 -- every day that is looked at lies in the look back
-module _ (group : ℕ → Group) (r : Request) (day : ℕ → Day) where
-  pub nearest-back : (k : ℕ) → k ≤ 45 → all (lookedBack r) (nearest group r day k) ≡ true
+module _ (test : ℕ → Bool) (r : Request) (day : ℕ → Day) where
+  pub nearest-back : (k : ℕ) → k ≤ 45 → all (lookedBack r) (nearest test r day k) ≡ true
   unfolding nearest
-  nearest-back k h = all-mapped (lookedBack r) (λ d. (d, day d)) (keep (relevant group r) (daysBefore k (r .event))) within
+  nearest-back k h = all-mapped (lookedBack r) (λ d. (d, day d)) (keep test (daysBefore k (r .event))) within
     where
-      within : (d : ℕ) → member d (keep (relevant group r) (daysBefore k (r .event))) ≡ true → lookedBack r (d, day d) ≡ true
+      within : (d : ℕ) → member d (keep test (daysBefore k (r .event))) ≡ true → lookedBack r (d, day d) ≡ true
       within d m =
-          let i = daysBefore-is k (r .event) d .0 (kept-member (relevant group r) (daysBefore k (r .event)) d m) in
+          let i = daysBefore-is k (r .event) d .0 (kept-member test (daysBefore k (r .event)) d m) in
           rw (le-leb (r .event) (d + 45) (omega arith), lt-ltb d (r .event) (i .0))

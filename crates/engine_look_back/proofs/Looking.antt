@@ -1,28 +1,27 @@
--- What is found of the days looked at, as one more of them is judged; and that a window that is full needs no more days.
-use Prim.Native.Nat.{ℕ, _+_, _-_, _≤_, _<_}
+-- What is found of the days looked at, as one more of them is judged, up to the one that fills the window.
+use Prim.Native.Nat.{ℕ, zero, suc, _+_, _-_, _≤_, _<_}
 use mathlib.Core.Path.{_≡_, refl, sym, ap, _∙_}
 use mathlib.Core.Bool.{Bool, true, false, cond, not, _&&_, false≢true}
-use mathlib.Core.List.{List, [], _∷_, _++_, map, map-append, append-nil}
+use mathlib.Core.List.{List, [], _∷_, _++_, map, map-append, append-nil, append-assoc}
+use mathlib.Core.Logic.{⊎-elim}
 use native.Mathlib.Omega.{arith}
-use lib.ListN.{length, take, set, replicate, length-append, length-map}
-use lib.Seq.{take-all, take-at}
+use lib.ListN.{length, set, replicate, length-append, length-map}
 use Rattle.base_lists.specs.Lists.{keep, leastOf}
+use Rattle.base_lists.proofs.Bools.{bool-cases}
 use Rattle.base_lists.proofs.Keep.{keep-append, keep-yes, keep-no, leastOf-top}
 use Rattle.method.specs.declared.Request.{Request}
 use Rattle.method.specs.Table.{Day, eventBit, outageBit}
 use Rattle.method.specs.Method.{daysOf}
-use Rattle.method.specs.Relevant.{relevant}
 use Rattle.method.specs.Eligible.{complete, eligible, spare, sortBy}
-use Rattle.calendar_groups.specs.declared.Group.{Group}
 use Rattle.engine_ranking.specs.Steps.{word, sortDown, padded, pushed}
 use Rattle.engine_ranking.proofs.Rank.{insert-sorts}
 use Rattle.engine_judging.specs.declared.Judged.the-variants.{Eligible, Spare, Neither}
-use Rattle.engine_choice.specs.declared.SpareOrder.{SpareOrder}
-use Rattle.engine_choice.specs.declared.SpareOrder.the-variants.{Highest, Latest}
-use Rattle.engine_choice.specs.declared.Found.{Found}
-use Rattle.engine_choice.specs.Steps.{judged, nearest, ifRelevant, eligibleOf, spareOf, rowOf, spareRow, withSpare, oldestOf, Looked, Further, Adds, Enough}
-use Rattle.engine_choice.proofs.Five.{set-padded}
-use Rattle.engine_choice.proofs.Days.{nearest-none, nearest-one, nearest-more}
+use Rattle.engine_look_back.specs.declared.SpareOrder.{SpareOrder}
+use Rattle.engine_look_back.specs.declared.SpareOrder.the-variants.{Highest, Latest}
+use Rattle.engine_look_back.specs.declared.Found.{Found}
+use Rattle.engine_look_back.specs.Steps.{judged, nearest, ifRelevant, upTo, eligibleOf, spareOf, rowOf, spareRow, withSpare, oldestOf, Looked, Further, Adds}
+use Rattle.engine_look_back.proofs.Padded.{set-padded}
+use Rattle.engine_look_back.proofs.Days.{nearest-none, nearest-one, nearest-more}
 use Rattle.engine_relevant.proofs.Reaching.{leastOf-snoc}
 
 -- What a judgement says of a day
@@ -156,100 +155,106 @@ module _ {r : Request} {order : SpareOrder} {days : List (ℕ × Day)} {found : 
 
 -- One day before the event looked at
 
-module _ (group : ℕ → Group) (r : Request) (p : ℕ × Day) where
-  some : relevant group r (p .0) ≡ true → ifRelevant group r p ≡ p ∷ []
+module _ (test : ℕ → Bool) (p : ℕ × Day) where
+  some : test (p .0) ≡ true → ifRelevant test p ≡ p ∷ []
   unfolding ifRelevant
   some e = rw e
 
-  none : relevant group r (p .0) ≡ false → ifRelevant group r p ≡ []
+  none : test (p .0) ≡ false → ifRelevant test p ≡ []
   unfolding ifRelevant
   none e = rw e
 
-module _ (group : ℕ → Group) (p : ℕ × Day) {r : Request} {order : SpareOrder} {found : Found} {back : ℕ} (f : Further r back found) (here : p .0 ≡ r .event - back) where
+module _ (test : ℕ → Bool) (p : ℕ × Day) {r : Request} {order : SpareOrder} {found : Found} {back : ℕ} (f : Further r back found) (here : p .0 ≡ r .event - back) where
   same : {more : List (ℕ × Day)} → ((days : List (ℕ × Day)) → Looked r order days found → Looked r order (days ++ more) found) → Adds r order back more found found
   same t = record { then = t; oldest = f .oldest; count = omega arith; spares = omega arith }
 
-  pub adds-none : relevant group r (p .0) ≡ false → Adds r order back (ifRelevant group r p) found found
-  adds-none e = rw (none group r p e) (same (λ days q. looked-none q))
+  pub adds-none : test (p .0) ≡ false → Adds r order back (ifRelevant test p) found found
+  adds-none e = rw (none test p e) (same (λ days q. looked-none q))
 
-  module _ (e : relevant group r (p .0) ≡ true) where
+  module _ (e : test (p .0) ≡ true) where
     pub adds-eligible : {w : ℕ} {row : List ℕ} → judged r p ≡ Eligible w → row ≡ pushed w (found .eligible)
-        → Adds r order back (ifRelevant group r p) found
+        → Adds r order back (ifRelevant test p) found
         (record { eligible = row; count = found .count + 1; oldest = back; spare = found .spare; spares = found .spares })
     adds-eligible {w} {row} j n =
         let k = judged-eligible r p j in
         record {
-          then = λ days q. rw (some group r p e) (looked-eligible q p back (k .0) here (f .within) (f .oldest) (rw (k .1) at n));
+          then = λ days q. rw (some test p e) (looked-eligible q p back (k .0) here (f .within) (f .oldest) (rw (k .1) at n));
           oldest = omega arith;
           count = omega arith;
           spares = omega arith;
         }
 
     pub adds-spare : {w : ℕ} {row : List ℕ} → judged r p ≡ Spare w → row ≡ withSpare order (found .spare) (found .spares) w
-        → Adds r order back (ifRelevant group r p) found
+        → Adds r order back (ifRelevant test p) found
         (record { eligible = found .eligible; count = found .count; oldest = found .oldest; spare = row; spares = found .spares + 1 })
     adds-spare {w} {row} j n =
         let k = judged-spare r p j in
         record {
-          then = λ days q. rw (some group r p e) (looked-spare q p (k .0) (k .1) (rw (k .2) at n));
+          then = λ days q. rw (some test p e) (looked-spare q p (k .0) (k .1) (rw (k .2) at n));
           oldest = f .oldest;
           count = omega arith;
           spares = omega arith;
         }
 
-    pub adds-neither : judged r p ≡ Neither → Adds r order back (ifRelevant group r p) found found
-    adds-neither j = let k = judged-neither r p j in rw (some group r p e) (same (λ days q. looked-neither q p (k .0) (k .1)))
+    pub adds-neither : judged r p ≡ Neither → Adds r order back (ifRelevant test p) found found
+    adds-neither j = let k = judged-neither r p j in rw (some test p e) (same (λ days q. looked-neither q p (k .0) (k .1)))
 
 -- The end of the look back
 
-module _ {r : Request} {most : ℕ} {order : SpareOrder} {days : List (ℕ × Day)} {found : Found} (q : Looked r order days found) where
-  -- all days are looked at
-  pub enough-days : found .spares ≤ 45 → found .count ≤ most → Enough r most order days found
-  enough-days few h =
-      let o : length (eligibleOf days) ≤ most = omega (arith, q .count) in
-      record {
-        row = rw (take-all most (eligibleOf days) o) (q .row);
-        count = omega (arith, q .count);
-        oldest = rw (take-all most (eligibleOf days) o) (q .oldest);
-        sparing = λ l. q .sparing;
-        spares = λ l. q .spares;
-        few = few;
-      }
+eligible-then : (days more : List (ℕ × Day)) → eligibleOf (days ++ more) ≡ eligibleOf days ++ eligibleOf more
+unfolding eligibleOf
+eligible-then = keep-append (λ (p : ℕ × Day). eligible (p .1))
 
-  -- the window is full
-  pub enough-eligible : found .spares ≤ 45 → found .count ≡ most → (more : List (ℕ × Day)) → Enough r most order (days ++ more) found
-  enough-eligible few h more =
-      let n : length (eligibleOf days) ≡ most = sym (q .count) ∙ h in
-      let full = eligible-then more in
-      let first : take most (eligibleOf (days ++ more)) ≡ eligibleOf days = rw full (take-at (eligibleOf days) (eligibleOf more) most n) in
-      let size : length (eligibleOf (days ++ more)) ≡ length (eligibleOf days) + length (eligibleOf more) = rw full (length-append (eligibleOf days) (eligibleOf more)) in
-      record {
-        row = rw first (q .row);
-        count = omega (arith, q .count);
-        oldest = rw first (q .oldest);
-        sparing = λ l. absurd (omega arith);
-        spares = λ l. absurd (omega arith);
-        few = few;
-      }
+up-to-none : (days : List (ℕ × Day)) → upTo 0 days ≡ []
+unfolding upTo
+up-to-none [] = refl
+up-to-none (p ∷ days) = refl
+
+up-to-end : (n : ℕ) → upTo n [] ≡ []
+unfolding upTo
+up-to-end n = refl
+
+-- one day more, where the window is not full
+module _ (p : ℕ × Day) (more : List (ℕ × Day)) where
+  up-to-one : (n : ℕ) → 0 < n → upTo n (p ∷ more) ≡ p ∷ upTo (n - length (eligibleOf (p ∷ []))) more
+  unfolding upTo eligibleOf keep
+  up-to-one zero h = absurd (omega arith)
+  up-to-one (suc n) h = go (eligible (p .1))
     where
-      eligible-then : (more : List (ℕ × Day)) → eligibleOf (days ++ more) ≡ eligibleOf days ++ eligibleOf more
-      eligible-then more = unfold eligibleOf in keep-append (λ (p : ℕ × Day). eligible (p .1)) days more
+      go : (b : Bool) → p ∷ cond b (upTo n more) (upTo (suc n) more) ≡ p ∷ upTo (suc n - length (cond b (p ∷ []) [])) more
+      go true = let z : n ≡ suc n - 1 = omega arith in ap (λ (k : ℕ). p ∷ upTo k more) z
+      go false = let z : suc n ≡ suc n - 0 = omega arith in ap (λ (k : ℕ). p ∷ upTo k more) z
+
+  up-to-same : (n : ℕ) → upTo n more ≡ upTo (n - length (eligibleOf [])) more
+  unfolding eligibleOf keep
+  up-to-same n = let z : n ≡ n - 0 = omega arith in ap (λ (k : ℕ). upTo k more) z
+
+  up-to-next : (test : ℕ → Bool) (n : ℕ) → 0 < n
+      → upTo n (ifRelevant test p ++ more) ≡ ifRelevant test p ++ upTo (n - length (eligibleOf (ifRelevant test p))) more
+  up-to-next test n h = ⊎-elim yes no (bool-cases (test (p .0)))
+    where
+      yes : test (p .0) ≡ true → upTo n (ifRelevant test p ++ more) ≡ ifRelevant test p ++ upTo (n - length (eligibleOf (ifRelevant test p))) more
+      yes e = rw (some test p e) (up-to-one n h)
+
+      no : test (p .0) ≡ false → upTo n (ifRelevant test p ++ more) ≡ ifRelevant test p ++ upTo (n - length (eligibleOf (ifRelevant test p))) more
+      no e = rw (none test p e) (up-to-same n)
 
 -- `back` days of the `held` are looked at, and the window is not more than full
-pub record Back (group : ℕ → Group) (r : Request) (day : ℕ → Day) (most : ℕ) (order : SpareOrder) (held back : ℕ) (found : Found) : Type 0 where
+pub record Back (test : ℕ → Bool) (r : Request) (day : ℕ → Day) (most : ℕ) (order : SpareOrder) (held back : ℕ) (found : Found) : Type 0 where
   pub within : back ≤ held
-  pub looked : Looked r order (nearest group r day back) found
+  pub looked : Looked r order (nearest test r day back) found
   pub oldest : found .oldest ≤ back
   pub count : found .count ≤ back
   pub spares : found .spares ≤ back
   pub filled : found .count ≤ most
+  pub ahead : (more : List (ℕ × Day)) → upTo most (nearest test r day back ++ more) ≡ nearest test r day back ++ upTo (most - found .count) more
 
-module _ (group : ℕ → Group) (r : Request) (day : ℕ → Day) (most : ℕ) (order : SpareOrder) (held : ℕ) where
-  pub back-start : Back group r day most order held 0
+module _ (test : ℕ → Bool) (r : Request) (day : ℕ → Day) (most : ℕ) (order : SpareOrder) (held : ℕ) where
+  pub back-start : Back test r day most order held 0
       (record { eligible = replicate 10 0; count = 0; oldest = 0; spare = replicate 10 0; spares = 0 })
   unfolding eligibleOf spareOf keep leastOf sortBy
   back-start =
-      let e = nearest-none group r day in
+      let e = nearest-none test r day in
       record {
         within = omega arith;
         looked = rw e (record { row = refl; count = refl; oldest = omega arith; sparing = no-spare order; spares = refl });
@@ -257,13 +262,14 @@ module _ (group : ℕ → Group) (r : Request) (day : ℕ → Day) (most : ℕ) 
         count = omega arith;
         spares = omega arith;
         filled = omega arith;
+        ahead = λ more. let z : most ≡ most - 0 = omega arith in rw e (ap (λ (k : ℕ). upTo k more) z);
       }
     where
       no-spare : (o : SpareOrder) → replicate 10 0 ≡ spareRow r o []
       no-spare Highest = refl
       no-spare Latest = refl
 
-module _ {group : ℕ → Group} {r : Request} {day : ℕ → Day} {most : ℕ} {order : SpareOrder} {held back : ℕ} {found : Found} (b : Back group r day most order held back found) where
+module _ {test : ℕ → Bool} {r : Request} {day : ℕ → Day} {most : ℕ} {order : SpareOrder} {held back : ℕ} {found : Found} (b : Back test r day most order held back found) where
   pub back-further : back < held → held ≤ 45 → held ≤ r .event → Further r (back + 1) found
   back-further h m e =
       record {
@@ -276,20 +282,51 @@ module _ {group : ℕ → Group} {r : Request} {day : ℕ → Day} {most : ℕ} 
       }
 
   pub back-more : {next : Found} → back < held → held ≤ r .event → (found .count ≡ most → ⊥)
-      → Adds r order (back + 1) (ifRelevant group r (r .event - (back + 1), day (r .event - (back + 1)))) found next
-      → Back group r day most order held (back + 1) next
+      → Adds r order (back + 1) (ifRelevant test (r .event - (back + 1), day (r .event - (back + 1)))) found next
+      → Back test r day most order held (back + 1) next
   back-more {next} h e n a =
+      let one = nearest-one test r day back (omega arith) in
+      let then = a .then (nearest test r day back) (b .looked) in
       record {
         within = omega arith;
-        looked = rw (nearest-one group r day back (omega arith)) (a .then (nearest group r day back) (b .looked));
+        looked = rw one then;
         oldest = a .oldest;
         count = omega (arith, a .count, b .count);
         spares = omega (arith, a .spares, b .spares);
         filled = omega (arith, a .count, b .filled, n);
+        ahead = λ more. rw one (further then more);
       }
+    where
+      p : ℕ × Day
+      p = (r .event - (back + 1), day (r .event - (back + 1)))
 
-  pub back-full : held ≤ 45 → found .count ≡ most → Enough r most order (nearest group r day held) found
-  back-full few h = let m = nearest-more group r day back held (b .within) in rw (m .1) (enough-eligible (b .looked) (omega (arith, b .spares, b .within)) h (m .0))
+      left : Looked r order (nearest test r day back ++ ifRelevant test p) next
+          → most - next .count ≡ most - found .count - length (eligibleOf (ifRelevant test p))
+      left then =
+          let size : next .count ≡ length (eligibleOf (nearest test r day back)) + length (eligibleOf (ifRelevant test p)) =
+          then .count ∙ ap length (eligible-then (nearest test r day back) (ifRelevant test p)) ∙ length-append (eligibleOf (nearest test r day back)) (eligibleOf (ifRelevant test p)) in
+          omega (arith, size, b .looked .count)
 
-  pub back-end : held ≤ 45 → held ≤ back → Enough r most order (nearest group r day held) found
-  back-end few h = let e : held ≡ back = omega (arith, b .within) in rw e (enough-days (b .looked) (omega (arith, b .spares, b .within)) (b .filled))
+      further : Looked r order (nearest test r day back ++ ifRelevant test p) next → (more : List (ℕ × Day))
+          → upTo most ((nearest test r day back ++ ifRelevant test p) ++ more) ≡ (nearest test r day back ++ ifRelevant test p) ++ upTo (most - next .count) more
+      further then more =
+          rw (append-assoc (nearest test r day back) (ifRelevant test p) more, append-assoc (nearest test r day back) (ifRelevant test p) (upTo (most - next .count) more), left then)
+          (b .ahead (ifRelevant test p ++ more)
+          ∙ ap (λ (l : List (ℕ × Day)). nearest test r day back ++ l) (up-to-next p more test (most - found .count) (omega (arith, b .filled, n))))
+
+  -- the window is full
+  pub back-full : found .count ≡ most → Looked r order (upTo most (nearest test r day held)) found
+  back-full h =
+      let m = nearest-more test r day back held (b .within) in
+      let z : most - found .count ≡ 0 = omega arith in
+      let e : upTo most (nearest test r day held) ≡ nearest test r day back =
+      ap (upTo most) (m .1) ∙ b .ahead (m .0) ∙ rw (z, up-to-none (m .0)) (append-nil (nearest test r day back)) in
+      rw e (b .looked)
+
+  -- all days are looked at
+  pub back-end : held ≤ back → Looked r order (upTo most (nearest test r day held)) found
+  back-end h =
+      let k : held ≡ back = omega (arith, b .within) in
+      let e : upTo most (nearest test r day held) ≡ nearest test r day back =
+      rw k (ap (upTo most) (sym (append-nil (nearest test r day back))) ∙ b .ahead [] ∙ rw (up-to-end (most - found .count)) (append-nil (nearest test r day back))) in
+      rw e (b .looked)

@@ -1,0 +1,144 @@
+// The look-back over a directory of rooms: which of the days before an event are eligible and which spare, by rank (document 01, "Choosing the
+// days"). Total: for any group and any number of days asked for.
+ghost use mathlib.Core.Path.{_≡_};
+ghost use Prim.Native.Nat.{_-_, _≤_, min};
+ghost use lib.ListN.{length, set};
+ghost use Rattle.calendar_groups.specs.Holidays.{group as groupOf};
+ghost use Rattle.method.specs.Table.{mostQuarters};
+ghost use Rattle.engine_relevant.specs.Steps.{relevantTo};
+ghost use Rattle.engine_judging.specs.Steps.{dayFrom};
+ghost use Rattle.engine_look_back.specs.Steps.{heldDays, upTo, ifRelevant, withSpare, Looked, Further, Adds};
+use base_numbers::counts;
+use calendar_groups::Group;
+use engine_judging::Judged;
+use engine_rooms::Directory;
+use method::Request;
+
+// The order in which spare days fill a shortage: the highest first, or the latest.
+pub enum SpareOrder {
+    Highest,
+    Latest,
+}
+
+// What was found looking back: the words of eligible days, how many there are, how far back the last of them lies, and the same of spare
+// days but for their place.
+pub struct Found {
+    pub eligible: [u64; 10],
+    pub count: u32,
+    pub oldest: u32,
+    pub spare: [u64; 10],
+    pub spares: u32,
+}
+
+// A row with one more word after the `count` that stand there; it is lost where there is no place for it.
+fn append(row: [u64; 10], count: u32, word: u64) -> [u64; 10]
+    ensures { λ r. ⌜ r ≡ set row count word ⌝ }
+{
+    if count < 10 {
+        let mut next = row;
+        next[count as usize] = word;
+        next
+    } else {
+        row
+    }
+}
+
+// A row of `count` spare days with one more.
+fn with_spare(spares: SpareOrder, row: [u64; 10], count: u32, word: u64) -> [u64; 10]
+    ensures { λ r. ⌜ r ≡ withSpare spares row count word ⌝ }
+{
+    match spares {
+        SpareOrder::Highest => engine_ranking::insert(row, word),
+        SpareOrder::Latest => append(row, count, word),
+    }
+}
+
+// What was found once one more day is looked at, `back` days before the event.
+fn with_day(
+    request: Request,
+    group: Group,
+    spares: SpareOrder,
+    back: u32,
+    mark: u8,
+    part: &[u32],
+    found: Found,
+) -> Found
+    requires { ⌜ Further request back found × (length (now part) ≤ mostQuarters) ⌝ }
+    ensures { λ r. ⌜ Adds request spares back (ifRelevant (relevantTo groupOf group request) (request .event - back, dayFrom mark (now (part .entry)))) found r ⌝ }
+{
+    if engine_relevant::relevant(request, group, request.event - back) {
+        let eligible = found.eligible;
+        let spare = found.spare;
+        match engine_judging::judge(request, mark, part, back) {
+            Judged::Eligible(word) => Found {
+                eligible: engine_ranking::insert(eligible, word),
+                count: found.count + 1,
+                oldest: back,
+                spare,
+                spares: found.spares,
+            },
+            Judged::Spare(word) => Found {
+                eligible,
+                count: found.count,
+                oldest: found.oldest,
+                spare: with_spare(spares, spare, found.spares, word),
+                spares: found.spares + 1,
+            },
+            Judged::Neither => found,
+        }
+    } else {
+        found
+    }
+}
+
+// How many days are held before the event and looked at.
+fn held_before(event: u32, held: u32) -> u32
+    ensures { λ r. ⌜ r ≡ min (held - 1) (min 45 event) ⌝ }
+{
+    counts::least(
+        counts::minus(held, 1),
+        counts::least(method::LOOK_BACK, event),
+    )
+}
+
+// The look back over the days held before an event of this group, nearest first. It ends at the `most`th eligible day.
+pub fn look(
+    request: Request,
+    group: Group,
+    most: u32,
+    spares: SpareOrder,
+    rooms: Directory,
+    readings: &[u32],
+) -> Found
+    ensures { λ r. ⌜ Looked request spares (upTo most (heldDays groupOf group request rooms (now (readings .entry)))) r ⌝ }
+{
+    let before = held_before(request.event, rooms.held);
+    let mut found = Found {
+        eligible: [0; 10],
+        count: 0,
+        oldest: 0,
+        spare: [0; 10],
+        spares: 0,
+    };
+    let mut back = 0;
+    while back < before {
+        if found.count == most {
+            return found;
+        }
+        back += 1;
+        let place = back as usize;
+        let size = day_ruler::size(request.event - back);
+        let part = engine_rooms::readings_at(readings, rooms.at[place], size);
+        let next = with_day(
+            request,
+            group,
+            spares,
+            back,
+            rooms.marks[place],
+            part,
+            found,
+        );
+        found = next;
+    }
+    found
+}
