@@ -19,7 +19,7 @@ use Rattle.method.specs.Ruler.{rulerStart}
 use Rattle.method.specs.Requested.{methodOf}
 use Rattle.method.specs.Verdict.{answered, refused, firstOf, methodology, verdict}
 use Rattle.method.specs.CutTables.{LongerFormed, heldBefore, cutTo, Undecided, Parted}
-use Rattle.engine_choice.specs.Choice.{inFive}
+use Rattle.engine_answer.specs.Answer.{inFive}
 use Rattle.engine_answer.specs.declared.Given.the-variants.{Answered, Refused}
 use Rattle.engine_answer.specs.declared.Answer.{Answer}
 use Rattle.demands.specs.Calls.{Call, extract, request, perQuarter, stand, room, Gets, result, reported}

@@ -1,13 +1,16 @@
 -- What a call gives back for its reply.
 use Prim.Native.Nat.{ℕ}
 use mathlib.Core.Path.{_≡_}
-use mathlib.Core.List.{List, []}
-use lib.ListN.{length}
+use mathlib.Core.List.{List, [], _++_}
+use lib.ListN.{length, take, replicate}
 use lib.IntN.{pos}
 use Rattle.method.specs.Verdict.{Reply, refused, answered, written}
-use Rattle.engine_choice.specs.Choice.{inFive}
 use Rattle.engine_answer.specs.declared.Given.the-variants.{Answered, Refused}
 use Rattle.engine_answer.specs.declared.Answer.{Answer}
+
+-- chosen days in five places, with noughts after the last
+abbrev pub inFive : List ℕ → List ℕ
+inFive days = take 5 (days ++ replicate 5 0)
 
 unfoldable pub answerOf : Reply → Answer
 answerOf (refused w) =

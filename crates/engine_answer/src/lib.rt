@@ -4,13 +4,19 @@ ghost use mathlib.Core.Path.{_≡_};
 ghost use Rattle.method.specs.Verdict.{refused};
 ghost use Rattle.engine_answer.specs.Answer.{answerOf};
 ghost use Rattle.engine_answer.specs.Steps.{toldOf};
-use engine_choice::Chosen;
 use method::Refusal;
 
 // Answered, or refused.
 pub enum Given {
     Answered,
     Refused(Refusal),
+}
+
+// The chosen days in rank order, the first `count` of the five, and the reach.
+pub struct Chosen {
+    pub days: [u32; 5],
+    pub count: u32,
+    pub reach: u32,
 }
 
 // What a call answers. Where it is refused, every field but `given` is nought.

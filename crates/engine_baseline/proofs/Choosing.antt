@@ -23,10 +23,10 @@ use Rattle.method.specs.Method.{reach, isShort}
 use Rattle.method_laws.proofs.Requested.{lawful}
 use Rattle.method_laws.proofs.Stable.{yesterday-held}
 use Rattle.method.specs.Verdict.{closing}
-use Rattle.engine_choice.specs.declared.Chosen.{Chosen}
+use Rattle.engine_answer.specs.declared.Chosen.{Chosen}
 use Rattle.engine_choice.specs.declared.Choosing.the-variants.{Short, Few, Days}
 use Rattle.engine_choice.specs.declared.Choice.{Choice}
-use Rattle.engine_choice.specs.Choice.{inFive}
+use Rattle.engine_answer.specs.Answer.{inFive}
 use Rattle.engine_choice.specs.Steps.{choiceOf, noDays}
 use Rattle.engine_choice.proofs.Requested.{chosen-five}
 use Rattle.engine_baseline.specs.Engine.{withDays}

@@ -36,7 +36,7 @@ use Rattle.engine_numerators.specs.NumeratorSteps.{windowSums, placedOf, chosen
 use Rattle.engine_numerators.proofs.Signed.{mag-difference}
 use Rattle.engine_numerators.proofs.Windows.{small, part-all, ruler-most, windows-most}
 use Rattle.engine_numerators.proofs.Standing.{S-placed, B-placed}
-use Rattle.engine_choice.specs.declared.Chosen.{Chosen}
+use Rattle.engine_answer.specs.declared.Chosen.{Chosen}
 use Rattle.engine_refusals.specs.declared.Tested.the-variants.{Passed, Failed}
 use Rattle.engine_refusals.specs.Steps.{tested}
 use Rattle.engine_refusals.proofs.FirstRefusal.{GoodRequest, good-request, request-passed, first-failed, first-passed}

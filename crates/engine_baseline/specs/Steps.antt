@@ -9,8 +9,8 @@ use Rattle.method.specs.Adjustment.{baseline}
 use Rattle.method.specs.Method.{chose}
 use Rattle.method.specs.Verdict.{Reply, goodRequest, closing}
 use Rattle.engine_rooms.specs.declared.Directory.{Directory}
-use Rattle.engine_choice.specs.declared.Chosen.{Chosen}
-use Rattle.engine_choice.specs.Choice.{inFive}
+use Rattle.engine_answer.specs.declared.Chosen.{Chosen}
+use Rattle.engine_answer.specs.Answer.{inFive}
 use Rattle.engine_baseline.specs.Engine.{withDays}
 
 -- where the readings of a day start, by the directory of an event

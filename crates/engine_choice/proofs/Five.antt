@@ -7,7 +7,7 @@ use native.Mathlib.Omega.{arith}
 use lib.ListN.{length, take, drop, set, getD, length-map, length-drop}
 use lib.Seq.{take-suc, getD-drop, length-take-le}
 use Rattle.engine_look_back.proofs.Padded.{set-padded}
-use Rattle.engine_choice.specs.Choice.{inFive}
+use Rattle.engine_answer.specs.Answer.{inFive}
 
 pub five-more : (f : ℕ → ℕ) (row : List ℕ) (i x : ℕ) → i < length row → x ≡ f (getD row i 0)
     → set (inFive (map f (take i row))) i x ≡ inFive (map f (take (i + 1) row))

@@ -6,22 +6,16 @@ ghost use Rattle.calendar_groups.specs.Holidays.{group as groupOf};
 ghost use Rattle.method.specs.Method.{wholeReach};
 ghost use Rattle.method.specs.Requested.{rulesOf, methodOf};
 ghost use Rattle.engine_rooms.specs.Rooms.{roomHistory};
-ghost use Rattle.engine_choice.specs.Choice.{inFive};
+ghost use Rattle.engine_answer.specs.Answer.{inFive};
 ghost use Rattle.engine_choice.specs.Steps.{choiceOf, noDays};
 ghost use Rattle.engine_choice.specs.Steps.{Sound, Follows, firstRanks, wordDay, daysIn, picked, amongFew};
 use base_numbers::counts;
 use calendar_groups::Group;
+use engine_answer::Chosen;
 use engine_look_back::Found;
 use engine_look_back::SpareOrder;
 use engine_rooms::Directory;
 use method::Request;
-
-// The chosen days in rank order, the first `count` of the five, and the reach.
-pub struct Chosen {
-    pub days: [u32; 5],
-    pub count: u32,
-    pub reach: u32,
-}
 
 // What the choice ends in: refusal 8 or 9 with what it carries, or days.
 pub enum Choosing {

@@ -4,7 +4,7 @@ use mathlib.Core.List.{List, [], _∷_, map}
 use lib.ListN.{take}
 use lib.IntN.{ℤ, pos}
 use Rattle.method.specs.Verdict.{number}
-use Rattle.engine_choice.specs.declared.Chosen.{Chosen}
+use Rattle.engine_answer.specs.declared.Chosen.{Chosen}
 use Rattle.engine_answer.specs.declared.Given.{Given}
 use Rattle.engine_answer.specs.declared.Given.the-variants.{Answered, Refused}
 use Rattle.engine_answer.specs.declared.Answer.{Answer}

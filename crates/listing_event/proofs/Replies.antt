@@ -10,10 +10,9 @@ use Rattle.method.specs.declared.Request.{Request}
 use Rattle.method.specs.declared.Refusal.{Refusal}
 use Rattle.method.specs.Table.{Table, mostQuarters}
 use Rattle.method.specs.Verdict.{Answer as Numbers, Reply, refused, answered, written, verdict}
-use Rattle.engine_choice.specs.Choice.{inFive}
 use Rattle.engine_answer.specs.declared.Given.the-variants.{Answered, Refused}
 use Rattle.engine_answer.specs.declared.Answer.{Answer}
-use Rattle.engine_answer.specs.Answer.{answerOf, Answers}
+use Rattle.engine_answer.specs.Answer.{inFive, answerOf, Answers}
 use Rattle.engine_baseline.proofs.Answered.{Sound}
 use Rattle.table_baseline.proofs.Laws.{sound}
 use Rattle.listing_lines.specs.Lines.{lineText, linesText}

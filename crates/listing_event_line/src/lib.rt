@@ -10,7 +10,7 @@ ghost use Rattle.listing_lines.specs.Listing.{numbers, eventLine, refusalLine};
 ghost use Rattle.listing_lines.specs.WriteSteps.{Writes, PutsWithin};
 ghost use Rattle.listing_event_line.specs.Room.{eventRoom, refusalRoom};
 use base_numbers::counts;
-use engine_choice::Chosen;
+use engine_answer::Chosen;
 use method::Refusal;
 use method::Request;
 

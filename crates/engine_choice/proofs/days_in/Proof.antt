@@ -5,7 +5,7 @@ use mathlib.Core.List.{List}
 use native.Mathlib.Omega.{arith}
 use borrow.Author.Needs.{needs}
 use lib.ListN.{set}
-use Rattle.engine_choice.specs.Choice.{inFive}
+use Rattle.engine_answer.specs.Answer.{inFive}
 use Rattle.engine_choice.specs.Steps.{wordDay, daysIn}
 use Rattle.engine_choice.proofs.Five.{five-from}
 use Rattle.engine_choice.proofs.days_in.Statement.{statement}
