@@ -129,15 +129,8 @@ pub fn look(
         let place = back as usize;
         let size = day_ruler::size(request.event - back);
         let part = engine_rooms::readings_at(readings, rooms.at[place], size);
-        let next = with_day(
-            request,
-            group,
-            spares,
-            back,
-            rooms.marks[place],
-            part,
-            found,
-        );
+        let mark = rooms.marks[place];
+        let next = with_day(request, group, spares, back, mark, part, found);
         found = next;
     }
     found

@@ -59,8 +59,8 @@ element-copy-out-readings-at c = omega arith
 readings-at-requires : tie.Need-readings-at-requires Inv-loop μ-loop
 readings-at-requires c κs = search needs
 
-element-copy-out-with-day : tie.Need-element-copy-out-with-day Inv-loop μ-loop
-element-copy-out-with-day c = omega arith
+element-copy-out-mark : tie.Need-element-copy-out-mark Inv-loop μ-loop
+element-copy-out-mark c = omega arith
 
 with-day-requires : tie.Need-with-day-requires Inv-loop μ-loop
 with-day-requires c κs =
@@ -108,7 +108,7 @@ look-spec =
     mul-readings-at
     element-copy-out-readings-at
     readings-at-requires
-    element-copy-out-with-day
+    element-copy-out-mark
     with-day-requires
     loop-less
     loop-again
