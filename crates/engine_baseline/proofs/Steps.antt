@@ -31,8 +31,9 @@ use Rattle.engine_rooms.specs.declared.Directory.{Directory}
 use Rattle.engine_rooms.specs.Rooms.{readingsAt, roomDay, roomHistory}
 use Rattle.base_lists.proofs.Places.{length-over, over-same, over-shift, over-list}
 use Rattle.engine_sums.specs.QuarterSteps.{quarterSum}
-use Rattle.engine_numerators.specs.declared.Places.{Places}
-use Rattle.engine_numerators.specs.NumeratorSteps.{windowSums, placedOf, chosenAt, adjustmentOf, numeratorsOf, Written}
+use Rattle.engine_places.specs.declared.Places.{Places}
+use Rattle.engine_places.specs.PlaceSteps.{placedOf}
+use Rattle.engine_numerators.specs.NumeratorSteps.{windowSums, chosenAt, adjustmentOf, numeratorsOf, Written}
 use Rattle.engine_numerators.proofs.Signed.{mag-difference}
 use Rattle.engine_numerators.proofs.Windows.{small, part-all, ruler-most, windows-most}
 use Rattle.engine_numerators.proofs.Standing.{S-placed, B-placed}

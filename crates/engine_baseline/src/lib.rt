@@ -37,7 +37,7 @@ fn finish(
         return engine_answer::refuse(Refusal::NoAdjustmentWindow(chosen.reach));
     }
     let days = chosen.days;
-    let places = engine_numerators::placed(request, rooms, days, chosen.count, end);
+    let places = engine_places::placed(request, rooms, days, chosen.count, end);
     let length = (request.e - request.s) as usize;
     let part = &mut out[..length];
     let adjustment = engine_numerators::write(readings, places, yesterday, today, part);

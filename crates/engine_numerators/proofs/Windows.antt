@@ -20,7 +20,7 @@ use Rattle.engine_rooms.specs.Rooms.{readingsAt}
 use Rattle.base_lists.proofs.Places.{length-over, at-place, over-same}
 use Rattle.engine_sums.specs.QuarterSteps.{quarterSum}
 use Rattle.engine_sums.proofs.Adding.{sum-more}
-use Rattle.engine_numerators.specs.declared.Places.{Places}
+use Rattle.engine_places.specs.declared.Places.{Places}
 use Rattle.engine_numerators.specs.NumeratorSteps.{windowSums, counted, chosenAt, adjustmentOf, numeratorsOf, Written}
 
 -- ---- how large they get

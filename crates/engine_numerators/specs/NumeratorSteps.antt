@@ -1,32 +1,18 @@
 -- 01, "Adjustment and baseline", of chosen days that are read where they stand in lent readings.
-use Prim.Native.Nat.{ℕ, _+_, _-_, _%_, _^_, min}
+use Prim.Native.Nat.{ℕ, _+_, _%_, _^_, min}
 use mathlib.Core.Path.{_≡_}
 use mathlib.Core.List.{List, _++_, map}
-use lib.ListN.{getD, take}
+use lib.ListN.{take}
 use lib.IntN.{ℤ}
 use Rattle.base_lists.specs.Lists.{sumOf, places}
-use Rattle.method.specs.declared.Request.{Request}
-use Rattle.method.specs.Table.{size}
-use Rattle.method.specs.Ruler.{against}
 use Rattle.method.specs.Adjustment.{A, adjustment, unfloored, floored}
 use Rattle.engine_rooms.specs.Rooms.{readingsAt}
 use Rattle.engine_sums.specs.QuarterSteps.{quarterSum}
-use Rattle.engine_numerators.specs.declared.Places.{Places}
+use Rattle.engine_places.specs.declared.Places.{Places}
 
 -- B: the sum, over days of so many quarters, of the twelve readings that end at a place of the ruler that has the day twice
 unfoldable pub windowSums : ℕ → List ℕ → List ℕ → ℕ → ℕ
 windowSums quarters readings at end = sumOf (map (λ a. A (readingsAt quarters readings a ++ readingsAt quarters readings a) end) at)
-
--- the places of chosen days, by where the days before an event start: entry i is the i-th day before it. Window days have all as many quarters
-abbrev pub placedOf : Request → List ℕ → List ℕ → ℕ → ℕ → Places
-placedOf r starts days count end =
-    record {
-      at = map (λ k. getD starts (r .event - getD days k 0) 0) (places 5 0);
-      count = count;
-      quarters = size (getD days 0 0);
-      end = end;
-      start = against (r .event) (r .s);
-    }
 
 -- N: of more than five, five
 abbrev pub counted : Places → ℕ

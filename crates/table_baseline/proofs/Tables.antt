@@ -9,8 +9,8 @@ use Rattle.method.specs.Verdict.{refused, tableRefusals, methodology, verdict}
 use Rattle.base_lists.proofs.All.{all-take, all-drop}
 use lib.ListN.{drop}
 use Rattle.engine_rooms.specs.declared.Directory.{Directory}
-use Rattle.table_days.specs.Steps.{directoryOf}
-use Rattle.table_days.proofs.Rooms.{table-agrees}
+use Rattle.table_directory.specs.Steps.{directoryOf}
+use Rattle.table_directory.proofs.Rooms.{table-agrees}
 use Rattle.engine_refusals.specs.declared.Tested.the-variants.{Passed, Failed}
 use Rattle.engine_refusals.specs.Steps.{tested}
 use Rattle.engine_refusals.proofs.FirstRefusal.{first-failed, first-passed}

@@ -22,7 +22,7 @@ pub fn baseline(
     match of_table {
         Tested::Failed(refusal) => engine_answer::refuse(refusal),
         Tested::Passed => {
-            let rooms = table_days::directory(first, marks, request.event);
+            let rooms = table_directory::directory(first, marks, request.event);
             engine_baseline::baseline_over(request, rooms, readings, out)
         }
     }

@@ -1,3 +1,2 @@
 pub mod Extracts
-pub mod Rooms
 pub mod Laws

@@ -1,13 +1,13 @@
--- `engine_numerators::placed` meets its contract. The invariant: the places of the first `k` days are filled.
+-- `engine_places::placed` meets its contract. The invariant: the places of the first `k` days are filled.
 use Prim.Native.Nat.{_-_, _≤_}
 use mathlib.Core.Path.{_≡_, refl, ap, _∙_}
 use native.Mathlib.Omega.{arith}
 use borrow.Author.Needs.{needs}
 use lib.ListN.{getD}
 use Rattle.base_lists.proofs.Places.{filled, filled-more, filled-all}
-use Rattle.engine_numerators.proofs.placed.Statement.{statement}
+use Rattle.engine_places.proofs.placed.Statement.{statement}
 use Rattle.base_lists.specs.Lists.{places}
-use Rattle.engine_numerators.proofs.placed.Tie as tie
+use Rattle.engine_places.proofs.placed.Tie as tie
 
 abbrev Inv-loop : tie.InvT-loop
 Inv-loop request count end days starts at₀ k₀ at k = (k ≤ 5) × (at ≡ filled (λ j. getD starts (request .event - getD days j 0) 0) 5 k)

@@ -1,4 +1,4 @@
--- `table_days::directory` meets its contract. The loop's invariant: the first `i` places of both rows are filled.
+-- `table_directory::directory` meets its contract. The loop's invariant: the first `i` places of both rows are filled.
 use Prim.Native.Nat.{ℕ, _-_, _≤_, _<_}
 use mathlib.Core.Path.{_≡_, refl}
 use mathlib.Core.List.{List, []}
@@ -8,12 +8,12 @@ use lib.ListN.{getD}
 use Rattle.method.specs.Table.{offset}
 use Rattle.method.proofs.Tables.{offset-most}
 use Rattle.base_lists.proofs.Places.{filled, filled-more}
 use Rattle.table_days.specs.Lent.{tableOf}
-use Rattle.table_days.specs.Steps.{entriesOf}
-use Rattle.table_days.proofs.Rooms.{Entry, entry, directory-is}
-use Rattle.table_days.proofs.directory.Statement.{statement}
+use Rattle.table_directory.specs.Steps.{entriesOf}
+use Rattle.table_directory.proofs.Rooms.{Entry, entry, directory-is}
+use Rattle.table_directory.proofs.directory.Statement.{statement}
 use Rattle.base_lists.specs.Lists.{places}
-use Rattle.table_days.proofs.directory.Tie as tie
+use Rattle.table_directory.proofs.directory.Tie as tie
 
 -- the day of an entry is held
 within : {first event n i : ℕ} {marks : List ℕ} → ((readings : List ℕ) → n ≡ entriesOf (tableOf first marks readings) event) → i < n

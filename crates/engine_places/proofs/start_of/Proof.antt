@@ -1,10 +1,10 @@
--- `engine_numerators::start_of` meets its contract.
+-- `engine_places::start_of` meets its contract.
 use mathlib.Core.Path.{sym}
 use native.Mathlib.Omega.{arith}
 use borrow.Author.Needs.{needs}
 use lib.ListN.{List·getD-eq-default}
-use Rattle.engine_numerators.proofs.start_of.Statement.{statement}
-use Rattle.engine_numerators.proofs.start_of.Tie as tie
+use Rattle.engine_places.proofs.start_of.Statement.{statement}
+use Rattle.engine_places.proofs.start_of.Tie as tie
 
 mul-result : tie.Need-mul-result
 mul-result c = search needs
