@@ -1,4 +1,4 @@
--- Laws of `keep`, `member`, `any` and `leastOf`, each by induction on the list.
+-- Laws of `keep`, `member`, `any` and `leastOf`, and of `all` over what is kept, each by induction on the list.
 use mathlib.Core.Path.{_≡_, refl, sym, ap, _∙_}
 use mathlib.Core.Logic.{_⊎_, inl, inr, ⊎-elim}
 use mathlib.Core.Bool.{Bool, true, false, cond, _&&_, _||_, or-true, or-assoc, and-false, and-assoc}
@@ -9,8 +9,8 @@ use lib.ListN.{length, take, drop, replicate}
 use lib.Seq.{take-take}
 use lib.Dec.{eqb}
 use borrow.Author.Tests.{eq-eqb, eqb-true}
-use Rattle.base_lists.specs.Lists.{keep, any, member, leastOf}
-use Rattle.base_lists.proofs.Bools.{bool-cases, clash, and-left, and-right, either, or-none-left, or-none-right}
+use Rattle.base_lists.specs.Lists.{keep, all, any, member, leastOf}
+use Rattle.base_lists.proofs.Bools.{bool-cases, both, clash, and-left, and-right, either, or-none-left, or-none-right}
 use Rattle.base_lists.proofs.Members.{member-append}
 
 -- member
@@ -188,3 +188,19 @@ leastOf-from top (x ∷ xs) f t h =
 pub map-same : {B : Type 0} (f g : ℕ → B) (xs : List ℕ) → ((x : ℕ) → member x xs ≡ true → f x ≡ g x) → map f xs ≡ map g xs
 map-same f g [] h = refl
 map-same f g (x ∷ xs) h = rw (h x (member-head x xs), map-same f g xs (λ y m. h y (member-tail y x xs m)))
+
+-- all, of what is kept and of what is made of members
+module _ {A : Type 0} (q : A → Bool) where
+  pub all-keep : (p : A → Bool) (l : List A) → all q l ≡ true → all q (keep p l) ≡ true
+  unfolding all keep
+  all-keep p [] t = refl
+  all-keep p (x ∷ l) t = go (p x) (all-keep p l (both (q x) (all q l) t .1))
+    where
+      go : (b : Bool) → all q (keep p l) ≡ true → all q (cond b (x ∷ keep p l) (keep p l)) ≡ true
+      go true later = rw (both (q x) (all q l) t .0) later
+      go false later = later
+
+  pub all-mapped : (f : ℕ → A) (ds : List ℕ) → ((d : ℕ) → member d ds ≡ true → q (f d) ≡ true) → all q (map f ds) ≡ true
+  unfolding all
+  all-mapped f [] w = refl
+  all-mapped f (d ∷ ds) w = rw (w d (member-head d ds)) (all-mapped f ds (λ x m. w x (member-tail x d ds m)))

@@ -16,6 +16,7 @@ use Rattle.base_lists.proofs.Bools.{lt-or-le, same-test}
 use Rattle.base_lists.proofs.Maps.{map-take}
 use Rattle.base_lists.proofs.Parts.{take-within}
 use Rattle.calendar_groups.specs.declared.Group.{Group}
+use Rattle.base_lists.proofs.Keep.{all-keep}
 use Rattle.method.specs.declared.Request.{Request}
 use Rattle.method.specs.Table.{Day, History}
 use Rattle.method.specs.Relevant.{relevant}
@@ -45,7 +46,7 @@ use Rattle.engine_choice.specs.Steps.{Follows, inOrder, daysIn, picked, 
 use Rattle.engine_look_back.specs.Steps.{roomsOf, roomsBefore, nearest, heldDays, upTo, eligibleOf, spareOf, rowOf, spareRow, Looked}
 use Rattle.engine_look_back.proofs.Held.{before-is, before-most}
 use Rattle.engine_look_back.proofs.Enough.{Enough, enough}
-use Rattle.engine_look_back.proofs.Days.{seen-nearest, nearest-back, all-keep}
+use Rattle.engine_look_back.proofs.Days.{seen-nearest, nearest-back}
 use Rattle.engine_choice.proofs.Followed.{order-length, passed-at, taken-at, taken-within, lawful-by}
 
 -- The first words of a row of spare days are those of the days that fill a shortage

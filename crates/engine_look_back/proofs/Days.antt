@@ -7,8 +7,8 @@ use mathlib.Core.Logic.{⊎-elim}
 use native.Mathlib.Omega.{arith}
 use borrow.Author.Tests.{le-leb, lt-leb, lt-ltb}
 use Rattle.base_lists.specs.Lists.{keep, all, member}
-use Rattle.base_lists.proofs.Bools.{both, lt-or-le}
-use Rattle.base_lists.proofs.Keep.{keep-append, keep-yes, keep-none, kept-member, member-head, member-tail}
+use Rattle.base_lists.proofs.Bools.{lt-or-le}
+use Rattle.base_lists.proofs.Keep.{keep-append, keep-yes, keep-none, kept-member, all-mapped}
 use Rattle.calendar_groups.specs.declared.Group.{Group}
 use Rattle.method.specs.declared.Request.{Request}
 use Rattle.method.specs.Table.{Day, History, held}
@@ -93,21 +93,6 @@ module _ (group : ℕ → Group) (r : Request) (h : History Day) where
       → seen (methodBy group r rules) h ≡ nearest (relevant group r) r (h .day) (min 45 (r .event - h .first))
   unfolding seen nearest methodBy relevantDays
   seen-nearest rules o = ap (map {B = ℕ × Day} (λ d. (d, h .day d))) (held-days 45 (r .event) o)
-
-module _ {A : Type 0} (q : A → Bool) where
-  pub all-keep : (p : A → Bool) (l : List A) → all q l ≡ true → all q (keep p l) ≡ true
-  unfolding all keep
-  all-keep p [] t = refl
-  all-keep p (x ∷ l) t = go (p x) (all-keep p l (both (q x) (all q l) t .1))
-    where
-      go : (b : Bool) → all q (keep p l) ≡ true → all q (cond b (x ∷ keep p l) (keep p l)) ≡ true
-      go true later = rw (both (q x) (all q l) t .0) later
-      go false later = later
-
-  pub all-mapped : (f : ℕ → A) (ds : List ℕ) → ((d : ℕ) → member d ds ≡ true → q (f d) ≡ true) → all q (map f ds) ≡ true
-  unfolding all
-  all-mapped f [] w = refl
-  all-mapped f (d ∷ ds) w = rw (w d (member-head d ds)) (all-mapped f ds (λ x m. w x (member-tail x d ds m)))
 
 -- every day that is looked at lies in the look back
 module _ (test : ℕ → Bool) (r : Request) (day : ℕ → Day) where

@@ -13,7 +13,7 @@ use borrow.Author.Tests.{le-leb, lt-ltb, leb-true, ltb-true}
 use Rattle.base_lists.specs.Lists.{all, leading, sumOf, keep, member, leastOf, places}
 use Rattle.base_lists.proofs.Bools.{both}
 use Rattle.base_lists.proofs.All.{all-append, all-take, all-drop, all-at}
-use Rattle.base_lists.proofs.Keep.{kept-member}
+use Rattle.base_lists.proofs.Keep.{all-keep, all-mapped, kept-member}
 use Rattle.base_lists.proofs.Leading.{leading-most}
 use Rattle.calendar_groups.specs.declared.Group.{Group}
 use Rattle.calendar_groups.specs.declared.Group.the-variants.{Weekday, Saturday, HolidayGroup}
@@ -32,7 +32,6 @@ use Rattle.method.specs.Verdict.{Answer, Reply, refused, answered, carries, tab
 use Rattle.method_laws.proofs.LookBack.{lookBack-is}
 use Rattle.method_laws.proofs.Requested.{relevant-lookBack}
 use Rattle.method_laws.proofs.Sort.{all-sorted}
-use Rattle.engine_look_back.proofs.Days.{all-keep, all-mapped}
 use Rattle.base_lists.proofs.Places.{length-places}
 use Rattle.engine_numerators.proofs.Signed.{mag-difference}
 use Rattle.engine_numerators.proofs.Windows.{small, ruler-most}
