@@ -68,7 +68,7 @@ fn rules_of(request: Request, group: Group) -> Rules
 fn day_of(event: u32, word: u64) -> u32
     ensures { λ r. ⌜ r ≡ wordDay event word ⌝ }
 {
-    let back = counts::minus(engine_ranking::NEAREST, engine_ranking::nearness_of(word));
+    let back = counts::minus(engine_words::NEAREST, engine_words::nearness_of(word));
     counts::minus(event, back)
 }
 

@@ -30,9 +30,9 @@ pub fn judge(request: Request, mark: u8, part: &[u32], back: u32) -> Judged
         return Judged::Neither;
     }
     if day_readings::complete(part) {
-        let word = engine_ranking::word(
+        let word = engine_words::word(
             event_sum(request, part),
-            counts::minus(engine_ranking::NEAREST, back),
+            counts::minus(engine_words::NEAREST, back),
         );
         if day_marks::is_event(mark) {
             Judged::Spare(word)
