@@ -1,5 +1,5 @@
--- Demand 3 of the order (document 00), cut tables, over tables of any length. `proofs/CutTables` proves it for every group of days, table and
--- request, and `proofs/Extract` carries it to `verdict`. All three demands, about what the calls give back, stand in crate demands.
+-- Demand 3 of the order (document 00), cut tables, over tables of any length. `method_laws` proves it for every group of days, table and request
+-- (`CutTables`), and carries it to `verdict` (`Extract`). All three demands, about what the calls give back, stand in crate demands.
 use mathlib.Core.Path.{_≡_}
 use mathlib.Core.Bool.{Bool, true, false, _||_}
 use mathlib.Core.List.{List, reverse}
