@@ -1,4 +1,4 @@
--- What the private functions of the choice give, for any rules: steps on the way to `Choice`, which nobody has to believe.
+-- What the choice of days gives (`choiceOf`), and what its private functions give on the way, for any rules.
 use Prim.Native.Nat.{ℕ, _+_, _-_, _%_, _≤_, _<_, min}
 use mathlib.Core.Path.{_≡_}
 use mathlib.Core.Bool.{cond}

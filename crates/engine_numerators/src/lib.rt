@@ -2,7 +2,7 @@
 // readings, and numbers of 32 bits wrap.
 ghost use mathlib.Core.Path.{_≡_};
 ghost use mathlib.Core.List.{map};
-ghost use Prim.Native.Nat.{_+_, _%_, _^_, _≤_, _<_};
+ghost use Prim.Native.Nat.{_%_, _^_, _≤_, _<_};
 ghost use lib.ListN.{length, getD, take};
 ghost use lib.Signed.{mag};
 ghost use Rattle.base_lists.specs.Lists.{places};
