@@ -67,9 +67,9 @@ install: all ## install under PREFIX (/usr/local), below DESTDIR if given
 	install -m 644 build/include/honeyplank.h "$(DESTDIR)$(PREFIX)/include/"
 	install -m 755 $(program) "$(DESTDIR)$(PREFIX)/bin/"
 
-bench: all ## the entries' and the program's speed against plain C, in one run
+bench: all ## the entries' and the program's speed against plain C, in one run (BEFORE=DIR: against an earlier build/ too)
 	$(call need,gcc)
-	tests/bench/run
+	tests/bench/run $(if $(BEFORE),--before "$(BEFORE)")
 
 fuzz: all ## fuzz the file entries against plain C for FUZZ_SECONDS (600)
 	tests/fuzz/run $(FUZZ_SECONDS)

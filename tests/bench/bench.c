@@ -1,8 +1,10 @@
 /* bench DIR: the proved entries against the same rules in plain C at -O3, built by gcc and by clang, on the same input in one run. Prints
- * nanoseconds a call, the best of the rounds, which take turns, and the ratio to each plain build. Every buffer is touched before the clock
- * starts. The largest file, and the same with loads above eight million kW, are also written to DIR/largest.rec and DIR/high.rec, for the
+ * nanoseconds a call, the best of the rounds, which take turns, and the ratio of proved to each other way. Every buffer is touched before the
+ * clock starts. The largest file, and the same with loads above eight million kW, are also written to DIR/largest.rec and DIR/high.rec, for the
  * listing programs.
- * bench DIR once: each case once in each way, between call_begins and call_ends, for an emulator to count instructions. */
+ * bench DIR once: the names of the ways; then each case once in each way, between call_begins and call_ends, for an emulator to count
+ * instructions.
+ * Compiled with BEFORE it also measures the entries of an earlier archive, in which every name that it exports begins with before_. */
 #define _POSIX_C_SOURCE 200809L
 #include <stdio.h>
 #include <stdlib.h>
@@ -12,66 +14,108 @@
 #include "../c/record.h"
 #include "../reference/c/file.h"
 
-enum { ROUNDS = 41, CALLS = 500, EVENT_DAY = 9006, WAYS = 3 };
+enum { ROUNDS = 41, CALLS = 500, EVENT_DAY = 9006 };
 
-typedef uint32_t plain_table(uint32_t first, const uint8_t *marks, size_t days, const uint32_t *readings, size_t count, uint32_t p, uint32_t d,
-                             uint32_t s, uint32_t e, uint32_t n, uint32_t *out, size_t room, struct plain_answer *answer);
+/* The entries of an archive, as honeyplank.h declares them. */
+typedef uint32_t baseline_entry(const uint8_t *file, size_t length, size_t place, uint8_t *out, size_t room);
+typedef int64_t told_entry(const uint8_t *file, size_t length, size_t place, uint32_t name);
+typedef uint32_t baseline_table_entry(uint32_t first, const uint8_t *marks, size_t days, const uint32_t *readings, size_t count, uint32_t p,
+                                      uint32_t d, uint32_t s, uint32_t e, uint32_t n, uint32_t *out, size_t room);
+typedef int64_t told_table_entry(uint32_t first, const uint8_t *marks, size_t days, const uint32_t *readings, size_t count, uint32_t p,
+                                 uint32_t d, uint32_t s, uint32_t e, uint32_t n, uint32_t name);
+
+struct archive {
+    baseline_entry *baseline;
+    told_entry *told;
+    baseline_table_entry *baseline_table;
+    told_table_entry *told_table;
+};
+
+/* The same in plain C, where an answer tells everything. */
 typedef uint32_t plain_entry(const uint8_t *file, size_t length, size_t place, uint8_t *out, size_t room, struct plain_answer *answer);
+typedef uint32_t plain_table_entry(uint32_t first, const uint8_t *marks, size_t days, const uint32_t *readings, size_t count, uint32_t p,
+                                   uint32_t d, uint32_t s, uint32_t e, uint32_t n, uint32_t *out, size_t room, struct plain_answer *answer);
 
-plain_table plain_baseline_gcc, plain_baseline_clang;
+struct plain {
+    plain_entry *baseline;
+    plain_table_entry *baseline_table;
+};
+
 plain_entry plain_host_gcc, plain_host_clang;
+plain_table_entry plain_baseline_gcc, plain_baseline_clang;
 
-static const char *const names[WAYS] = {"proved", "gcc -O3", "clang -O3"};
+static const struct archive proved = {hp_baseline, hp_told, hp_baseline_table, hp_told_table};
+static const struct plain gcc = {plain_host_gcc, plain_baseline_gcc}, clang = {plain_host_clang, plain_baseline_clang};
+
+#ifdef BEFORE
+baseline_entry before_hp_baseline;
+told_entry before_hp_told;
+baseline_table_entry before_hp_baseline_table;
+told_table_entry before_hp_told_table;
+
+static const struct archive before = {before_hp_baseline, before_hp_told, before_hp_baseline_table, before_hp_told_table};
+#endif
+
+/* The ways that are measured, each by an archive or by plain C. The first is compared with each of the others. */
+static const struct way {
+    const char *name;
+    const struct archive *archive;
+    const struct plain *plain;
+} ways[] = {
+    {"proved", &proved, NULL},
+#ifdef BEFORE
+    {"before", &before, NULL},
+#endif
+    {"gcc -O3", NULL, &gcc},
+    {"clang -O3", NULL, &clang},
+};
+
+enum { WAYS = sizeof ways / sizeof ways[0] };
+
 static struct record_file file;
 static size_t place;
 static uint8_t marks[128];
 static uint32_t readings[128 * QUARTERS], days, s, e;
+static uint8_t out[HP_MOST_BYTES];
+static uint32_t numerators[QUARTERS];
+static struct plain_answer answer;
 
-static uint32_t plain_file_call(int way, struct plain_answer *answer)
-{
-    static uint8_t out[WAYS][HP_MOST_BYTES];
-    return (way == 1 ? plain_host_gcc : plain_host_clang)(file.bytes, file.length, place, out[way], HP_MOST_BYTES, answer);
-}
+/* A call of a case in one way: the number that comes back. */
+typedef uint32_t case_call(const struct way *way);
 
-static uint32_t call_file(int way)
+static uint32_t call_file(const struct way *way)
 {
-    static uint8_t out[HP_MOST_BYTES];
-    static struct plain_answer answer;
-    return way ? plain_file_call(way, &answer) : hp_baseline(file.bytes, file.length, place, out, HP_MOST_BYTES);
+    if (way->archive)
+        return way->archive->baseline(file.bytes, file.length, place, out, HP_MOST_BYTES);
+    return way->plain->baseline(file.bytes, file.length, place, out, HP_MOST_BYTES, &answer);
 }
 
 /* The reach. */
-static uint32_t call_told(int way)
+static uint32_t call_told(const struct way *way)
 {
-    static struct plain_answer answer;
-    if (way == 0)
-        return (uint32_t)hp_told(file.bytes, file.length, place, HP_REACH);
-    plain_file_call(way, &answer);
+    if (way->archive)
+        return (uint32_t)way->archive->told(file.bytes, file.length, place, HP_REACH);
+    call_file(way);
     return answer.reach;
 }
 
-static uint32_t plain_table_call(int way, struct plain_answer *answer)
+static uint32_t call_table(const struct way *way)
 {
-    static uint32_t out[WAYS][QUARTERS];
-    return (way == 1 ? plain_baseline_gcc : plain_baseline_clang)(EVENT_DAY + 1 - days, marks, days, readings, days * QUARTERS, 8000, EVENT_DAY, s,
-                                                                  e, s - 4, out[way], QUARTERS, answer);
-}
-
-static uint32_t call_table(int way)
-{
-    static uint32_t out[QUARTERS];
-    static struct plain_answer answer;
-    return way ? plain_table_call(way, &answer)
-               : hp_baseline_table(EVENT_DAY + 1 - days, marks, days, readings, days * QUARTERS, 8000, EVENT_DAY, s, e, s - 4, out, QUARTERS);
+    uint32_t first = EVENT_DAY + 1 - days;
+    size_t count = days * QUARTERS;
+    if (way->archive)
+        return way->archive->baseline_table(first, marks, days, readings, count, 8000, EVENT_DAY, s, e, s - 4, numerators, QUARTERS);
+    return way->plain->baseline_table(first, marks, days, readings, count, 8000, EVENT_DAY, s, e, s - 4, numerators, QUARTERS, &answer);
 }
 
 /* The reach. */
-static uint32_t call_told_table(int way)
+static uint32_t call_told_table(const struct way *way)
 {
-    static struct plain_answer answer;
-    if (way == 0)
-        return (uint32_t)hp_told_table(EVENT_DAY + 1 - days, marks, days, readings, days * QUARTERS, 8000, EVENT_DAY, s, e, s - 4, HP_REACH);
-    plain_table_call(way, &answer);
+    uint32_t first = EVENT_DAY + 1 - days;
+    size_t count = days * QUARTERS;
+    if (way->archive)
+        return (uint32_t)way->archive->told_table(first, marks, days, readings, count, 8000, EVENT_DAY, s, e, s - 4, HP_REACH);
+    call_table(way);
     return answer.reach;
 }
 
@@ -87,13 +131,12 @@ __attribute__((noinline)) void call_ends(void)
     __asm__ volatile("");
 }
 
-static void call_once(const char *name, uint32_t (*call)(int way))
+static void call_once(case_call *call)
 {
     int way;
-    printf("%s: result %u\n", name, call(0));
     for (way = 0; way < WAYS; way++) {
         call_begins();
-        call(way);
+        call(&ways[way]);
         call_ends();
     }
 }
@@ -105,32 +148,56 @@ static double now(void)
     return 1e9 * (double)time.tv_sec + (double)time.tv_nsec;
 }
 
-static void report(const char *name, uint32_t (*call)(int way))
+/* Nanoseconds a call. */
+static double time_calls(case_call *call, const struct way *way, uint32_t number)
 {
-    double best[WAYS] = {1e18, 1e18, 1e18};
-    uint32_t number = call(0);
-    int round, way, i;
-    if (once) {
-        call_once(name, call);
-        return;
-    }
-    for (way = 1; way < WAYS; way++)
-        if (call(way) != number) {
-            printf("%s: %s gives another number\n", name, names[way]);
-            exit(1);
-        }
+    double began = now();
+    int i;
+    for (i = 0; i < CALLS; i++)
+        if (call(way) != number)
+            abort();
+    return (now() - began) / CALLS;
+}
+
+static void time_rounds(case_call *call, uint32_t number, double best[WAYS])
+{
+    int round, way;
+    for (way = 0; way < WAYS; way++)
+        best[way] = 1e18;
     for (round = 0; round < ROUNDS; round++)
         for (way = 0; way < WAYS; way++) {
-            double began = now(), took;
-            for (i = 0; i < CALLS; i++)
-                if (call(way) != number)
-                    abort();
-            took = (now() - began) / CALLS;
+            double took = time_calls(call, &ways[way], number);
             best[way] = took < best[way] ? took : best[way];
         }
-    printf("%s: result %u, %s %.0f ns", name, number, names[0], best[0]);
+}
+
+/* The number that every way gives. */
+static uint32_t same_number(const char *name, case_call *call)
+{
+    uint32_t number = call(&ways[0]);
+    int way;
     for (way = 1; way < WAYS; way++)
-        printf(", %s %.0f ns (ratio %.2f)", names[way], best[way], best[0] / best[way]);
+        if (call(&ways[way]) != number) {
+            printf("%s: %s gives another number\n", name, ways[way].name);
+            exit(1);
+        }
+    return number;
+}
+
+static void report(const char *name, case_call *call)
+{
+    double best[WAYS];
+    uint32_t number = same_number(name, call);
+    int way;
+    printf("%s: result %u", name, number);
+    if (once)
+        call_once(call);
+    else {
+        time_rounds(call, number, best);
+        printf(", %s %.0f ns", ways[0].name, best[0]);
+        for (way = 1; way < WAYS; way++)
+            printf(", %s %.0f ns (ratio %.2f)", ways[way].name, best[way], best[0] / best[way]);
+    }
     printf("\n");
     fflush(stdout);
 }
@@ -185,6 +252,13 @@ static void put_largest(void)
     place = 0;
 }
 
+static void put_one_event(uint32_t h)
+{
+    put_days(h);
+    put_event(&file, EVENT_DAY, 152, 156, 148);
+    place = 0;
+}
+
 static void fill_table(uint32_t h)
 {
     uint32_t i;
@@ -203,12 +277,9 @@ static void files(void)
     report("file a. 128 days, 64 events, the first", call_file);
     place = 63;
     report("file b. 128 days, 64 events, the last", call_file);
-    put_days(46);
-    put_event(&file, EVENT_DAY, 152, 156, 148);
-    place = 0;
+    put_one_event(46);
     report("file c. 46 days, one event", call_file);
-    put_days(31);
-    put_event(&file, EVENT_DAY, 152, 156, 148);
+    put_one_event(31);
     put_event(&file, EVENT_DAY - 23, 152, 156, 148);
     report("file d. 31 days", call_file);
     place = 1;
@@ -225,6 +296,12 @@ static void files(void)
     load = high_on_some_days;
     put_largest();
     report("file i. 128 days, such loads on a day in eight", call_file);
+    load = ordinary;
+    put_one_event(92);
+    report("file j. 92 days, one event", call_file);
+    load = missing_on_some_days;
+    put_largest();
+    report("file k. 128 days, a reading missing on a day in four", call_file);
     load = ordinary;
     put_largest();
     report("told by a file. 128 days, the reach", call_told);
@@ -269,6 +346,14 @@ static void write_largest(const char *directory, const char *name)
     }
 }
 
+/* One line: the names of the ways, a tab between two. */
+static void print_names(void)
+{
+    int way;
+    for (way = 0; way < WAYS; way++)
+        printf("%s%c", ways[way].name, way + 1 < WAYS ? '\t' : '\n');
+}
+
 int main(int argc, char **argv)
 {
     once = argc == 3 && strcmp(argv[2], "once") == 0;
@@ -280,6 +365,8 @@ int main(int argc, char **argv)
     write_largest(argv[1], "high.rec");
     load = ordinary;
     write_largest(argv[1], "largest.rec");
+    if (once)
+        print_names();
     files();
     tables();
     return 0;
