@@ -38,9 +38,9 @@
 #define HP_VERSION_PATCH 0
 #define HP_VERSION "0.2.0"
 
-/* Stack, in bytes, that is enough for any entry but hp_listing: the entries over a file hold its marks and readings there (up to 49,280
- * bytes). hp_listing, whatever out_len is, has room there for any listing too. */
-#define HP_STACK 65536
+/* Stack, in bytes, that is enough for any entry but hp_listing: the entries over a file hold there its marks, and the readings of the event
+ * day and the 45 days before it (17,800 bytes). hp_listing, whatever out_len is, has room there for all days of a file and for any listing. */
+#define HP_STACK 28672
 #define HP_STACK_LISTING 327680
 
 /* What an entry gives back. The refusals are tested in this order: 11, 12, then 1 to 10. After the colon: what it carries (HP_CARRIED,

@@ -6,7 +6,7 @@
 
 // Every constant, in the header's order. The names' numbers are those of tests/compare/src/told.rs too.
 static_assert(HP_VERSION_MAJOR == 0 && HP_VERSION_MINOR == 2 && HP_VERSION_PATCH == 0 && std::string_view(HP_VERSION) == "0.2.0");
-static_assert(HP_STACK == 65536);
+static_assert(HP_STACK == 28672);
 static_assert(HP_STACK_LISTING == 327680);
 static_assert(HP_ANSWERED == 0);
 static_assert(HP_BAD_FILE == 11);

@@ -7,11 +7,11 @@ use mathlib.Core.Logic.{⊎-elim}
 use native.Mathlib.Omega.{arith}
 use lib.Bits.{bitOr, or-add-and, and-le-l, and-le-r}
 use lib.ListN.{length, getD, List·getD-eq-default}
-use borrow.Author.Tests.{le-leb, eq-eqb}
+use borrow.Author.Tests.{le-leb, eq-eqb, ne-eqb}
 use Rattle.base_lists.proofs.All.{all-of}
 use Rattle.base_lists.proofs.Bools.{lt-or-le}
 use Rattle.base_lists.specs.Lists.{all}
-use Rattle.method.specs.Table.{goodReading, missing}
+use Rattle.method.specs.Table.{present, goodReading, missing}
 use Rattle.day_readings.specs.Steps.{Joined}
 
 or-above : (a b : ℕ) → (a ≤ bitOr a b) × (b ≤ bitOr a b)
@@ -47,3 +47,12 @@ module _ (xs : List ℕ) (fits : (i : ℕ) → getD xs i 0 < 2 ^ 32) where
   pub joined-high : (more bits : ℕ) → more ≤ 1 → Joined xs more bits → (high : ℕ) → Joined xs 6777215 high → bits < 2 ^ 24 → high < 2 ^ 24
       → all goodReading xs ≡ true
   joined-high more bits m q high p b h = each-good (λ i l o. omega (arith, q i l, p i l))
+
+  -- where not all bits are set, none of them is the missing mark
+  pub joined-present : (bits : ℕ) → Joined xs 0 bits → bits < missing → all present xs ≡ true
+  joined-present bits q some =
+      all-of present 0 xs
+      (λ i.
+      ⊎-elim (λ (h : i < length xs). rw (ne-eqb (getD xs i 0) missing (λ e. omega (arith, q i h))))
+      (λ (h : length xs ≤ i). rw (List·getD-eq-default xs 0 h))
+      (lt-or-le i (length xs)))

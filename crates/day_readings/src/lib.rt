@@ -8,17 +8,6 @@ ghost use Rattle.day_readings.specs.Steps.{GoodBefore, Joined};
 use method::MISSING;
 use method::QUARTERS;
 
-// Whether no reading is missing. There is no branch in the loop, so that it takes several readings at a time.
-pub fn complete(day: &[u32]) -> bool
-    ensures { λ r. ⌜ r ≡ all present (now (day .entry)) ⌝ }
-{
-    let mut all_present = true;
-    for i in 0..day.len() {
-        all_present = all_present & (day[i] != MISSING);
-    }
-    all_present
-}
-
 // Whether a reading is in range, or missing.
 fn is_good(reading: u32) -> bool
     ensures { λ r. ⌜ r ≡ goodReading reading ⌝ }
@@ -35,6 +24,21 @@ fn joined(block: &[u32], more: u32) -> u32
         bits = bits | std::num::wrapping_add_u32(block[i], more);
     }
     bits
+}
+
+// Whether no reading is missing. Where the bits put together are not all set none is; else each reading is asked, without a branch in the loop, so
+// that it takes several at a time.
+pub fn complete(day: &[u32]) -> bool
+    ensures { λ r. ⌜ r ≡ all present (now (day .entry)) ⌝ }
+{
+    if joined(day, 0) < MISSING {
+        return true;
+    }
+    let mut all_present = true;
+    for i in 0..day.len() {
+        all_present = all_present & (day[i] != MISSING);
+    }
+    all_present
 }
 
 // Whether every reading of a block is known to be good, without a branch for each; a missing one passes where `more` is 1, and counts as 0.

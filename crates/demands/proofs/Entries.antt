@@ -24,9 +24,9 @@ use Rattle.method_laws.proofs.Replies.{other, none-early}
 use Rattle.engine_answer.specs.declared.Answer.{Answer}
 use Rattle.engine_answer.specs.Answer.{answerOf}
 use Rattle.engine_answer.proofs.Laws.{answers-unique}
-use Rattle.file_baseline.specs.Output.{bytesWritten}
-use Rattle.file_baseline.proofs.Laws.{file-answers-unique}
-use Rattle.file_baseline.proofs.Rooms.{room-enough}
+use Rattle.table_bytes.specs.Output.{bytesWritten}
+use Rattle.table_bytes.proofs.Laws.{answers-in-bytes-unique}
+use Rattle.demands.proofs.Rooms.{room-enough}
 use Rattle.file_baseline.specs.Reply.{fileReply}
 use Rattle.host_answer.specs.Names.{byName, refusalRow, rowFrom}
 use Rattle.host_answer.specs.Telling.{answerRow, toldBy}
@@ -172,7 +172,7 @@ file-tells file place name e = tells (ofFile file place) name (e ∙ ap (λ (x :
 pub demands-unique : (c : Call) {a a′ : Answer} {out after after′ : List ℕ} → Demands c a out after → Demands c a′ out after′
     → (a ≡ a′) × (after ≡ after′)
 demands-unique (overTable t r) p q = answers-unique (p .first .one) (q .first .one)
-demands-unique (ofFile file place) p q = file-answers-unique (p .first .one) (q .first .one)
+demands-unique (ofFile file place) p q = answers-in-bytes-unique (p .first .one) (q .first .one)
 
 pub entry-unique : (c : Call) {r r′ : ℕ} {out after after′ : List ℕ} → EntryDemands c r out after → EntryDemands c r′ out after′
     → (r ≡ r′) × (after ≡ after′)

@@ -5,4 +5,5 @@ pub mod Results
 pub mod Passing
 pub mod Answered
 pub mod Demands
+pub mod Rooms
 pub mod Entries

@@ -21,8 +21,8 @@ use Rattle.file_record.specs.Reader.{requestAt}
 use Rattle.engine_answer.specs.declared.Given.the-variants.{Answered, Refused}
 use Rattle.engine_answer.specs.declared.Answer.{Answer}
 use Rattle.engine_answer.specs.Answer.{answerOf, Answers}
-use Rattle.file_baseline.specs.Output.{FileAnswers, bytesWritten}
-use Rattle.file_baseline.proofs.Laws.{below-four}
+use Rattle.table_bytes.specs.Output.{AnswersInBytes, bytesWritten}
+use Rattle.table_bytes.proofs.Laws.{below-four}
 use Rattle.file_baseline.specs.Reply.{fileReply}
 use Rattle.demands.specs.Calls.{Call, overTable, ofFile, extract, request, perQuarter, stand, room, Gets, result, reported}
 use Rattle.demands.specs.Rows.{fileRows, tableRows, requestRows, dayRows, earlier, rows, answerOver}
@@ -65,7 +65,7 @@ gets-same c a out after e g = subst (λ (z : Reply). Gets c z a out after) e g
 -- what the contract of a call says
 abbrev pub Gives : Call → Answer → List ℕ → List ℕ → Type 0
 Gives (overTable t r) a out after = Answers (verdict group t r (length out)) a out after
-Gives (ofFile file place) a out after = FileAnswers (fileReply file place (length out)) a out after
+Gives (ofFile file place) a out after = AnswersInBytes (fileReply file place (length out)) a out after
 
 pub gives-gets : (c : Call) (a : Answer) (out after : List ℕ) → Gives c a out after → Gets c (replyOf c out) a out after
 unfolding fileRows firstOf

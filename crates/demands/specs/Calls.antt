@@ -10,7 +10,7 @@ use Rattle.engine_answer.specs.declared.Given.{Given}
 use Rattle.engine_answer.specs.declared.Given.the-variants.{Answered, Refused}
 use Rattle.engine_answer.specs.declared.Answer.{Answer}
 use Rattle.engine_answer.specs.Answer.{Answers}
-use Rattle.file_baseline.specs.Output.{FileAnswers}
+use Rattle.table_bytes.specs.Output.{AnswersInBytes}
 use Rattle.host_answer.specs.Telling.{numberOf}
 use Rattle.base_bytes.specs.Bytes.{readingBytes}
 
@@ -45,7 +45,7 @@ room (ofFile file place) out = length out / 4
 -- the result `a`, and the output that was `out` before and is `after` now, are those of a reply
 abbrev pub Gets : Call → Reply → Answer → List ℕ → List ℕ → Type 0
 Gets (overTable t r) reply a out after = Answers reply a out after
-Gets (ofFile file place) reply a out after = FileAnswers reply a out after
+Gets (ofFile file place) reply a out after = AnswersInBytes reply a out after
 
 -- "it gets 0 or the refusal number"
 abbrev pub result : Answer → ℕ

@@ -1,4 +1,2 @@
-pub mod Rooms
-pub mod Puts
-pub mod Laws
+pub mod DaysAsked
 pub mod Files

@@ -1,93 +1,145 @@
-// The baseline with the numerators as bytes: over a table, and of an event of a record file (document 01, "Record file, listing, host entry", the entry
-// that a metering platform calls).
-ghost use Prim.Native.Nat.{_/_, min, _*_};
+// The baseline of an event of a record file, with the numerators as bytes (document 01, "Record file, listing, host entry", the entry that a metering
+// platform calls).
+ghost use Prim.Native.Nat.{_/_};
 ghost use mathlib.Core.Path.{_≡_};
 ghost use lib.ListN.{length};
+ghost use Rattle.base_lists.specs.Lists.{leading};
 ghost use Rattle.calendar_groups.specs.Holidays.{group};
-ghost use Rattle.method.specs.Table.{mostQuarters};
-ghost use Rattle.method.specs.Verdict.{verdict};
-ghost use Rattle.table_days.specs.Lent.{tableOf};
+ghost use Rattle.method.specs.Table.{goodReading};
+ghost use Rattle.method.specs.Verdict.{tableRefusals, verdict};
+ghost use Rattle.engine_refusals.specs.Steps.{tested};
 ghost use Rattle.file_record.specs.Reader.{tableIn};
-ghost use Rattle.file_baseline.specs.Output.{FileAnswers};
+ghost use Rattle.table_bytes.specs.Output.{AnswersInBytes};
 ghost use Rattle.file_baseline.specs.Reply.{fileReply};
-ghost use Rattle.file_baseline.specs.Steps.{LaidDown, Fits};
-use base_numbers::sizes;
+ghost use Rattle.file_baseline.specs.Steps.{LaidDown, Loaded, asked as askedOf};
+use base_numbers::counts;
 use engine_answer::Answer;
-use engine_answer::Given;
+use engine_refusals::Tested;
 use file_record::EventAt;
 use file_record::Read;
 use file_record::Shape;
+use file_record::Span;
 use method::QUARTERS;
 use method::Refusal;
 use method::Request;
 
-// The baseline over a table, worked out in a buffer of numbers, and the numerators put as bytes.
-fn through_numbers(
-    first: u32,
-    marks: &[u8],
-    readings: &[u32],
-    request: Request,
-    numerators: &mut [u32],
-    out: &mut [u8],
-) -> Answer
-    requires { ⌜ length (now numerators) ≡ min (length (now out) / 4) mostQuarters ⌝ }
-    ensures { λ r. ⌜ FileAnswers (verdict group (tableOf first (now (marks .entry)) (now (readings .entry))) request (length (now (out .entry)) / 4)) r (now (out .entry)) (now (out .exit)) ⌝ }
+// Room for the readings of any days that an event can ask for, and for two more: the compiler then places the buffer at a multiple of 16 bytes, and
+// where it does not a call takes a tenth longer (docs/BENCHMARKS.md).
+const ROOM: usize = QUARTERS * engine_rooms::DAYS + 2;
+
+// The days that an event can ask for: D and the 45 days before it, as far as the file holds them; none where it does not hold D.
+fn asked(shape: Shape, event: u32) -> Span
+    ensures { λ r. ⌜ r ≡ askedOf shape event ⌝ }
 {
-    let answer = table_baseline::baseline(first, marks, readings, request, numerators);
-    let given = answer.given;
-    match given {
-        Given::Refused(_) => answer,
-        Given::Answered => {
-            let quarters = (request.e - request.s) as usize;
-            base_bytes::put_numbers(out, &numerators[..quarters]);
-            answer
+    if event < shape.first {
+        return Span { start: 0, end: 0 };
+    }
+    let before = event - shape.first;
+    if before < shape.days {
+        Span {
+            start: counts::minus(before, method::LOOK_BACK),
+            end: before + 1,
+        }
+    } else {
+        Span { start: 0, end: 0 }
+    }
+}
+
+// The place of the first bad reading of a file's table, of which the readings of a span are loaded.
+fn first_bad_reading(file: &[u8], shape: Shape, span: Span, rooms: &[u32]) -> usize
+    requires { ⌜ Loaded (now file) shape span (now rooms) ⌝ }
+    ensures { λ r. ⌜ r ≡ leading goodReading (tableIn (now (file .entry)) .readings) ⌝ }
+{
+    let before = Span {
+        start: 0,
+        end: span.start,
+    };
+    let start = day_ruler::offset(shape.first, span.start);
+    let bad = file_loading::first_bad_reading(file, shape, before);
+    if bad < start {
+        return bad;
+    }
+    let inside = day_readings::first_bad_reading(rooms);
+    if inside < rooms.len() {
+        return start + inside;
+    }
+    let after = Span {
+        start: span.end,
+        end: shape.days,
+    };
+    start + rooms.len() + file_loading::first_bad_reading(file, shape, after)
+}
+
+// Refusals 1 to 3 over the whole table of a file, of which the marks and the readings of a span are loaded.
+fn of_file(file: &[u8], shape: Shape, span: Span, marks: &[u8], rooms: &[u32]) -> Tested
+    requires { ⌜ Loaded (now file) shape span (now rooms) × (now marks ≡ tableIn (now file) .marks) ⌝ }
+    ensures { λ r. ⌜ r ≡ tested (tableRefusals (tableIn (now (file .entry)))) ⌝ }
+{
+    let count = day_ruler::offset(shape.first, shape.days);
+    let of_marks = table_refusals::of_marks(shape.first, marks, count);
+    match of_marks {
+        Tested::Failed(refusal) => Tested::Failed(refusal),
+        Tested::Passed => {
+            let reading = first_bad_reading(file, shape, span, rooms);
+            if reading < count {
+                Tested::Failed(Refusal::BadReading(reading as u32))
+            } else {
+                Tested::Passed
+            }
         }
     }
 }
 
-// The baseline over a table, with the numerators as bytes.
-fn baseline_in_bytes(
-    first: u32,
-    marks: &[u8],
-    readings: &[u32],
-    request: Request,
-    out: &mut [u8],
-) -> Answer
-    ensures { λ r. ⌜ FileAnswers (verdict group (tableOf first (now (marks .entry)) (now (readings .entry))) request (length (now (out .entry)) / 4)) r (now (out .entry)) (now (out .exit)) ⌝ }
-{
-    // an event has at most a day's quarters
-    let mut numerators = [0u32; QUARTERS];
-    let room = sizes::least(out.len() / 4, QUARTERS);
-    through_numbers(
-        first,
-        marks,
-        readings,
-        request,
-        &mut numerators[..room],
-        out,
-    )
-}
-
-// The baseline of an event over the table of a file of this shape, loaded into buffers that it fits.
+// The baseline of an event over the table of a file of this shape, whose marks and the days that the event can ask for are loaded.
 fn loaded_baseline(
     file: &[u8],
     shape: Shape,
     request: Request,
-    marks: &mut [u8],
-    readings: &mut [u32],
+    span: Span,
+    marks: &[u8],
+    rooms: &[u32],
     out: &mut [u8],
 ) -> Answer
-    requires { ⌜ Fits (now file) shape (length (now marks)) (length (now readings)) ⌝ }
-    ensures { λ r. ⌜ FileAnswers (verdict group (tableIn (now (file .entry))) request (length (now (out .entry)) / 4)) r (now (out .entry)) (now (out .exit)) ⌝ }
+    requires { ⌜ Loaded (now file) shape span (now rooms) × (now marks ≡ tableIn (now file) .marks) × (span ≡ askedOf shape (request .event)) ⌝ }
+    ensures { λ r. ⌜ AnswersInBytes (verdict group (tableIn (now (file .entry))) request (length (now (out .entry)) / 4)) r (now (out .entry)) (now (out .exit)) ⌝ }
 {
-    if file_loading::load_within(file, shape, marks, readings) {
+    let of_file = of_file(file, shape, span, marks, rooms);
+    match of_file {
+        Tested::Failed(refusal) => engine_answer::refuse(refusal),
+        Tested::Passed => {
+            let start = span.start as usize;
+            let end = span.end as usize;
+            table_bytes::over_table_in_bytes(
+                shape.first + span.start,
+                &marks[start..end],
+                rooms,
+                request,
+                out,
+            )
+        }
+    }
+}
+
+// The baseline of an event over the table of a file of this shape: what the event can ask for goes into rooms, and the other days are only
+// tested.
+fn event_baseline(file: &[u8], shape: Shape, request: Request, out: &mut [u8]) -> Answer
+    requires { ⌜ LaidDown (now file) shape ⌝ }
+    ensures { λ r. ⌜ AnswersInBytes (verdict group (tableIn (now (file .entry))) request (length (now (out .entry)) / 4)) r (now (out .entry)) (now (out .exit)) ⌝ }
+{
+    let span = asked(shape, request.event);
+    let mut marks = [0u8; 128];
+    let mut rooms = [0u32; ROOM];
+    if file_loading::load_within(file, shape, span, &mut marks, &mut rooms) {
         let days = shape.days as usize;
-        let count = day_ruler::offset(shape.first, shape.days);
-        baseline_in_bytes(
-            shape.first,
-            &marks[..days],
-            &readings[..count],
+        let count = day_ruler::offset(shape.first, span.end)
+            - day_ruler::offset(shape.first, span.start);
+        loaded_baseline(
+            file,
+            shape,
             request,
+            span,
+            &marks[..days],
+            &rooms[..count],
             out,
         )
     } else {
@@ -95,52 +147,10 @@ fn loaded_baseline(
     }
 }
 
-// The same in buffers for 32 days, for 64 and for 128: every array is filled when it is made, which a month's file need not pay for 128.
-fn in_32_days(file: &[u8], shape: Shape, request: Request, out: &mut [u8]) -> Answer
-    requires { ⌜ Fits (now file) shape 32 (mostQuarters * 32) ⌝ }
-    ensures { λ r. ⌜ FileAnswers (verdict group (tableIn (now (file .entry))) request (length (now (out .entry)) / 4)) r (now (out .entry)) (now (out .exit)) ⌝ }
-{
-    let mut marks = [0u8; 32];
-    let mut readings = [0u32; QUARTERS * 32];
-    loaded_baseline(file, shape, request, &mut marks, &mut readings, out)
-}
-
-fn in_64_days(file: &[u8], shape: Shape, request: Request, out: &mut [u8]) -> Answer
-    requires { ⌜ Fits (now file) shape 64 (mostQuarters * 64) ⌝ }
-    ensures { λ r. ⌜ FileAnswers (verdict group (tableIn (now (file .entry))) request (length (now (out .entry)) / 4)) r (now (out .entry)) (now (out .exit)) ⌝ }
-{
-    let mut marks = [0u8; 64];
-    let mut readings = [0u32; QUARTERS * 64];
-    loaded_baseline(file, shape, request, &mut marks, &mut readings, out)
-}
-
-fn in_128_days(file: &[u8], shape: Shape, request: Request, out: &mut [u8]) -> Answer
-    requires { ⌜ Fits (now file) shape 128 (mostQuarters * 128) ⌝ }
-    ensures { λ r. ⌜ FileAnswers (verdict group (tableIn (now (file .entry))) request (length (now (out .entry)) / 4)) r (now (out .entry)) (now (out .exit)) ⌝ }
-{
-    let mut marks = [0u8; 128];
-    let mut readings = [0u32; QUARTERS * 128];
-    loaded_baseline(file, shape, request, &mut marks, &mut readings, out)
-}
-
-// The baseline of an event over the table of a file of this shape.
-fn event_baseline(file: &[u8], shape: Shape, request: Request, out: &mut [u8]) -> Answer
-    requires { ⌜ LaidDown (now file) shape ⌝ }
-    ensures { λ r. ⌜ FileAnswers (verdict group (tableIn (now (file .entry))) request (length (now (out .entry)) / 4)) r (now (out .entry)) (now (out .exit)) ⌝ }
-{
-    if shape.days <= 32 {
-        return in_32_days(file, shape, request, out);
-    }
-    if shape.days <= 64 {
-        return in_64_days(file, shape, request, out);
-    }
-    in_128_days(file, shape, request, out)
-}
-
 // The baseline of the event at a place of a file of this shape. Refusal 12 fills no buffers.
 fn place_baseline(file: &[u8], shape: Shape, place: usize, out: &mut [u8]) -> Answer
     requires { ⌜ LaidDown (now file) shape ⌝ }
-    ensures { λ r. ⌜ FileAnswers (fileReply (now (file .entry)) place (length (now (out .entry)))) r (now (out .entry)) (now (out .exit)) ⌝ }
+    ensures { λ r. ⌜ AnswersInBytes (fileReply (now (file .entry)) place (length (now (out .entry)))) r (now (out .entry)) (now (out .exit)) ⌝ }
 {
     match file_events::event_within(file, shape, place) {
         EventAt::Refused(at) => engine_answer::refuse(Refusal::BadFile(at)),
@@ -152,7 +162,7 @@ fn place_baseline(file: &[u8], shape: Shape, place: usize, out: &mut [u8]) -> An
 // The baseline of the event at a place, counted from 0: the first refusal that applies, or the answer, with the numerators in the first bytes of
 // the output. The file is read once.
 pub fn file_baseline(file: &[u8], place: usize, out: &mut [u8]) -> Answer
-    ensures { λ r. ⌜ FileAnswers (fileReply (now (file .entry)) place (length (now (out .entry)))) r (now (out .entry)) (now (out .exit)) ⌝ }
+    ensures { λ r. ⌜ AnswersInBytes (fileReply (now (file .entry)) place (length (now (out .entry)))) r (now (out .entry)) (now (out .exit)) ⌝ }
 {
     match file_reading::read_file(file) {
         Read::Refused(at) => engine_answer::refuse(Refusal::BadFile(at)),

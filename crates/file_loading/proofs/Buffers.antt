@@ -5,26 +5,28 @@ use mathlib.Core.Bool.{Bool, true}
 use mathlib.Core.List.{List}
 use lib.ListN.{length, take, drop}
 use lib.Seq.{take-at}
-use Rattle.method.specs.Table.{offset}
 use Rattle.file_record.specs.declared.Shape.{Shape}
-use Rattle.file_record.specs.Steps.{tableWithin}
+use Rattle.file_record.specs.declared.Span.{Span}
+use Rattle.file_record.specs.Steps.{tableWithin, spanWithin}
+use Rattle.file_record.proofs.Lengths.{marks-within}
+use Rattle.file_record.proofs.Spans.{span-readings-length}
 use Rattle.file_loading.specs.Steps.{filledIf}
-use Rattle.file_loading.proofs.Loading.{marks-within, readings-within}
+use Rattle.file_loading.proofs.Loading.{place}
 
--- the first places of the buffers are the table of a shape, with so many readings
-pub record WithinBuffers (shape : Shape) (file : List ℕ) (count : ℕ) (marks readings : List ℕ) : Type 0 where
+-- the first places of the buffers are the marks of a shape, and the readings of a span of its days
+pub record WithinBuffers (shape : Shape) (s : Span) (file : List ℕ) (count : ℕ) (marks readings : List ℕ) : Type 0 where
   pub marks-size : length (take (shape .days) marks) ≡ shape .days
   pub readings-size : length (take count readings) ≡ count
   pub its-marks : take (shape .days) marks ≡ tableWithin shape file .marks
-  pub its-readings : take count readings ≡ tableWithin shape file .readings
+  pub its-readings : take count readings ≡ spanWithin shape s file .readings
 
-pub within-buffers : (shape : Shape) (file : List ℕ) {fits : Bool} {count : ℕ} {marks readings : List ℕ} (marks₀ readings₀ : List ℕ)
-    → marks ≡ filledIf fits (tableWithin shape file .marks) marks₀ → readings ≡ filledIf fits (tableWithin shape file .readings) readings₀ → fits ≡ true
-    → count ≡ offset (shape .first) (shape .days) → WithinBuffers shape file count marks readings
-within-buffers shape file {fits} {count} {marks} {readings} marks₀ readings₀ x y t n =
+pub within-buffers : (shape : Shape) (s : Span) (file : List ℕ) {fits : Bool} {count : ℕ} {marks readings : List ℕ} (marks₀ readings₀ : List ℕ)
+    → marks ≡ filledIf fits (tableWithin shape file .marks) marks₀ → readings ≡ filledIf fits (spanWithin shape s file .readings) readings₀ → fits ≡ true
+    → count ≡ place shape s (s .end) → WithinBuffers shape s file count marks readings
+within-buffers shape s file {fits} {count} {marks} {readings} marks₀ readings₀ x y t n =
     record {
       marks-size = rw first-marks (marks-within shape file);
-      readings-size = rw first-readings (readings-within shape file ∙ sym n);
+      readings-size = rw first-readings (span-readings-length shape file s ∙ sym n);
       its-marks = first-marks;
       its-readings = first-readings;
     }
@@ -32,7 +34,7 @@ within-buffers shape file {fits} {count} {marks} {readings} marks₀ readings₀
     first-marks : take (shape .days) marks ≡ tableWithin shape file .marks
     first-marks = rw (x, t) (take-at (tableWithin shape file .marks) (drop (length (tableWithin shape file .marks)) marks₀) (shape .days) (marks-within shape file))
 
-    first-readings : take count readings ≡ tableWithin shape file .readings
+    first-readings : take count readings ≡ spanWithin shape s file .readings
     first-readings =
         rw (y, t)
-        (take-at (tableWithin shape file .readings) (drop (length (tableWithin shape file .readings)) readings₀) count (readings-within shape file ∙ sym n))
+        (take-at (spanWithin shape s file .readings) (drop (length (spanWithin shape s file .readings)) readings₀) count (span-readings-length shape file s ∙ sym n))

@@ -6,7 +6,7 @@ use lib.ListN.{length, drop, length-append}
 use Rattle.method.specs.Table.{offset}
 use Rattle.file_record.specs.declared.Shape.{Shape}
 use Rattle.file_record.specs.declared.Read.the-variants.{File}
-use Rattle.file_record.specs.Reader.{dyLength, marksFrom, numbers, readingsFrom, shapeIn, tableIn, readFile}
+use Rattle.file_record.specs.Reader.{dyLength, shapeBase, marksFrom, numbers, readingsFrom, shapeIn, tableIn, readFile}
 use Rattle.file_record.specs.Steps.{tableWithin}
 use Rattle.file_record.proofs.Starts.{base-is}
 use Rattle.file_record.proofs.Files.{shape-fits}
@@ -30,3 +30,13 @@ readings-length (suc h) d left = rw (length-append, numbers-length, readings-len
 pub table-within : (file : List ℕ) {shape : Shape} → readFile file ≡ File shape → tableWithin shape file ≡ tableIn file
 unfolding tableWithin tableIn shapeIn
 table-within file {shape} r = rw (base-is file (shape-fits file shape r .is-shape), shape-fits file shape r .is-shape)
+
+-- how long the table of a shape is
+module _ (shape : Shape) (file : List ℕ) where
+  pub marks-within : length (tableWithin shape file .marks) ≡ shape .days
+  unfolding tableWithin
+  marks-within = marks-length (shape .days) (shape .first) (drop (shapeBase shape) file)
+
+  pub readings-within : length (tableWithin shape file .readings) ≡ offset (shape .first) (shape .days)
+  unfolding tableWithin
+  readings-within = readings-length (shape .days) (shape .first) (drop (shapeBase shape) file)

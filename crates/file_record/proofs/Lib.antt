@@ -6,6 +6,7 @@ pub mod Runs
 pub mod Files
 pub mod Events
 pub mod Lengths
+pub mod Spans
 pub mod Back
 pub mod ReadsBack
 pub mod WrittenAgain

@@ -1,11 +1,12 @@
 -- What a file of a known shape holds, whatever its bytes.
-use Prim.Native.Nat.{ℕ, _+_, _*_}
+use Prim.Native.Nat.{ℕ, _+_, _-_, _*_}
 use mathlib.Core.Bool.{cond, _&&_}
 use mathlib.Core.List.{List}
 use lib.ListN.{length, drop}
 use lib.Dec.{leb, ltb}
 use Rattle.method.specs.Table.{Table}
 use Rattle.file_record.specs.declared.Shape.{Shape}
+use Rattle.file_record.specs.declared.Span.{Span}
 use Rattle.file_record.specs.declared.EventAt.{EventAt}
 use Rattle.file_record.specs.declared.EventAt.the-variants.{Event as AnEvent, NoEvent}
 use Rattle.file_record.specs.Reader.{dayStart, evLength, eventOf, marksFrom, readingsFrom, requestOf, shapeBase}
@@ -18,6 +19,14 @@ tableWithin shape file =
       marks = marksFrom (shape .days) (shape .first) (drop (shapeBase shape) file);
       readings = readingsFrom (shape .days) (shape .first) (drop (shapeBase shape) file);
     }
+
+-- the days of a span of it, as an extract of their own
+unfoldable pub spanWithin : Shape → Span → List ℕ → Table
+spanWithin shape span file =
+    let first = shape .first + span .start in
+    let days = span .end - span .start in
+    let left = drop (dayStart (shapeBase shape) (shape .first) (span .start)) file in
+    record { first = first; marks = marksFrom days first left; readings = readingsFrom days first left }
 
 -- the event at a place of it: none, too, where the bytes end before it does
 unfoldable pub eventWithin : Shape → List ℕ → ℕ → EventAt

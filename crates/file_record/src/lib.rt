@@ -10,6 +10,12 @@ pub struct Shape {
     pub events: u32,
 }
 
+// Some of the days of a file: from one, counted from 0, up to another, which is not among them.
+pub struct Span {
+    pub start: u32,
+    pub end: u32,
+}
+
 // A file, or refusal 11 with the start of the record that is not as laid down.
 pub enum Read {
     File(Shape),

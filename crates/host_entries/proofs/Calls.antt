@@ -6,7 +6,7 @@ use lib.IntN.{ℤ}
 use Rattle.method.specs.Verdict.{Reply}
 use Rattle.engine_answer.specs.declared.Answer.{Answer}
 use Rattle.engine_answer.specs.Answer.{answerOf, Answers}
-use Rattle.file_baseline.specs.Output.{FileAnswers}
+use Rattle.table_bytes.specs.Output.{AnswersInBytes}
 use Rattle.host_answer.specs.Telling.{numberOf, toldBy}
 use Rattle.listing_whole.specs.declared.Listed.{Listed}
 use Rattle.listing_whole.specs.Lists.{Lists}
@@ -14,7 +14,7 @@ use Rattle.host_file.specs.OfFile.{listedTold}
 use Rattle.host_entries.specs.Host.{TableCall, FileCall, ListingCall}
 
 module _ {reply : Reply} {answer : Answer} {r : ℕ} {out out′ : List ℕ} (n : r ≡ numberOf (answer .given)) where
-  pub file-call : FileAnswers reply answer out out′ → FileCall reply r out out′
+  pub file-call : AnswersInBytes reply answer out out′ → FileCall reply r out out′
   file-call q = record { result = n ∙ ap (λ (a : Answer). numberOf (a .given)) (q .answer); output = q .output }
 
   pub table-call : Answers reply answer out out′ → TableCall reply r out out′
@@ -22,7 +22,7 @@ module _ {reply : Reply} {answer : Answer} {r : ℕ} {out out′ : List ℕ} (n 
 
 -- what the answer of a call tells
 module _ {reply : Reply} {answer : Answer} {out out′ : List ℕ} (name : ℕ) {x : ℤ} (t : x ≡ toldBy answer name) where
-  pub file-told : FileAnswers reply answer out out′ → x ≡ toldBy (answerOf reply) name
+  pub file-told : AnswersInBytes reply answer out out′ → x ≡ toldBy (answerOf reply) name
   file-told q = t ∙ ap (λ (a : Answer). toldBy a name) (q .answer)
 
   pub table-told : Answers reply answer out out′ → x ≡ toldBy (answerOf reply) name

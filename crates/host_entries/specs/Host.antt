@@ -9,7 +9,7 @@ use Rattle.method.specs.declared.Request.{Request}
 use Rattle.method.specs.Table.{mostQuarters}
 use Rattle.method.specs.Verdict.{Reply, written}
 use Rattle.engine_answer.specs.Answer.{answerOf}
-use Rattle.file_baseline.specs.Output.{bytesWritten}
+use Rattle.table_bytes.specs.Output.{bytesWritten}
 use Rattle.listing_lines.specs.Listing.{listing}
 use Rattle.listing_whole.specs.Lists.{listedIn}
 use Rattle.host_answer.specs.Telling.{numberOf}

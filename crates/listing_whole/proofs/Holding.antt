@@ -15,16 +15,18 @@ use Rattle.file_record.specs.Reader.{readFile, tableIn, shapeIn, requestAt}
 use Rattle.file_record.specs.Steps.{eventWithin}
 use Rattle.file_record.proofs.Files.{shape-fits}
 use Rattle.file_record.proofs.Lengths.{table-within}
+use Rattle.file_record.proofs.Spans.{span, whole-span}
 use Rattle.file_record.proofs.Events.{within-is}
 use Rattle.file_loading.proofs.Buffers.{WithinBuffers}
 use Rattle.listing_lines.specs.Listing.{eventText}
 use Rattle.listing_lines.specs.WriteSteps.{PutsWithin}
 use Rattle.listing_whole.specs.Steps.{Holds}
 
-pub holds : {file : List ℕ} {shape : Shape} {count : ℕ} {marks readings : List ℕ} → readFile file ≡ File shape → WithinBuffers shape file count marks readings
+pub holds : {file : List ℕ} {shape : Shape} {count : ℕ} {marks readings : List ℕ} → readFile file ≡ File shape
+    → WithinBuffers shape (span shape file 0 (shape .days)) file count marks readings
     → Holds file shape (take (shape .days) marks) (take count readings)
-holds {file} r q =
-    record { accepted = r; its-marks = rw (q .its-marks, table-within file r); its-readings = rw (q .its-readings, table-within file r) }
+holds {file} {shape} r q =
+    record { accepted = r; its-marks = rw (q .its-marks, table-within file r); its-readings = rw (q .its-readings, whole-span shape file, table-within file r) }
 
 module _ {file : List ℕ} {shape : Shape} {marks readings : List ℕ} (q : Holds file shape marks readings) where
   first-in : shape .first ≡ tableIn file .first

@@ -13,6 +13,7 @@ ghost use Rattle.listing_whole.specs.Lists.{mostListing, Lists};
 use file_record::EventAt;
 use file_record::Read;
 use file_record::Shape;
+use file_record::Span;
 use method::QUARTERS;
 
 // The listing stands first in the lent buffer, and is so long; or it does not fit.
@@ -72,7 +73,11 @@ fn put_file(file: &[u8], shape: Shape, out: &mut [u8]) -> usize
 {
     let mut marks = [0u8; 128];
     let mut readings = [0u32; QUARTERS * 128];
-    file_loading::load_within(file, shape, &mut marks, &mut readings);
+    let whole = Span {
+        start: 0,
+        end: shape.days,
+    };
+    file_loading::load_within(file, shape, whole, &mut marks, &mut readings);
     let days = shape.days as usize;
     let count = day_ruler::offset(shape.first, shape.days);
     let next = listing_first_line::opening(Read::File(shape), out);

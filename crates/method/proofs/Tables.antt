@@ -182,6 +182,55 @@ module _ (t : Table) (r : Request) (well : wellFormed t ≡ true) (holds : held 
       fits : heldBefore t r - k < heldDays t
       fits = omega (arith, held-first (history t) (r .event) holds, held-last (history t) (r .event) holds)
 
+-- a table that another one is part of: days stand before it, and days behind it
+module _ (t p : Table) (marks-before marks-behind readings-before readings-behind : List ℕ)
+    (marks : t .marks ≡ marks-before ++ (p .marks ++ marks-behind)) (readings : t .readings ≡ readings-before ++ (p .readings ++ readings-behind))
+    (first : p .first ≡ t .first + length marks-before) (before : length readings-before ≡ offset (t .first) (length marks-before))
+    (sized : length (p .readings) ≡ offset (p .first) (heldDays p)) where
+  part-day : (d : ℕ) → held (history p) d ≡ true → dayOf t d ≡ dayOf p d
+  unfolding dayOf
+  part-day d h = λ i. record { mark = its-mark i; readings = its-readings i }
+    where
+      since : p .first ≤ d
+      since = held-first (history p) d h
+
+      split : d - t .first ≡ length marks-before + (d - p .first)
+      split = omega (arith, since)
+
+      its-mark : getD (t .marks) (d - t .first) 0 ≡ getD (p .marks) (d - p .first) 0
+      its-mark =
+          rw (marks, split, ← getD-drop (length marks-before) (marks-before ++ (p .marks ++ marks-behind)) (d - p .first) 0, drop-at marks-before (p .marks ++ marks-behind) (length marks-before) refl)
+          (List·getD-append (p .marks) marks-behind 0 (d - p .first) (omega (arith, since, held-last (history p) d h)))
+
+      at : ℕ
+      at = offset (p .first) (d - p .first)
+
+      inside : at + size d ≤ length (p .readings)
+      inside = omega (arith, sized, offset-within (p .first) (heldDays p) d since (held-last (history p) d h))
+
+      start : offset (t .first) (d - t .first) ≡ length readings-before + at
+      start = rw (split, offset-add (t .first) (length marks-before) (d - p .first), ← first, before) refl
+
+      its-readings : take (size d) (drop (offset (t .first) (d - t .first)) (t .readings)) ≡ take (size d) (drop at (p .readings))
+      its-readings =
+          rw (
+            start,
+            readings,
+            ← drop-drop at (length readings-before) (readings-before ++ (p .readings ++ readings-behind)),
+            drop-at readings-before (p .readings ++ readings-behind) (length readings-before) refl,
+            drop-append-le at (p .readings) readings-behind (omega (arith, inside)),
+            take-append-le (size d) (drop at (p .readings)) readings-behind (rw length-drop (omega (arith, inside))),
+          )
+          refl
+
+  pub part-longer : Longer t p
+  part-longer =
+      record {
+        starts = omega arith;
+        ends = omega (arith, ap length marks ∙ length-append marks-before (p .marks ++ marks-behind), length-append (p .marks) marks-behind);
+        agrees = part-day;
+      }
+
 -- the table with `k` days before it, all marked `m` and with zero for every reading
 unfoldable pub padded : ℕ → ℕ → Table → Table
 padded k m t =

@@ -1,4 +1,4 @@
-// The baseline over a lent table: its refusals, its directory, and the engine.
+// The baseline over a lent table: its refusals, and the engine over its directory.
 ghost use lib.ListN.{length};
 ghost use Rattle.calendar_groups.specs.Holidays.{group};
 ghost use Rattle.method.specs.Verdict.{verdict};
@@ -21,9 +21,6 @@ pub fn baseline(
     let of_table = table_refusals::of_table(first, marks, readings);
     match of_table {
         Tested::Failed(refusal) => engine_answer::refuse(refusal),
-        Tested::Passed => {
-            let rooms = table_directory::directory(first, marks, request.event);
-            engine_baseline::baseline_over(request, rooms, readings, out)
-        }
+        Tested::Passed => table_engine::over_table(first, marks, readings, request, out),
     }
 }

@@ -3,6 +3,7 @@ ghost use denote.Ref.{ptr};
 ghost use mathlib.Core.Path.{_≡_};
 ghost use mathlib.Core.List.{List};
 ghost use Prim.Native.Nat.{ℕ};
+ghost use lib.ListN.{length};
 ghost use Rattle.method.specs.Table.{isExtract, held, history};
 ghost use Rattle.table_days.specs.Lent.{tableOf};
 ghost use Rattle.table_days.specs.Part.{hasDay, DayPart, partPlace};
@@ -13,9 +14,9 @@ pub enum Place {
     From(u32),
 }
 
-// Whether refusal 1 lets the table pass.
-pub fn is_extract(first: u32, marks: &[u8], readings: &[u32]) -> bool
-    ensures { λ r. ⌜ r ≡ isExtract (tableOf first (now (marks .entry)) (now (readings .entry))) ⌝ }
+// Whether refusal 1 lets a table with so many readings pass, whatever they are.
+pub fn is_extract(first: u32, marks: &[u8], count: usize) -> bool
+    ensures { λ r. ⌜ ((readings : List ℕ) → length readings ≡ count → r ≡ isExtract (tableOf first (now (marks .entry)) readings)) ⌝ }
 {
     let days = marks.len();
     if 128 < days {
@@ -24,7 +25,7 @@ pub fn is_extract(first: u32, marks: &[u8], readings: &[u32]) -> bool
     if days == 0 {
         return false;
     }
-    if readings.len() != day_ruler::offset(first, days as u32) {
+    if count != day_ruler::offset(first, days as u32) {
         return false;
     }
     (first as usize) + days - 1 <= (calendar_dates::LAST_DAY as usize)
@@ -45,7 +46,7 @@ fn is_held(first: u32, marks: &[u8], day: u32) -> bool
 fn has(first: u32, marks: &[u8], readings: &[u32], day: u32) -> bool
     ensures { λ r. ⌜ r ≡ hasDay (tableOf first (now (marks .entry)) (now (readings .entry))) day ⌝ }
 {
-    if is_extract(first, marks, readings) {
+    if is_extract(first, marks, readings.len()) {
         is_held(first, marks, day)
     } else {
         false

@@ -3,9 +3,11 @@ use Prim.Native.Nat.{_+_, _-_, _≤_}
 use mathlib.Core.Path.{_≡_, sym, _∙_}
 use native.Mathlib.Omega.{arith}
 use borrow.Author.Needs.{needs}
+use borrow.Author.Tests.{eqb-true}
 use lib.ListN.{length, drop, getD}
 use Rattle.base_lists.specs.Lists.{leading}
 use Rattle.base_lists.proofs.All.{leading-step, leading-stop, leading-end}
+use Rattle.base_lists.proofs.Leading.{all-leading}
 use Rattle.method.specs.Table.{goodMark}
 use Rattle.day_marks.proofs.Marks.{clear-mask, set-mask}
 use Rattle.day_marks.proofs.first_bad_mark.Statement.{statement}
@@ -17,17 +19,25 @@ Inv-loop marks i₀ i-end i = (i ≤ length marks) × (i + leading goodMark (dro
 abbrev μ-loop : tie.MeasureT-loop
 μ-loop marks i₀ i-end i = length marks - i
 
-loop-holds : tie.Need-loop-holds Inv-loop μ-loop
-loop-holds c = search needs
-
-shared-slice-read-if1 : tie.Need-shared-slice-read-if1 Inv-loop μ-loop
-shared-slice-read-if1 c = search needs
+all-good-requires : tie.Need-all-good-requires Inv-loop μ-loop
+all-good-requires c κs = search needs
 
 returns : tie.Need-returns Inv-loop μ-loop
 returns c =
+    let xs = c .before .before .before .args .marks .now in
+    sym (eqb-true (leading goodMark xs) (length xs) (sym (all-leading goodMark xs) ∙ sym (c .before .all-good .ensures) ∙ c .if1 .taken))
+
+loop-holds : tie.Need-loop-holds Inv-loop μ-loop
+loop-holds c = search needs
+
+shared-slice-read-if2 : tie.Need-shared-slice-read-if2 Inv-loop μ-loop
+shared-slice-read-if2 c = search needs
+
+returns-2 : tie.Need-returns-2 Inv-loop μ-loop
+returns-2 c =
     let l = c .before .before .before .loop in
-    let xs = c .before .before .before .before .args .marks .now in
-    let bad = set-mask (getD xs (l .i) 0) (c .before .shared-slice-known .given (l .i) .fits) (c .if1 .taken) in
+    let xs = c .before .before .before .before .before .before .before .args .marks .now in
+    let bad = set-mask (getD xs (l .i) 0) (c .before .shared-slice-known2 .given (l .i) .fits) (c .if2 .taken) in
     sym (leading-stop goodMark xs (l .i) 0 (c .before .before .loop-test .taken) bad) ∙ l .inv .1
 
 add-i : tie.Need-add-i Inv-loop μ-loop
@@ -39,14 +49,14 @@ loop-less c = search needs
 loop-again : tie.Need-loop-again Inv-loop μ-loop
 loop-again c =
     let l = c .before .before .before .loop in
-    let xs = c .before .before .before .before .args .marks .now in
-    let good = clear-mask (getD xs (l .i) 0) (c .before .shared-slice-known .given (l .i) .fits) (c .if1 .left) in
+    let xs = c .before .before .before .before .before .before .before .args .marks .now in
+    let good = clear-mask (getD xs (l .i) 0) (c .before .shared-slice-known2 .given (l .i) .fits) (c .if2 .left) in
     (search needs, leading-step goodMark xs (l .i) 0 (c .before .before .loop-test .taken) good ∙ l .inv .1)
 
-returns-2 : tie.Need-returns-2 Inv-loop μ-loop
-returns-2 c =
+returns-3 : tie.Need-returns-3 Inv-loop μ-loop
+returns-3 c =
     let l = c .before .loop in
-    omega (arith, leading-end goodMark (c .before .before .args .marks .now) (l .i) (c .loop-test .left))
+    omega (arith, leading-end goodMark (c .before .before .before .before .before .args .marks .now) (l .i) (c .loop-test .left))
 
 pub first-bad-mark-spec : {M : Type 1} → statement M
 first-bad-mark-spec =
@@ -54,10 +64,12 @@ first-bad-mark-spec =
     (tie.spec
     Inv-loop
     μ-loop
-    loop-holds
-    shared-slice-read-if1
+    all-good-requires
     returns
+    loop-holds
+    shared-slice-read-if2
+    returns-2
     add-i
     loop-less
     loop-again
-    returns-2)
+    returns-3)

@@ -1,7 +1,7 @@
 -- `file_baseline::file_baseline` meets its contract: a file that is read has the shape it was read as.
 use mathlib.Core.Path.{sym, _∙_}
 use lib.ListN.{length}
-use Rattle.file_baseline.proofs.Puts.{refuses}
+use Rattle.table_bytes.proofs.Laws.{refuses}
 use Rattle.file_baseline.proofs.Files.{refused-file}
 use borrow.Author.Needs.{needs}
 use Rattle.file_baseline.proofs.file_baseline.Statement.{statement}

@@ -2,7 +2,7 @@
 use mathlib.Core.Path.{_∙_}
 use lib.ListN.{length}
 use Rattle.file_record.proofs.Events.{within-is}
-use Rattle.file_baseline.proofs.Puts.{refuses}
+use Rattle.table_bytes.proofs.Laws.{refuses}
 use Rattle.file_baseline.proofs.Files.{refused-there, none-there, event-there}
 use borrow.Author.Needs.{needs}
 use Rattle.file_baseline.proofs.place_baseline.Statement.{statement}

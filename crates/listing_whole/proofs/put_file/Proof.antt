@@ -6,7 +6,8 @@ use borrow.Author.Needs.{needs}
 use Rattle.method.specs.Table.{mostQuarters}
 use Rattle.method.proofs.Tables.{offset-most}
 use Rattle.file_record.proofs.Files.{shape-fits}
-use Rattle.file_loading.proofs.Loading.{fits-own}
+use Rattle.file_record.proofs.Spans.{span}
+use Rattle.file_loading.proofs.Loading.{place-whole, fits-own}
 use Rattle.file_loading.proofs.Buffers.{WithinBuffers, within-buffers}
 use Rattle.listing_whole.proofs.Holding.{holds}
 use Rattle.listing_whole.proofs.Whole.{file-listed}
@@ -17,13 +18,17 @@ use Rattle.listing_whole.proofs.put_file.Tie as tie
 its : (c : tie.After-offset) →
     (let a = c .before .before .before .before .before .before .before .before .before .args in
     let l = c .before .before .before .before .load-within in
-    WithinBuffers (a .shape) (a .file .now) (c .offset .result) (l .last .1 .1 .0) (l .last .1 .1 .1 .0))
+    WithinBuffers (a .shape) (span (a .shape) (a .file .now) 0 (a .shape .days)) (a .file .now) (c .offset .result) (l .last .1 .1 .1 .0) (l .last .1 .1 .1 .1 .0))
 its c =
     let s = c .before .before .before .before .before .before .before .before .before in
+    let a = s .args in
     let l = c .before .before .before .before .load-within .ensures in
-    let few = shape-fits (s .args .file .now) (s .args .shape) (s .pre .0) .days in
-    let fits = fits-own (s .args .file .now) (s .pre .0) 128 (mostQuarters * 128) few (offset-most (s .args .shape .first) (s .args .shape .days) 128 few) in
-    within-buffers (s .args .shape) (s .args .file .now) _ _ (l .1 .0) (l .1 .1) (l .0 ∙ fits) (c .offset .ensures)
+    let all = span (a .shape) (a .file .now) 0 (a .shape .days) in
+    let few = shape-fits (a .file .now) (a .shape) (s .pre .0) .days in
+    let count = place-whole (a .shape) in
+    let fits = fits-own (a .shape) all (a .file .now) 128 (mostQuarters * 128) (s .pre .0) (omega arith) (omega arith) few
+    (omega (arith, count, offset-most (a .shape .first) (a .shape .days) 128 few)) in
+    within-buffers (a .shape) all (a .file .now) _ _ (l .1 .0) (l .1 .1) (l .0 ∙ fits) (c .offset .ensures ∙ sym count)
 
 slice-aggregate-load-within : tie.Need-slice-aggregate-load-within
 slice-aggregate-load-within c = search needs

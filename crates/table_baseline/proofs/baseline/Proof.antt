@@ -21,11 +21,8 @@ refuse-requires c κs = search needs
 enum-told : tie.Need-enum-told
 enum-told c = search needs
 
-directory-requires : tie.Need-directory-requires
-directory-requires c κs = search needs
-
-baseline-over-requires : tie.Need-baseline-over-requires
-baseline-over-requires c κs = search needs
+over-table-requires : tie.Need-over-table-requires
+over-table-requires c κs = search needs
 
 returns : tie.Need-returns
 returns c =
@@ -41,12 +38,10 @@ same-length c = search needs
 
 returns-2 : tie.Need-returns-2
 returns-2 c =
-    let d = c .before .before .before .before .before .before .before in
+    let d = c .before .before .before .before .before .before in
     let a = d .before .before .before .before .args in
     let t = tableOf (a .first) (a .marks .now) (a .readings .now) in
-    let room = length (a .out .now) in
-    rw (over-table group t (a .request) room (sym (d .of-table .ensures) ∙ c .before .before .before .before .before .enum-told .given .1)
-    (c .before .before .before .before .directory .ensures (a .readings .now))) at (c .before .before .baseline-over .ensures)
+    rw (over-table group t (a .request) (length (a .out .now)) (sym (d .of-table .ensures) ∙ c .before .before .before .before .enum-told .given .1)) at (c .before .before .over-table .ensures)
 
 pub baseline-spec : {M : Type 1} → statement M
 baseline-spec =
@@ -56,8 +51,7 @@ baseline-spec =
     enum-known-of-table
     refuse-requires
     enum-told
-    directory-requires
-    baseline-over-requires
+    over-table-requires
     returns
     same-length
     returns-2)

@@ -1,5 +1,5 @@
 -- `table_days::has` meets its contract.
-use mathlib.Core.Path.{sym, _∙_}
+use mathlib.Core.Path.{refl, sym, _∙_}
 use borrow.Author.Needs.{needs}
 use Rattle.table_days.specs.Lent.{tableOf}
 use Rattle.table_days.proofs.Extracts.{has-day, has-none}
@@ -17,12 +17,12 @@ returns c =
     let a = c .before .before .before .before .before .args in
     c .is-held .ensures (a .readings .now) ∙
     has-day (tableOf (a .first) (a .marks .now) (a .readings .now)) (a .day)
-    (sym (c .before .before .is-extract .ensures) ∙ c .before .if1 .taken)
+    (sym (c .before .before .is-extract .ensures (a .readings .now) refl) ∙ c .before .if1 .taken)
 
 returns-2 : tie.Need-returns-2
 returns-2 c =
     let a = c .before .before .before .before .args in
-    has-none (tableOf (a .first) (a .marks .now) (a .readings .now)) (a .day) (sym (c .before .is-extract .ensures) ∙ c .if1 .left)
+    has-none (tableOf (a .first) (a .marks .now) (a .readings .now)) (a .day) (sym (c .before .is-extract .ensures (a .readings .now) refl) ∙ c .if1 .left)
 
 pub has-spec : {M : Type 1} → statement M
 has-spec = tie.close (tie.spec is-extract-requires is-held-requires returns returns-2)

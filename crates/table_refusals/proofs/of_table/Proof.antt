@@ -1,83 +1,68 @@
 -- `table_refusals::of_table` meets its contract: each way out is a law of `FirstRefusal`.
-use mathlib.Core.Path.{sym, _∙_}
+use mathlib.Core.Path.{refl, sym, _∙_}
 use native.Mathlib.Omega.{arith}
 use borrow.Author.Needs.{needs}
 use lib.ListN.{length}
 use Rattle.table_days.specs.Lent.{tableOf}
 use Rattle.method.proofs.Tables.{offset-most}
 use Rattle.table_days.proofs.Extracts.{extract-is}
-use Rattle.table_refusals.proofs.FirstRefusal.{bad-table, bad-mark, bad-reading, good-table}
+use Rattle.table_refusals.proofs.FirstRefusal.{refused-early, early-passed, bad-reading, good-readings}
 use Rattle.table_refusals.proofs.of_table.Statement.{statement}
 use Rattle.table_refusals.proofs.of_table.Tie as tie
 
-is-extract-requires : tie.Need-is-extract-requires
-is-extract-requires c κs = search needs
+of-marks-requires : tie.Need-of-marks-requires
+of-marks-requires c κs = search needs
 
-first-bad-mark-requires : tie.Need-first-bad-mark-requires
-first-bad-mark-requires c κs = search needs
+enum-known-of-marks : tie.Need-enum-known-of-marks
+enum-known-of-marks c = search needs
 
-cast-t10 : tie.Need-cast-t10
-cast-t10 c =
-    let d = c .before .before .before in
+enum-told : tie.Need-enum-told
+enum-told c = search needs
+
+first-bad-reading-requires : tie.Need-first-bad-reading-requires
+first-bad-reading-requires c κs = search needs
+
+cast-t12 : tie.Need-cast-t12
+cast-t12 c =
+    let d = c .before .before .before .before in
     let a = d .before .before .before .args in
     let t = tableOf (a .first) (a .marks .now) (a .readings .now) in
-    let extract = sym (d .is-extract .ensures) ∙ c .before .before .if1 .taken in
-    omega (arith, extract-is t extract)
+    let early = sym (d .of-marks .ensures (a .readings .now) refl) ∙ c .before .before .enum-told .given .1 in
+    let x = extract-is t (early-passed t early .0) in
+    omega (arith, x .sized, offset-most (a .first) (length (a .marks .now)) 128 (x .most), c .if1 .taken)
 
 returns : tie.Need-returns
 returns c =
     let d = c .before .before .before in
     let a = d .before .before .before .args in
     let t = tableOf (a .first) (a .marks .now) (a .readings .now) in
-    let extract = sym (d .is-extract .ensures) ∙ c .before .before .if1 .taken in
-    bad-mark t extract (c .before .first-bad-mark .ensures) (c .if2 .taken)
-
-first-bad-reading-requires : tie.Need-first-bad-reading-requires
-first-bad-reading-requires c κs = search needs
-
-cast-t13 : tie.Need-cast-t13
-cast-t13 c =
-    let d = c .before .before .before .before .before in
-    let a = d .before .before .before .args in
-    let t = tableOf (a .first) (a .marks .now) (a .readings .now) in
-    let extract = sym (d .is-extract .ensures) ∙ c .before .before .before .before .if1 .taken in
-    let x = extract-is t extract in
-    omega (arith, x .sized, offset-most (a .first) (length (a .marks .now)) 128 (x .most))
+    sym (refused-early t (sym (d .of-marks .ensures (a .readings .now) refl) ∙ c .before .of-marks2 .given .1))
 
 returns-2 : tie.Need-returns-2
 returns-2 c =
-    let d = c .before .before .before .before .before in
+    let d = c .before .before .before .before in
     let a = d .before .before .before .args in
     let t = tableOf (a .first) (a .marks .now) (a .readings .now) in
-    let extract = sym (d .is-extract .ensures) ∙ c .before .before .before .before .if1 .taken in
-    bad-reading t extract (c .before .before .before .first-bad-mark .ensures) (c .before .before .if2 .left)
-    (c .before .first-bad-reading .ensures) (c .if3 .taken)
+    let early = sym (d .of-marks .ensures (a .readings .now) refl) ∙ c .before .before .enum-told .given .1 in
+    bad-reading t early (c .before .first-bad-reading .ensures) (c .if1 .taken)
 
 returns-3 : tie.Need-returns-3
 returns-3 c =
-    let d = c .before .before .before .before .before in
+    let d = c .before .before .before .before in
     let a = d .before .before .before .args in
     let t = tableOf (a .first) (a .marks .now) (a .readings .now) in
-    let extract = sym (d .is-extract .ensures) ∙ c .before .before .before .before .if1 .taken in
-    good-table t extract (c .before .before .before .first-bad-mark .ensures) (c .before .before .if2 .left)
-    (c .before .first-bad-reading .ensures) (c .if3 .left)
-
-returns-4 : tie.Need-returns-4
-returns-4 c =
-    let d = c .before in
-    let a = d .before .before .before .args in
-    bad-table (tableOf (a .first) (a .marks .now) (a .readings .now)) (sym (d .is-extract .ensures) ∙ c .if1 .left)
+    let early = sym (d .of-marks .ensures (a .readings .now) refl) ∙ c .before .before .enum-told .given .1 in
+    good-readings t early (c .before .first-bad-reading .ensures) (c .if1 .left)
 
 pub of-table-spec : {M : Type 1} → statement M
 of-table-spec =
     tie.close
     (tie.spec
-    is-extract-requires
-    first-bad-mark-requires
-    cast-t10
-    returns
+    of-marks-requires
+    enum-known-of-marks
+    enum-told
     first-bad-reading-requires
-    cast-t13
+    cast-t12
+    returns
     returns-2
-    returns-3
-    returns-4)
+    returns-3)

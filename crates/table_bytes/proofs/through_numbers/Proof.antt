@@ -1,25 +1,25 @@
--- `file_baseline::through_numbers` meets its contract: a refusal keeps the bytes, and an answer's numerators are put (`Numerators`).
+-- `table_bytes::through_numbers` meets its contract: a refusal keeps the bytes, and an answer's numerators are put (`Numerators`).
 use mathlib.Core.Path.{sym}
 use Rattle.table_days.specs.Lent.{tableOf}
-use Rattle.file_baseline.proofs.Puts.{Numerators, kept, numerators}
+use Rattle.table_bytes.proofs.Puts.{Numerators, kept, numerators}
 use borrow.Author.Needs.{needs}
-use Rattle.file_baseline.proofs.through_numbers.Statement.{statement}
-use Rattle.file_baseline.proofs.through_numbers.Tie as tie
+use Rattle.table_bytes.proofs.through_numbers.Statement.{statement}
+use Rattle.table_bytes.proofs.through_numbers.Tie as tie
 
 -- where the call answers, its numerators are one for each of the event's quarters
 its : (c : tie.After-enum-told2) →
     (let s = c .before .before .before .before .before .before .before .before .before .before in
     let a = s .args in
-    let q = c .before .before .before .before .baseline in
+    let q = c .before .before .before .before .over-table in
     Numerators (tableOf (a .first) (a .marks .now) (a .readings .now)) (a .request) (a .out .now) (a .numerators .now) (s .pre) (q .ensures))
 its c =
     let s = c .before .before .before .before .before .before .before .before .before .before in
     let a = s .args in
     numerators (tableOf (a .first) (a .marks .now) (a .readings .now)) (a .request) (a .out .now) (a .numerators .now) (s .pre)
-    (c .before .before .before .before .baseline .ensures) (c .enum-told2 .given .1)
+    (c .before .before .before .before .over-table .ensures) (c .enum-told2 .given .1)
 
-baseline-requires : tie.Need-baseline-requires
-baseline-requires c κs = search needs
+over-table-requires : tie.Need-over-table-requires
+over-table-requires c κs = search needs
 
 enum-told : tie.Need-enum-told
 enum-told c = search needs
@@ -49,7 +49,7 @@ returns : tie.Need-returns
 returns c =
     let s = c .before .before .before .before .before .before .before .before .before .before in
     let a = s .args in
-    kept (tableOf (a .first) (a .marks .now) (a .readings .now)) (a .request) (a .out .now) (a .numerators .now) (s .pre) (c .before .before .before .before .baseline .ensures)
+    kept (tableOf (a .first) (a .marks .now) (a .readings .now)) (a .request) (a .out .now) (a .numerators .now) (s .pre) (c .before .before .before .before .over-table .ensures)
     (c .enum-told .given .1)
 
 same-length-2 : tie.Need-same-length-2
@@ -65,7 +65,7 @@ pub through-numbers-spec : {M : Type 1} → statement M
 through-numbers-spec =
     tie.close
     (tie.spec
-    baseline-requires
+    over-table-requires
     enum-told
     enum-told-2
     sub-quarters

@@ -15,6 +15,6 @@ bytesWritten (refused w) out = out
 bytesWritten (answered a) out = readingBytes (a .numerators) ++ drop (4 * length (a .numerators)) out
 
 -- the answer and the output of a reply
-pub record FileAnswers (reply : Reply) (given : Answer) (before after : List ℕ) : Type 0 where
+pub record AnswersInBytes (reply : Reply) (given : Answer) (before after : List ℕ) : Type 0 where
   pub answer : given ≡ answerOf reply
   pub output : after ≡ bytesWritten reply before

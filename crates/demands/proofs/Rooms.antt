@@ -1,4 +1,4 @@
--- Room for numerators: more than a day's changes nothing, and with a day's there is always enough.
+-- Room for numerators: with a day's there is always enough.
 use Prim.Native.Nat.{ℕ, _-_, _≤_, _<_, min}
 use mathlib.Core.Path.{_≡_, ap}
 use mathlib.Core.Bool.{Bool, true, false, not, cond}
@@ -20,30 +20,6 @@ use Rattle.method.specs.Requested.{methodOf}
 use Rattle.method.specs.Verdict.{Reply, refused, number, goodRequest, tableRefusals, requestRefusals, closing, firstOf, methodology, verdict}
 use Rattle.method.proofs.Ruler.{day-most}
 use Rattle.engine_refusals.proofs.FirstRefusal.{good-request}
-
--- more room than a day's quarters changes no test
-most-room : (n k : ℕ) → k ≤ mostQuarters → ltb (min n mostQuarters) k ≡ ltb n k
-most-room n k h = ⊎-elim below enough (lt-or-le n k)
-  where
-    below : n < k → ltb (min n mostQuarters) k ≡ ltb n k
-    below g = let o : min n mostQuarters < k = omega arith in rw (lt-ltb (min n mostQuarters) k o, lt-ltb n k g)
-
-    enough : k ≤ n → ltb (min n mostQuarters) k ≡ ltb n k
-    enough g = let o : k ≤ min n mostQuarters = omega arith in rw (le-ltb (min n mostQuarters) k o, le-ltb n k g)
-
--- a day's quarters are room enough for every event
-pub room-same : (r : Request) (group : ℕ → Group) (t : Table) (room : ℕ) → verdict group t r (min room mostQuarters) ≡ verdict group t r room
-unfolding verdict methodology requestRefusals firstOf
-room-same r group t room = ⊎-elim good bad (bool-cases (goodRequest r))
-  where
-    good : goodRequest r ≡ true → verdict group t r (min room mostQuarters) ≡ verdict group t r room
-    good g =
-        let k = good-request r g in
-        let o : r .e - r .s ≤ mostQuarters = omega (arith, k .upTo, k .from, day-most (r .event)) in
-        rw (most-room room (r .e - r .s) o)
-
-    bad : goodRequest r ≡ false → verdict group t r (min room mostQuarters) ≡ verdict group t r room
-    bad g = rw g
 
 -- refusal 7 does not come where another test comes first, nor from what the days give
 module _ (b : Bool) (w : Refusal) (reply : Reply) where

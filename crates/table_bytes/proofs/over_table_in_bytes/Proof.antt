@@ -1,9 +1,9 @@
--- `file_baseline::baseline_in_bytes` meets its contract: its own numbers have as much room as the bytes, up to a day's.
+-- `table_bytes::over_table_in_bytes` meets its contract: its own numbers have as much room as the bytes, up to a day's.
 use native.Mathlib.Omega.{arith}
 use lib.ListN.{length-take}
 use borrow.Author.Needs.{needs}
-use Rattle.file_baseline.proofs.baseline_in_bytes.Statement.{statement}
-use Rattle.file_baseline.proofs.baseline_in_bytes.Tie as tie
+use Rattle.table_bytes.proofs.over_table_in_bytes.Statement.{statement}
+use Rattle.table_bytes.proofs.over_table_in_bytes.Tie as tie
 
 least-requires : tie.Need-least-requires
 least-requires c κs = search needs
@@ -23,8 +23,8 @@ same-length c = search needs
 returns : tie.Need-returns
 returns c = search needs
 
-pub baseline-in-bytes-spec : {M : Type 1} → statement M
-baseline-in-bytes-spec =
+pub over-table-in-bytes-spec : {M : Type 1} → statement M
+over-table-in-bytes-spec =
     tie.close
     (tie.spec
     least-requires
