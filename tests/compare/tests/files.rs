@@ -2,7 +2,7 @@
 
 use compare::files::{compare, compare_plain, Met};
 use compare::shrink::keep;
-use reference::{gen_cuts, gen_file, gen_small_file};
+use reference::{gen_cuts, gen_file, gen_look_backs, gen_small_file};
 
 /// As many files as are compared at each run, and every so manieth is a large one.
 const FILES: u64 = 220_000;
@@ -47,6 +47,20 @@ fn cut_files_agree() {
     }
     println!("{count} files cut at every length: {met:?}");
     assert!(met.refused[11] > 5_000);
+}
+
+/// What an event can ask for, what it cannot, and the days on both sides of the line.
+#[test]
+fn look_backs_agree() {
+    let mut met = Met::default();
+    let mut count = 0;
+    for (seed, file) in gen_look_backs().enumerate() {
+        check(&format!("look-back-{seed}"), &file, seed as u64, &mut met);
+        count += 1;
+    }
+    println!("{count} files around a look-back: {met:?}");
+    let answered = met.weekdays + met.saturdays + met.holidays;
+    assert!(answered > 200 && met.refused[2] > 500 && met.refused[3] > 800 && met.refused[5] > 50 && met.refused[8] > 100);
 }
 
 /// The measure for speed and for the fuzzer works out the same.

@@ -13,7 +13,7 @@ pub mod refusal;
 pub mod table;
 
 pub use baseline::{verdict, Answer};
-pub use generate::{gen_call, gen_cuts, gen_file, gen_small_file};
+pub use generate::{gen_call, gen_cuts, gen_file, gen_look_backs, gen_small_file};
 pub use listing::listing;
 pub use record::host;
 pub use refusal::Refusal;
