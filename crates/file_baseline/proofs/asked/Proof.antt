@@ -1,5 +1,4 @@
 -- `file_baseline::asked` meets its contract: one law for each way out.
-use mathlib.Core.Path.{refl}
 use Rattle.file_baseline.proofs.DaysAsked.{asked-early, asked-late, asked-held}
 use borrow.Author.Needs.{needs}
 use Rattle.file_baseline.proofs.asked.Statement.{statement}

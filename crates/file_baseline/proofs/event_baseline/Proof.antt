@@ -1,12 +1,9 @@
 -- `file_baseline::event_baseline` meets its contract: what the event can ask for always fits into the rooms.
-use Prim.Native.Nat.{_-_, _*_, _≤_}
+use Prim.Native.Nat.{_-_, _≤_}
 use mathlib.Core.Path.{sym, _∙_}
 use native.Mathlib.Omega.{arith}
-use lib.ListN.{length}
-use Rattle.method.specs.Table.{offset, mostQuarters}
-use Rattle.method.proofs.Tables.{offset-most}
 use Rattle.file_record.proofs.Files.{shape-fits}
-use Rattle.file_loading.proofs.Loading.{place, place-is}
+use Rattle.file_loading.proofs.Loading.{place-is}
 use Rattle.file_loading.proofs.Buffers.{WithinBuffers, within-buffers}
 use Rattle.file_baseline.proofs.DaysAsked.{asks-of}
 use Rattle.file_baseline.proofs.Files.{rooms-enough, in-rooms, in-marks, never-full}

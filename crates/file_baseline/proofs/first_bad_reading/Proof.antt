@@ -1,5 +1,4 @@
 -- `file_baseline::first_bad_reading` meets its contract: it is found before the span, in its rooms, or after it.
-use mathlib.Core.Path.{refl, sym, _∙_}
 use native.Mathlib.Omega.{arith}
 use Rattle.file_baseline.proofs.Files.{bad-few, rooms-few, found-before, found-inside, found-after}
 use borrow.Author.Needs.{needs}
