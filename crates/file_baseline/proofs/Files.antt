@@ -100,16 +100,16 @@ module _ {file : List ℕ} {shape : Shape} (event : ℕ) {count : ℕ} {s : Span
 -- ---- the first bad reading, of which the days before a span, the span in its rooms and the days after it are searched one after the other
 module _ {file : List ℕ} {shape : Shape} {s : Span} {rooms : List ℕ} (q : Loaded file shape s rooms) where
   abbrev before : List ℕ
-  before = spanWithin shape (span shape file 0 (s .start)) file .readings
+  before = spanWithin shape (span 0 (s .start)) file .readings
 
   abbrev behind : List ℕ
-  behind = spanWithin shape (span shape file (s .end) (shape .days)) file .readings
+  behind = spanWithin shape (span (s .end) (shape .days)) file .readings
 
   parts : tableIn file .readings ≡ before ++ (rooms ++ behind)
   parts = rw (← own-table (q .laid-down), q .its-rooms) (readings-parts shape file s (q .low) (q .high))
 
-  stands : (k m : ℕ) → k ≤ m → m ≤ shape .days → standsWithin shape (span shape file k m) (length file) ≡ true
-  stands k m low high = stands-in (stands-own (q .laid-down .accepted) (span shape file k m) low high)
+  stands : (k m : ℕ) → k ≤ m → m ≤ shape .days → standsWithin shape (span k m) (length file) ≡ true
+  stands k m low high = stands-in (stands-own (q .laid-down .accepted) (span k m) low high)
 
   long : length before ≡ offset (shape .first) (s .start)
   long = readings-before shape file s (q .low) (q .high)
@@ -118,9 +118,9 @@ module _ {file : List ℕ} {shape : Shape} {s : Span} {rooms : List ℕ} (q : Lo
   rooms-few =
       omega (arith, long, readings-few (q .laid-down), ap length parts ∙ length-append before (rooms ++ behind), length-append rooms behind)
 
-  module _ {bad : ℕ} (b : bad ≡ badWithin shape (span shape file 0 (s .start)) file) where
+  module _ {bad : ℕ} (b : bad ≡ badWithin shape (span 0 (s .start)) file) where
     bad-before : bad ≡ leading goodReading before
-    bad-before = b ∙ sym (bad-in shape (span shape file 0 (s .start)) file (stands 0 (s .start) (omega arith) (omega (arith, q .low, q .high))))
+    bad-before = b ∙ sym (bad-in shape (span 0 (s .start)) file (stands 0 (s .start) (omega arith) (omega (arith, q .low, q .high))))
 
     pub found-before : bad < offset (shape .first) (s .start) → bad ≡ leading goodReading (tableIn file .readings)
     found-before h =
@@ -134,14 +134,14 @@ module _ {file : List ℕ} {shape : Shape} {s : Span} {rooms : List ℕ} (q : Lo
       pub found-inside : inside < length rooms → offset (shape .first) (s .start) + inside ≡ leading goodReading (tableIn file .readings)
       found-inside h = omega (arith, from-rooms, leading-stops goodReading rooms behind (omega (arith, i)))
 
-      pub found-after : length rooms ≤ inside → {last : ℕ} → last ≡ badWithin shape (span shape file (s .end) (shape .days)) file
+      pub found-after : length rooms ≤ inside → {last : ℕ} → last ≡ badWithin shape (span (s .end) (shape .days)) file
           → offset (shape .first) (s .start) + length rooms + last ≡ leading goodReading (tableIn file .readings)
       found-after h l =
           omega (
             arith,
             from-rooms,
             leading-goes-on goodReading rooms behind (omega (arith, i)),
-            l ∙ sym (bad-in shape (span shape file (s .end) (shape .days)) file (stands (s .end) (shape .days) (q .high) (omega arith))),
+            l ∙ sym (bad-in shape (span (s .end) (shape .days)) file (stands (s .end) (shape .days) (q .high) (omega arith))),
           )
 
 -- ---- the table of the file, from its loaded marks

@@ -42,14 +42,15 @@ readings-cut (suc a) b d left =
     rw (suc-add, readings-cut a b (suc d) (drop (dyLength d) left), day, drop-drop (dayStart 0 (suc d) a) (dyLength d) left, ← day-start-cons d a)
     (sym (append-assoc (numbers (size d) (drop 6 left)) (readingsFrom a (suc d) (drop (dyLength d) left)) (readingsFrom b (d + suc a) (drop (dayStart 0 d (suc a)) left))))
 
+-- the days from the k-th on, up to the m-th
+abbrev pub span : ℕ → ℕ → Span
+span k m = record { start = k; end = m }
+
 module _ (shape : Shape) (file : List ℕ) where
   abbrev start : ℕ → ℕ
   start = dayStart (shapeBase shape) (shape .first)
 
-  abbrev pub span : ℕ → ℕ → Span
-  span k m = record { start = k; end = m }
-
-  -- how many readings stand before a day of a span, among those of the span
+  -- how many marks and readings the days of a span have
   pub span-marks-length : (s : Span) → length (spanWithin shape s file .marks) ≡ s .end - s .start
   unfolding spanWithin
   span-marks-length s = marks-length (s .end - s .start) (shape .first + s .start) (drop (start (s .start)) file)

@@ -23,7 +23,7 @@ use Rattle.listing_lines.specs.WriteSteps.{PutsWithin}
 use Rattle.listing_whole.specs.Steps.{Holds}
 
 pub holds : {file : List ℕ} {shape : Shape} {count : ℕ} {marks readings : List ℕ} → readFile file ≡ File shape
-    → WithinBuffers shape (span shape file 0 (shape .days)) file count marks readings
+    → WithinBuffers shape (span 0 (shape .days)) file count marks readings
     → Holds file shape (take (shape .days) marks) (take count readings)
 holds {file} {shape} r q =
     record { accepted = r; its-marks = rw (q .its-marks, table-within file r); its-readings = rw (q .its-readings, whole-span shape file, table-within file r) }

@@ -18,7 +18,7 @@ use Rattle.table_directory.proofs.Rooms.{table-agrees}
 
 module _ (t p : Table) (r : Request) (extract : isExtract t ≡ true) (longer : Longer t p) (few : heldDays p ≤ 128)
     (sized : length (p .readings) ≡ offset (p .first) (heldDays p)) where
-  -- the event day is in it
+  -- the event day is in both
   module _ (has : held (history t) (r .event) ≡ true) (holds : held (history p) (r .event) ≡ true)
       (back : min 46 (r .event + 1 - p .first) ≡ min 46 (r .event + 1 - t .first)) where
     part-extract : isExtract p ≡ true
@@ -42,7 +42,7 @@ module _ (t p : Table) (r : Request) (extract : isExtract t ≡ true) (longer : 
               (omega (arith, width, held-first (history p) (r .event) holds)) (omega (arith, held-last (history p) (r .event) holds))));
         }
 
-  -- nor in the table
+  -- the event day is in neither
   pub part-agrees-none : held (history t) (r .event) ≡ false → held (history p) (r .event) ≡ false → Agree r (directoryOf p (r .event)) (p .readings) (history t)
   unfolding directoryOf entriesOf
   part-agrees-none has holds =

@@ -18,12 +18,12 @@ use Rattle.listing_whole.proofs.put_file.Tie as tie
 its : (c : tie.After-offset) →
     (let a = c .before .before .before .before .before .before .before .before .before .args in
     let l = c .before .before .before .before .load-within in
-    WithinBuffers (a .shape) (span (a .shape) (a .file .now) 0 (a .shape .days)) (a .file .now) (c .offset .result) (l .last .1 .1 .1 .0) (l .last .1 .1 .1 .1 .0))
+    WithinBuffers (a .shape) (span 0 (a .shape .days)) (a .file .now) (c .offset .result) (l .last .1 .1 .1 .0) (l .last .1 .1 .1 .1 .0))
 its c =
     let s = c .before .before .before .before .before .before .before .before .before in
     let a = s .args in
     let l = c .before .before .before .before .load-within .ensures in
-    let all = span (a .shape) (a .file .now) 0 (a .shape .days) in
+    let all = span 0 (a .shape .days) in
     let few = shape-fits (a .file .now) (a .shape) (s .pre .0) .days in
     let count = place-whole (a .shape) in
     let fits = fits-own (a .shape) all (a .file .now) 128 (mostQuarters * 128) (s .pre .0) (omega arith) (omega arith) few
