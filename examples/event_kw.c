@@ -7,22 +7,6 @@
 
 #include "honeyplank.h"
 
-/* What each refusal means, by its number; what it carries is printed after it. */
-static const char *const reasons[] = {
-    [HP_BAD_TABLE] = "the file holds no days, or days after 2099",
-    [HP_BAD_MARK] = "a mark that means nothing, at the day of place",
-    [HP_BAD_READING] = "a reading above the highest, at place",
-    [HP_BAD_REQUEST] = "the request is out of range",
-    [HP_NOT_HELD] = "the file does not hold the event day",
-    [HP_NOT_YET_PARTICIPATING] = "participation starts after the event day",
-    [HP_NO_ROOM] = "too little room for the answer",
-    [HP_MARGIN_TOO_SHORT] = "the file starts too late; days before the event that always suffice:",
-    [HP_TOO_FEW] = "too few days to choose from; how many there are, and the reach:",
-    [HP_NO_ADJUSTMENT_WINDOW] = "no three hours without a gap before the event; the reach:",
-    [HP_BAD_FILE] = "no record file: what is not as laid down starts at byte",
-    [HP_NO_EVENT] = "the file has no event at that place",
-};
-
 /* One byte more than the longest record file, so that a longer one is refused. */
 static uint8_t file[HP_MOST_FILE + 1];
 
@@ -44,13 +28,13 @@ static int read_file(const char *name, size_t *length)
 
 static void print_refusal(size_t length, size_t place, uint32_t number)
 {
-    fprintf(stderr, "refused %" PRIu32 ": %s", number, reasons[number]);
+    fprintf(stderr, "refused %" PRIu32, number);
     for (uint32_t name = HP_CARRIED; name <= HP_CARRIED_SECOND; name++) {
         int64_t carried = hp_told(file, length, place, name);
         if (carried != HP_NOTHING)
             fprintf(stderr, " %" PRId64, carried);
     }
-    fprintf(stderr, "\n");
+    fprintf(stderr, ": %s\n", hp_refusal_text(number));
 }
 
 static void print_quarters(size_t length, size_t place, const uint8_t *numerators)
@@ -60,7 +44,7 @@ static void print_quarters(size_t length, size_t place, const uint8_t *numerator
     for (int64_t t = start; t < end; t++) {
         const uint8_t *b = numerators + 4 * (t - start);
         int64_t numerator = b[0] | b[1] << 8 | b[2] << 16 | (int64_t)b[3] << 24;
-        int64_t minute = 60 + 15 * (t - 96); /* the dispatch day starts at 01:00 */
+        int64_t minute = 60 + 15 * (t - HP_QUARTERS); /* the event day starts at 96, and at 01:00 */
         printf("%02" PRId64 ":%02" PRId64 " %" PRId64 " kW\n", minute / 60 % 24, minute % 60, (2 * numerator + over) / (2 * over));
     }
 }

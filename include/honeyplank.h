@@ -15,17 +15,24 @@
  *  - No state, no heap, no files, no locks: any threads may call at once. It always returns.
  *  - HP_STACK bytes of stack are enough for any entry but hp_listing, for which HP_STACK_LISTING are.
  *
- * Days are numbers: 0 is 1 January 2000, 36524 is 31 December 2099. A dispatch day has 96 quarters; quarter 0 begins at 01:00 Eastern
- * European Time. Places s, e and n stand on a ruler of two days: 0 to 95 is the day before the event, 96 to 191 the event day. The event
- * covers s up to but not e, and notice came at the start of quarter n. P is the first day of participation, D the event day, F the first day
- * held. The reach is how many days before the event were needed.
+ * Days are numbers: 0 is 1 January 2000, 36524 is 31 December 2099; hp_day and hp_date tell a date's number and a number's date. P is the first
+ * day of participation, D the event day, F the first day held. The reach is how many days before the event were needed.
+ *
+ * A dispatch day has 96 quarters; quarter 0 begins at 01:00 Eastern European Time. The event's start s, its end e and the notice n are places on
+ * a ruler of two days: 0 to 95 is the day before the event, 96 to 191 the event day. So 15:00 of the event day, its quarter 56, is place 152. The
+ * event covers s up to but not e, and notice came at the start of quarter n. Whoever counts within the day is told so for s and e, which are then
+ * out of range (HP_BAD_REQUEST), but not for n: notice at 14:00 of the event day is 148, and 52 is 14:00 of the day before. That is no mistake
+ * that can be seen: the baseline is then adjusted by the three hours before 14:00 of the day before, and is another number.
  *
  * A record file holds these records in this order and nothing else; numbers have the low byte first:
  *   one PF       8 bytes: the letters PF, P (2 bytes), the portfolio's number (4)
  *   up to 128 DY 390 bytes each, consecutive days: the letters DY, the day (2), its mark (1), a zero byte, 96 readings (4 each)
  *   up to 64 EV  8 bytes each: the letters EV, D (2), s, e, n (1 each), a zero byte
  *
- * The archive is for x86-64 Linux:   cc event.c $(pkg-config --cflags --libs honeyplank)
+ * docs/RECORD-FILE.md has it field by field. A refused file's offset is where the first record starts that is not so.
+ *
+ * Archive and shared library are for x86-64 Linux:   cc event.c $(pkg-config --cflags --libs honeyplank)         the archive
+ *                                                    cc event.c $(pkg-config --cflags --libs honeyplank-shared)  the shared library
  */
 #ifndef HONEYPLANK_H
 #define HONEYPLANK_H
@@ -34,9 +41,11 @@
 #include <stdint.h>
 
 #define HP_VERSION_MAJOR 0
-#define HP_VERSION_MINOR 2
+#define HP_VERSION_MINOR 3
 #define HP_VERSION_PATCH 0
-#define HP_VERSION "0.2.0"
+#define HP_VERSION "0.3.0"
+/* What hp_version() gives where the library is of this header. Before 1.0.0 the second number tells of a change that breaks callers. */
+#define HP_VERSION_NUMBER (10000 * HP_VERSION_MAJOR + 100 * HP_VERSION_MINOR + HP_VERSION_PATCH)
 
 /* Stack, in bytes, that is enough for any entry but hp_listing: the entries over a file hold there its marks, and the readings of the event
  * day and the 45 days before it (17,800 bytes). hp_listing, whatever out_len is, has room there for all days of a file and for any listing. */
@@ -58,6 +67,13 @@
 #define HP_MARGIN_TOO_SHORT 8       /* the table starts too late to tell: so many days before the event always suffice */
 #define HP_TOO_FEW 9                /* too few days to choose from: how many there are; the reach */
 #define HP_NO_ADJUSTMENT_WINDOW 10  /* no twelve quarters in a row are present: the reach */
+
+/* Days, and how many of what there are. */
+#define HP_QUARTERS 96     /* quarters of a day, and so readings of a day */
+#define HP_LAST_DAY 36524  /* 31 December 2099, where the calendar ends */
+#define HP_LOOK_BACK 45    /* days before the event that are looked at: with so many held before it, HP_MARGIN_TOO_SHORT never comes */
+#define HP_MOST_DAYS 128   /* days of a table or a file, at most */
+#define HP_MOST_EVENTS 64  /* events of a file, at most */
 
 /* Readings and marks. */
 #define HP_HIGHEST 10000000u    /* the highest reading, in kW */
@@ -107,43 +123,91 @@
 extern "C" {
 #endif
 
-/* The baseline of the event at `place` (from 0) of a record file: HP_ANSWERED or the number of one refusal.
+/* The baseline of the event at `event_place` of a record file, 0 for its first event: HP_ANSWERED or the number of one refusal.
  *
  * Answered: the first 4(e-s) bytes of `out` are the numerators, one a quarter, four bytes each, the low byte first; the rest is kept. The
  * baseline in kW is the numerator over the denominator, 60 for a weekday event and 24 for another (hp_told gives it).
  * Refused: `out` is kept. HP_NO_ROOM means that out_len is below 4(e-s). */
-uint32_t hp_baseline(const uint8_t *file, size_t file_len, size_t place, uint8_t *out, size_t out_len);
+uint32_t hp_baseline(const uint8_t *file, size_t file_len, size_t event_place, uint8_t *out, size_t out_len);
 
 /* What that result tells, with room for any event (HP_NO_ROOM never comes): the number of this name, from HP_RESULT to HP_ADJUSTMENT. */
-int64_t hp_told(const uint8_t *file, size_t file_len, size_t place, uint32_t name);
+int64_t hp_told(const uint8_t *file, size_t file_len, size_t event_place, uint32_t name);
 
-/* The baseline over a table in memory, with no file: `first` is its first day, `marks` one byte a day, `readings` 96 a day. The request is
- * `participation` (P), `event` (D), s, e and n. Gives HP_ANSWERED or a refusal from 1 to 10. Answered: the first e-s elements of `out` are
- * the numerators, and the rest is kept. Refused: `out` is kept. HP_NO_ROOM means that out_len is below e-s. */
-uint32_t hp_baseline_table(uint32_t first, const uint8_t *marks, size_t marks_len, const uint32_t *readings, size_t readings_len,
-                           uint32_t participation, uint32_t event, uint32_t s, uint32_t e, uint32_t n, uint32_t *out, size_t out_len);
+/* The baseline over a table in memory, with no file: `marks` has one byte a day, `readings` 96 a day.
+ *   first_day, participation_day, event_day   are days: F, P and D
+ *   event_start, event_end, notice            are places on the ruler of two days: s, e and n; 96 is where the event day starts
+ * Gives HP_ANSWERED or a refusal from 1 to 10. Answered: the first e-s elements of `out` are the numerators, and the rest is kept. Refused:
+ * `out` is kept. HP_NO_ROOM means that out_len is below e-s. */
+uint32_t hp_baseline_table(uint32_t first_day, const uint8_t *marks, size_t marks_len, const uint32_t *readings, size_t readings_len,
+                           uint32_t participation_day, uint32_t event_day, uint32_t event_start, uint32_t event_end, uint32_t notice,
+                           uint32_t *out, size_t out_len);
 
 /* What that result tells, with room for any event, as hp_told does. */
-int64_t hp_told_table(uint32_t first, const uint8_t *marks, size_t marks_len, const uint32_t *readings, size_t readings_len,
-                      uint32_t participation, uint32_t event, uint32_t s, uint32_t e, uint32_t n, uint32_t name);
+int64_t hp_told_table(uint32_t first_day, const uint8_t *marks, size_t marks_len, const uint32_t *readings, size_t readings_len,
+                      uint32_t participation_day, uint32_t event_day, uint32_t event_start, uint32_t event_end, uint32_t notice, uint32_t name);
 
 /* Where the 96 readings of a day stand in a table in memory: the place of its first in `readings`, from 0. HP_NOTHING where the day is not
  * held, or the table is one that HP_BAD_TABLE refuses. */
-int64_t hp_day_part(uint32_t first, const uint8_t *marks, size_t marks_len, const uint32_t *readings, size_t readings_len, uint32_t day);
+int64_t hp_day_part(uint32_t first_day, const uint8_t *marks, size_t marks_len, const uint32_t *readings, size_t readings_len, uint32_t day);
 
 /* What a record file holds: the number of this name, HP_RESULT (HP_ANSWERED or HP_BAD_FILE), HP_CARRIED, or HP_FILE_.. */
 int64_t hp_file(const uint8_t *file, size_t file_len, uint32_t name);
 
-/* The event at `place` (from 0) of a record file: the number of this name, HP_RESULT (HP_ANSWERED, HP_BAD_FILE or HP_NO_EVENT), HP_CARRIED, or
- * HP_EVENT_.. */
-int64_t hp_event(const uint8_t *file, size_t file_len, size_t place, uint32_t name);
+/* The event at `event_place` of a record file, 0 for its first event: the number of this name, HP_RESULT (HP_ANSWERED, HP_BAD_FILE or HP_NO_EVENT),
+ * HP_CARRIED, or HP_EVENT_.. */
+int64_t hp_event(const uint8_t *file, size_t file_len, size_t event_place, uint32_t name);
 
 /* The listing of a record file, as honeyplank-list prints it: its length in bytes, with the text at the start of `out` and the rest kept. Where
  * out_len is below that length: -HP_NO_ROOM, and `out` is kept. A file that is refused has a listing too (`file refused OFFSET`). */
 int64_t hp_listing(const uint8_t *file, size_t file_len, uint8_t *out, size_t out_len);
 
+/* The day number of a date, month and day counted from 1: hp_day(2024, 8, 28) is 9006. HP_NOTHING where there is no such date from 2000 to 2099. */
+int64_t hp_day(uint32_t year, uint32_t month, uint32_t day);
+
+/* The date of a day number, its digits as they are written: hp_date(9006) is 20240828. So date / 10000, date / 100 % 100 and date % 100 are its
+ * year, month and day. HP_NOTHING for a day after HP_LAST_DAY. */
+int64_t hp_date(uint32_t day);
+
+/* The version of the library that is linked or loaded: HP_VERSION_NUMBER of its own header. */
+uint32_t hp_version(void);
+
 #ifdef __cplusplus
 }
 #endif
+
+/* What HP_ANSWERED or a refusal means, in one sentence for people to read; what a refusal carries is not in it. */
+static inline const char *hp_refusal_text(uint32_t number)
+{
+    switch (number) {
+    case HP_ANSWERED:
+        return "The event has a baseline.";
+    case HP_BAD_TABLE:
+        return "The table has no days, more than 128, days after 2099, or not 96 readings a day.";
+    case HP_BAD_MARK:
+        return "A day has a mark that means nothing.";
+    case HP_BAD_READING:
+        return "A reading is above 10,000,000 kW and is not the missing mark.";
+    case HP_BAD_REQUEST:
+        return "The request is out of range.";
+    case HP_NOT_HELD:
+        return "The event day is not held.";
+    case HP_NOT_YET_PARTICIPATING:
+        return "Participation starts after the event day.";
+    case HP_NO_ROOM:
+        return "The output is too short.";
+    case HP_MARGIN_TOO_SHORT:
+        return "The days held start too late before the event to tell its baseline.";
+    case HP_TOO_FEW:
+        return "There are too few days to choose from.";
+    case HP_NO_ADJUSTMENT_WINDOW:
+        return "No twelve quarters in a row up to the event have all their readings.";
+    case HP_BAD_FILE:
+        return "The file is not a record file, or a record of it is not as laid down.";
+    case HP_NO_EVENT:
+        return "The file has no event at that place.";
+    default:
+        return "No result has this number.";
+    }
+}
 
 #endif

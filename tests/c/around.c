@@ -35,6 +35,9 @@ static void call_all(void)
     hp_baseline(file.bytes, file.length, place, out, sizeof out);
     hp_baseline_table(8879, marks, 128, readings, 128 * QUARTERS, 0, 9006, 96, 192, 96, numerators, QUARTERS);
     hp_day_part(8879, marks, 128, readings, 128 * QUARTERS, 9006);
+    hp_day(2024, 8, 28);
+    hp_date(9006);
+    hp_version();
     for (name = 0; name <= LAST_NAME; name++) {
         hp_told(file.bytes, file.length, place, name);
         hp_told_table(8879, marks, 128, readings, 128 * QUARTERS, 0, 9006, 96, 192, 96, name);

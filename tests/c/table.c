@@ -100,6 +100,24 @@ static void refusals(void)
     REFUSED(4, HP_NO_ADJUSTMENT_WINDOW, 21, NONE);
 }
 
+/* What the header says of places that are counted within the day: s and e are refused; n is taken, as a place of the day before. */
+static void within_the_day(void)
+{
+    static const uint32_t saturdays[] = {6951, 6965};
+    int i;
+    worked(), s = 56, e = 60, REFUSED(4, HP_BAD_REQUEST, NONE, NONE);
+    worked(), s = 56, REFUSED(4, HP_BAD_REQUEST, NONE, NONE);
+    worked(), e = 60, REFUSED(4, HP_BAD_REQUEST, NONE, NONE);
+    worked(), n = 52; /* the three hours before 14:00 of the day before: 40 to 51 on the ruler, at 900 kW */
+    for (i = 40; i < 52; i++)
+        readings[20 * QUARTERS + i] = 900;
+    {
+        struct result yesterday = answered(saturdays, 2, 21, 2 * 12 * 900 - 12 * 2500, 4, 12 * 2500 + 2 * 12 * 900 - 12 * 2500);
+        yesterday.numerators[0] += 12 * 7;
+        ANSWERED(4, yesterday);
+    }
+}
+
 /* hp_day_part of every day about the table, and of days far off: `held` says whether any is held. */
 static void expect_parts(int line, int held)
 {
@@ -164,6 +182,7 @@ int main(void)
     for (at_end = 0; at_end < 2; at_end++) {
         answers();
         refusals();
+        within_the_day();
         day_parts();
         nothing_lent();
     }

@@ -136,41 +136,42 @@ static void ask(struct peer_call *c, uint32_t participation, uint32_t event, uin
     c->n = n;
 }
 
-uint32_t hp_baseline(const uint8_t *file, size_t file_len, size_t place, uint8_t *out, size_t out_len)
+uint32_t hp_baseline(const uint8_t *file, size_t file_len, size_t event_place, uint8_t *out, size_t out_len)
 {
-    struct peer_call *c = begin_file(PEER_BASELINE, file, file_len, place);
+    struct peer_call *c = begin_file(PEER_BASELINE, file, file_len, event_place);
     c->out_len = out_len;
     return (uint32_t)carry(c, out, out_len);
 }
 
-int64_t hp_told(const uint8_t *file, size_t file_len, size_t place, uint32_t name)
+int64_t hp_told(const uint8_t *file, size_t file_len, size_t event_place, uint32_t name)
 {
-    struct peer_call *c = begin_file(PEER_TOLD, file, file_len, place);
+    struct peer_call *c = begin_file(PEER_TOLD, file, file_len, event_place);
     c->name = name;
     return carry(c, NULL, 0);
 }
 
-uint32_t hp_baseline_table(uint32_t first, const uint8_t *marks, size_t marks_len, const uint32_t *readings, size_t readings_len,
-                           uint32_t participation, uint32_t event, uint32_t s, uint32_t e, uint32_t n, uint32_t *out, size_t out_len)
+uint32_t hp_baseline_table(uint32_t first_day, const uint8_t *marks, size_t marks_len, const uint32_t *readings, size_t readings_len,
+                           uint32_t participation_day, uint32_t event_day, uint32_t event_start, uint32_t event_end, uint32_t notice,
+                           uint32_t *out, size_t out_len)
 {
-    struct peer_call *c = begin_table(PEER_BASELINE_TABLE, first, marks, marks_len, readings, readings_len);
-    ask(c, participation, event, s, e, n);
+    struct peer_call *c = begin_table(PEER_BASELINE_TABLE, first_day, marks, marks_len, readings, readings_len);
+    ask(c, participation_day, event_day, event_start, event_end, notice);
     c->out_len = out_len;
     return (uint32_t)carry(c, out, 4 * out_len);
 }
 
-int64_t hp_told_table(uint32_t first, const uint8_t *marks, size_t marks_len, const uint32_t *readings, size_t readings_len,
-                      uint32_t participation, uint32_t event, uint32_t s, uint32_t e, uint32_t n, uint32_t name)
+int64_t hp_told_table(uint32_t first_day, const uint8_t *marks, size_t marks_len, const uint32_t *readings, size_t readings_len,
+                      uint32_t participation_day, uint32_t event_day, uint32_t event_start, uint32_t event_end, uint32_t notice, uint32_t name)
 {
-    struct peer_call *c = begin_table(PEER_TOLD_TABLE, first, marks, marks_len, readings, readings_len);
-    ask(c, participation, event, s, e, n);
+    struct peer_call *c = begin_table(PEER_TOLD_TABLE, first_day, marks, marks_len, readings, readings_len);
+    ask(c, participation_day, event_day, event_start, event_end, notice);
     c->name = name;
     return carry(c, NULL, 0);
 }
 
-int64_t hp_day_part(uint32_t first, const uint8_t *marks, size_t marks_len, const uint32_t *readings, size_t readings_len, uint32_t day)
+int64_t hp_day_part(uint32_t first_day, const uint8_t *marks, size_t marks_len, const uint32_t *readings, size_t readings_len, uint32_t day)
 {
-    struct peer_call *c = begin_table(PEER_DAY_PART, first, marks, marks_len, readings, readings_len);
+    struct peer_call *c = begin_table(PEER_DAY_PART, first_day, marks, marks_len, readings, readings_len);
     c->event = day;
     return carry(c, NULL, 0);
 }
@@ -182,9 +183,9 @@ int64_t hp_file(const uint8_t *file, size_t file_len, uint32_t name)
     return carry(c, NULL, 0);
 }
 
-int64_t hp_event(const uint8_t *file, size_t file_len, size_t place, uint32_t name)
+int64_t hp_event(const uint8_t *file, size_t file_len, size_t event_place, uint32_t name)
 {
-    struct peer_call *c = begin_file(PEER_EVENT, file, file_len, place);
+    struct peer_call *c = begin_file(PEER_EVENT, file, file_len, event_place);
     c->name = name;
     return carry(c, NULL, 0);
 }
@@ -194,4 +195,23 @@ int64_t hp_listing(const uint8_t *file, size_t file_len, uint8_t *out, size_t ou
     struct peer_call *c = begin_file(PEER_LISTING, file, file_len, 0);
     c->out_len = out_len;
     return carry(c, out, out_len);
+}
+
+int64_t hp_day(uint32_t year, uint32_t month, uint32_t day)
+{
+    struct peer_call *c = begin_file(PEER_DAY, NULL, 0, 0);
+    ask(c, 0, 0, year, month, day);
+    return carry(c, NULL, 0);
+}
+
+int64_t hp_date(uint32_t day)
+{
+    struct peer_call *c = begin_file(PEER_DATE, NULL, 0, 0);
+    c->event = day;
+    return carry(c, NULL, 0);
+}
+
+uint32_t hp_version(void)
+{
+    return (uint32_t)carry(begin_file(PEER_VERSION, NULL, 0, 0), NULL, 0);
 }

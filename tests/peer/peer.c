@@ -25,6 +25,12 @@ static int64_t carry_out(struct peer_call *c)
         return hp_event(c->file, c->file_len, c->place, c->name);
     case PEER_LISTING:
         return hp_listing(c->file, c->file_len, c->out, c->out_len);
+    case PEER_DAY:
+        return hp_day(c->s, c->e, c->n);
+    case PEER_DATE:
+        return hp_date(c->event);
+    case PEER_VERSION:
+        return hp_version();
     }
     return 0;
 }

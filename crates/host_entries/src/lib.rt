@@ -11,6 +11,8 @@ ghost use Rattle.engine_answer.specs.Answer.{answerOf};
 ghost use Rattle.file_baseline.specs.Reply.{fileReply};
 ghost use Rattle.host_answer.specs.Telling.{toldBy};
 ghost use Rattle.host_file.specs.OfFile.{fileTold, eventTold, placeTold};
+ghost use Rattle.calendar_dates.specs.Days.{numbered, dated};
+ghost use Rattle.host_plain.specs.Plain.{dateWritten, dayTold, dateTold, version};
 ghost use Rattle.host_entries.specs.Host.{mostBytes, requestOf, TableCall, FileCall, ListingCall};
 use method::Request;
 
@@ -125,4 +127,28 @@ pub extern "C" fn hp_listing(file: &[u8], out: &mut [u8]) -> i64
 {
     let listed = listing_whole::listing(file, out);
     host_file::tell_listed(listed)
+}
+
+// The day number of a date.
+#[no_mangle]
+pub extern "C" fn hp_day(year: u32, month: u32, day: u32) -> i64
+    ensures { λ r. ⌜ r ≡ dayTold (numbered (dateWritten year month day)) ⌝ }
+{
+    host_plain::day_of(year, month, day)
+}
+
+// The date of a day number: year, month and day as one number.
+#[no_mangle]
+pub extern "C" fn hp_date(day: u32) -> i64
+    ensures { λ r. ⌜ r ≡ dateTold (dated day) ⌝ }
+{
+    host_plain::date_of(day)
+}
+
+// The version of these entries, as one number.
+#[no_mangle]
+pub extern "C" fn hp_version() -> u32
+    ensures { λ r. ⌜ r ≡ version ⌝ }
+{
+    host_plain::version()
 }

@@ -50,6 +50,30 @@ over_a_table! {
     plain_baseline(p: u32, d: u32, s: u32, e: u32, n: u32, out: *mut u32, room: usize, answer: *mut PlainAnswer) -> u32;
 }
 
+extern "C" {
+    fn hp_day(year: u32, month: u32, day: u32) -> i64;
+    fn hp_date(day: u32) -> i64;
+    fn hp_version() -> u32;
+}
+
+/// The day number of a date, or nothing.
+pub fn proved_day(year: u32, month: u32, day: u32) -> i64 {
+    // SAFETY: it takes any numbers.
+    unsafe { hp_day(year, month, day) }
+}
+
+/// The digits of a day's date, or nothing.
+pub fn proved_date(day: u32) -> i64 {
+    // SAFETY: it takes any number.
+    unsafe { hp_date(day) }
+}
+
+/// The version of the archive.
+pub fn proved_version() -> u32 {
+    // SAFETY: it takes nothing.
+    unsafe { hp_version() }
+}
+
 /// Calls such a function with a table, each pointer with its own length, and with the rest.
 macro_rules! call {
     ($name:ident, $table:expr, $($last:expr),*) => {{
