@@ -1,6 +1,7 @@
 //! The proved calls, through the archive's C entries, and the plain C version, beside the reference.
 
 pub mod files;
+pub mod probe;
 pub mod program;
 pub mod shrink;
 pub mod told;
