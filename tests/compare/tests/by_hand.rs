@@ -3,7 +3,7 @@
 
 use compare::files::{proved_event, proved_file, proved_listing, MOST_LISTING};
 use compare::probe::{Event, Standing};
-use reference::calendar::dates;
+use compare::proved_date;
 use reference::record::read;
 use reference::table::{EVENT, MISSING, OUTAGE};
 use reference::{Request, Table};
@@ -38,8 +38,8 @@ fn is_made(line: &str) -> bool {
 
 /// 26 August.
 fn date(day: u32) -> String {
-    let date = dates()[day as usize];
-    format!("{} {}", date.day, MONTHS[date.month as usize - 1])
+    let digits = proved_date(day);
+    format!("{} {}", digits % 100, MONTHS[(digits / 100 % 100) as usize - 1])
 }
 
 fn weekday(day: u32) -> &'static str {
@@ -48,7 +48,7 @@ fn weekday(day: u32) -> &'static str {
 
 /// Monday 26 August 2024.
 fn whole_date(day: u32) -> String {
-    format!("{} {} {}", weekday(day), date(day), dates()[day as usize].year)
+    format!("{} {} {}", weekday(day), date(day), proved_date(day) / 10_000)
 }
 
 /// The clock at a place of the ruler, or at a quarter of a day: quarter 0 is 01:00.
