@@ -1,13 +1,17 @@
-// The listing program: reads a record file on standard input and prints its listing (document 01, "Record file, listing, host entry").
+// The listing program: prints the listing of a record file (document 01, "Record file, listing, host entry"), read on standard input or by its name.
+mod reading;
+mod say;
+mod words;
+
 ghost use Prim.Native.Nat.{_≤_, _<_};
 ghost use lib.ListN.{length};
 ghost use Rattle.listing_lines.specs.Listing.{longest};
 ghost use Rattle.listing_whole.specs.Lists.{mostListing};
 ghost use Rattle.program_list.specs.Prints.{Prints};
-use libc::STDIN_FILENO;
-use libc::STDOUT_FILENO;
 use listing_whole::Listed;
 use listing_whole::MOST_LISTING;
+use reading::Got;
+use words::Wanted;
 
 // One byte more than the longest file that is as laid down: what comes after it changes no listing.
 const MOST: usize = 50441;
@@ -23,10 +27,29 @@ fn list(bytes: &[u8], count: usize, text: &mut [u8]) -> usize
     }
 }
 
-fn main() {
+// Prints the listing of the file that is wanted. Where it can't be read, that is said, and nothing is printed.
+fn print_listing(wanted: Wanted, text: &mut [u8])
+    requires { ⌜ mostListing ≤ length (now text) ⌝ }
+{
     let mut bytes = [0u8; MOST];
+    let got = reading::read(wanted, text, &mut bytes);
+    match got {
+        Got::Bytes(count) => {
+            let end = list(&bytes, count, text);
+            say::print(&text[..end]);
+        }
+        Got::Failed => {}
+    }
+}
+
+// One buffer has the words of the command line, a file's name and then the text, one after the other: that keeps the stack small.
+fn main() {
     let mut text = [0u8; MOST_LISTING];
-    let count = io::read_full(STDIN_FILENO, &mut bytes);
-    let end = list(&bytes, count, &mut text);
-    io::write_all(STDOUT_FILENO, &text[..end]);
+    let wanted = words::command_line(&mut text);
+    match wanted {
+        Wanted::Help => say::help(),
+        Wanted::Version => say::version(),
+        Wanted::Refused => {}
+        Wanted::Nothing | Wanted::Input | Wanted::File(_) => print_listing(wanted, &mut text),
+    }
 }

@@ -100,12 +100,12 @@ fn longer_input_is_listed_alike() {
     assert!(agrees(&output, &file), "{output:?}");
 }
 
-/// A reader that goes away early: the program ends all the same, killed by the signal or, where that is ignored, at the write that fails.
+/// A reader that goes away early: the program ends all the same, killed by the signal or, where that is ignored, at the write that fails, and says so.
 #[test]
 fn a_closed_output_ends_it() {
     let path = std::env::temp_dir().join(format!("closed-{}", std::process::id()));
     std::fs::write(&path, largest()).unwrap();
-    for signal in ["-", "''"] {
+    for (signal, said) in [("-", ""), ("''", "honeyplank-list: standard output: Broken pipe\n")] {
         let mut command = Command::new("bash");
         let (runner, list) = (root("tests/x86"), root("build/bin/honeyplank-list"));
         let words = format!("trap {signal} PIPE && exec timeout 60 \"$0\" run \"$1\"");
@@ -113,7 +113,7 @@ fn a_closed_output_ends_it() {
         let mut child = command.stdin(File::open(&path).unwrap()).stdout(Stdio::piped()).stderr(Stdio::piped()).spawn().unwrap();
         drop(child.stdout.take());
         let output = child.wait_with_output().unwrap();
-        assert!(output.status.code() != Some(124) && output.stderr.is_empty(), "trap {signal} PIPE: {output:?}");
+        assert!(output.status.code() != Some(124) && output.stderr == said.as_bytes(), "trap {signal} PIPE: {output:?}");
     }
     std::fs::remove_file(&path).unwrap();
 }
