@@ -1,10 +1,10 @@
-# The project's commands. `make help` lists them.
+# The project's commands. `make help` lists them. GNUmakefile, which make reads first, sees to it that one make at a time works here.
 SHELL := bash
-.SHELLFLAGS := -o pipefail -c
+.SHELLFLAGS := -e -o pipefail -c
 .DEFAULT_GOAL := all
 .DELETE_ON_ERROR:
 .NOTPARALLEL:
-.PHONY: all help demo check test part examples samples picture install bench fuzz search fmt changed fresh clean
+.PHONY: all help demo check test part examples samples picture install uninstall bench fuzz search fmt changed fresh clean
 
 PREFIX ?= /usr/local
 FUZZ_SECONDS ?= 600
@@ -12,7 +12,13 @@ FIRST ?= 5000000
 CRATES ?= method program_vectors
 proved_from := crates.txt $(shell find crates -name '*.rt' -o -name '*.antt' -o -path '*/program_list/std*')
 version := $(shell sed -n 's/^\#define HP_VERSION "\(.*\)"/\1/p' include/honeyplank.h)
-library := build/lib/libhoneyplank.a build/include/honeyplank.h build/lib/pkgconfig/honeyplank.pc
+# a change that breaks callers is told by the first number of the version, before 1.0.0 by the first two: programs ask the loader for these
+breaks := $(if $(filter 0.%,$(version)),$(basename $(version)),$(firstword $(subst ., ,$(version))))
+shared := lib/libhoneyplank.so.$(version)
+links := lib/libhoneyplank.so.$(breaks) lib/libhoneyplank.so
+plain := lib/libhoneyplank.a include/honeyplank.h lib/pkgconfig/honeyplank.pc lib/pkgconfig/honeyplank-shared.pc
+pages := $(foreach page,$(wildcard man/*.1 man/*.3),share/man/man$(subst .,,$(suffix $(page)))/$(notdir $(page)))
+library := $(addprefix build/,$(plain) $(shared) $(links))
 program := build/bin/honeyplank-list
 
 # $(call need,COMMAND..): stops where one of them is missing, and says what to get
@@ -22,11 +28,12 @@ cargo_is := Rust 1.78 or newer: Debian's package cargo (on bookworm cargo-web), 
 python3_is := Debian's package python3
 need = $(foreach c,$(1),$(if $(shell command -v $(c)),,$(error There is no $(c) here. Get $($(c)_is))))
 
-# $(call prove,RT'S WORDS): runs rt, with a line for each crate; where it fails, its last lines
-prove = $(call need,rt)@mkdir -p build && rt $(1) 2>&1 | tee build/rt.log | \
-	sed -u -n -e '/unchanged/d' -e 's/^rt: \([a-z_]* proved.*\)/\1/p' -e 's/^rt: .*lib\([a-z_]*\)\.a has .*/\1 proved/p' || { tail -n 40 build/rt.log; exit 1; }
+# $(call prove,RT'S WORDS): runs rt, with a line for each crate, counted over those that the goal builds
+prove = $(call need,rt)@tools/prove $(1) $(proves)
 
-all: $(library) $(program) ## prove and build the archive, its header, a pkg-config file and the program, under build/
+# the program first: rt proves what it is built on two and more at a time, and for the archive one by one
+all install bench fuzz: proves := program_list host_entries
+all: $(program) $(library) $(addprefix build/,$(pages)) ## prove and build program, archive, shared library, header and pkg-config files, under build/
 
 help: ## list the targets
 	@sed -n 's/^\([a-z]*\):.*## /\1\t/p' $(MAKEFILE_LIST) | expand -t 10
@@ -50,7 +57,7 @@ part: ## prove some crates and what they are built on, and try their must-fail e
 
 examples: $(library) ## build the example programs, under build/examples/
 	@mkdir -p build/examples
-	tests/x86 cc -std=c99 -O2 -Wall -Wextra -Wpedantic -Ibuild/include examples/event_kw.c -Lbuild/lib -lhoneyplank -o build/examples/event_kw
+	tests/x86 cc -std=c99 -O2 -Wall -Wextra -Wpedantic -Ibuild/include examples/event_kw.c build/lib/libhoneyplank.a -o build/examples/event_kw
 
 samples: ## make the sample files again from their texts
 	$(call need,python3)
@@ -61,11 +68,13 @@ picture: ## draw the crates as layers, and the way of one event: docs/crates.svg
 	docs/picture --write
 
 install: all ## install under PREFIX (/usr/local), below DESTDIR if given
-	install -d "$(DESTDIR)$(PREFIX)"/{lib/pkgconfig,include,bin}
-	install -m 644 build/lib/libhoneyplank.a "$(DESTDIR)$(PREFIX)/lib/"
-	install -m 644 build/lib/pkgconfig/honeyplank.pc "$(DESTDIR)$(PREFIX)/lib/pkgconfig/"
-	install -m 644 build/include/honeyplank.h "$(DESTDIR)$(PREFIX)/include/"
-	install -m 755 $(program) "$(DESTDIR)$(PREFIX)/bin/"
+	for file in $(plain) $(shared) $(pages); do install -D -m 644 build/$$file "$(DESTDIR)$(PREFIX)/$$file"; done
+	for link in $(links); do ln -sfn $(notdir $(shared)) "$(DESTDIR)$(PREFIX)/$$link"; done
+	install -D -m 755 $(program) "$(DESTDIR)$(PREFIX)/bin/honeyplank-list"
+	@case "$(DESTDIR)$(PREFIX)" in /usr|/usr/local) echo 'run ldconfig, so that the loader finds the shared library' ;; esac
+
+uninstall: ## remove what install put under PREFIX
+	for file in $(plain) $(shared) $(links) $(pages) bin/honeyplank-list; do rm -f "$(DESTDIR)$(PREFIX)/$$file"; done
 
 bench: all ## the entries' and the program's speed against plain C, in one run (BEFORE=DIR: against an earlier build/ too)
 	$(call need,gcc)
@@ -109,8 +118,25 @@ build/include/honeyplank.h: include/honeyplank.h
 build/lib/libhoneyplank.a build/bin/honeyplank-list build/include/honeyplank.h:
 	@mkdir -p $(@D) && cp $< $@
 
-build/lib/pkgconfig/honeyplank.pc: include/honeyplank.h Makefile
+build/share/man/man1/%: man/%
+	@mkdir -p $(@D) && cp $< $@
+
+build/share/man/man3/%: man/%
+	@mkdir -p $(@D) && cp $< $@
+
+# the archive's code and nothing of the compiler's own, so that nothing in it is ever written to
+build/$(shared): build/lib/libhoneyplank.a include/honeyplank.h Makefile
+	@tests/x86 cc -shared -nostartfiles -Wl,--whole-archive $< -Wl,--no-whole-archive -Wl,-z,defs,-z,text,-z,relro,-z,now \
+	  -Wl,-soname,libhoneyplank.so.$(breaks) -o $@
+
+$(addprefix build/,$(links)): build/$(shared)
+	@ln -sfn $(<F) $@
+
+# with no quotes: pkg-config itself puts a backslash before a space in pcfiledir
+build/lib/pkgconfig/honeyplank.pc: linked := -l:libhoneyplank.a
+build/lib/pkgconfig/honeyplank-shared.pc: linked := -lhoneyplank
+build/lib/pkgconfig/honeyplank.pc build/lib/pkgconfig/honeyplank-shared.pc: include/honeyplank.h Makefile
 	@mkdir -p $(@D)
-	@printf '%s\n' 'prefix=$${pcfiledir}/../..' 'Name: Honeyplank' \
+	@printf '%s\n' 'prefix=$${pcfiledir}/../..' 'Name: $(basename $(@F))' \
 	  'Description: The demand response baseline of the Greek transmission operator' 'Version: $(version)' \
-	  'Cflags: -I$${prefix}/include' 'Libs: -L$${prefix}/lib -lhoneyplank' >$@
+	  'Cflags: -I$${prefix}/include' 'Libs: -L$${prefix}/lib $(linked)' >$@
