@@ -15,6 +15,7 @@ version := $(shell sed -n 's/^\#define HP_VERSION "\(.*\)"/\1/p' include/honeypl
 # a change that breaks callers is told by the first number of the version, before 1.0.0 by the first two: programs ask the loader for these
 breaks := $(if $(filter 0.%,$(version)),$(basename $(version)),$(firstword $(subst ., ,$(version))))
 shared := lib/libhoneyplank.so.$(version)
+# beside the archive: what is installed as a plain file, as a link, and the pages
 links := lib/libhoneyplank.so.$(breaks) lib/libhoneyplank.so
 plain := lib/libhoneyplank.a include/honeyplank.h lib/pkgconfig/honeyplank.pc lib/pkgconfig/honeyplank-shared.pc
 pages := $(foreach page,$(wildcard man/*.1 man/*.3),share/man/man$(subst .,,$(suffix $(page)))/$(notdir $(page)))
@@ -126,6 +127,7 @@ build/share/man/man3/%: man/%
 
 # the archive's code and nothing of the compiler's own, so that nothing in it is ever written to
 build/$(shared): build/lib/libhoneyplank.a include/honeyplank.h Makefile
+	@rm -f build/lib/libhoneyplank.so*
 	@tests/x86 cc -shared -nostartfiles -Wl,--whole-archive $< -Wl,--no-whole-archive -Wl,-z,defs,-z,text,-z,relro,-z,now \
 	  -Wl,-soname,libhoneyplank.so.$(breaks) -o $@
 
