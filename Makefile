@@ -14,8 +14,8 @@ proved_from := crates.txt $(shell find crates -name '*.rt' -o -name '*.antt' -o 
 version := $(shell sed -n 's/^\#define HP_VERSION "\(.*\)"/\1/p' include/honeyplank.h)
 # a change that breaks callers is told by the first number of the version, before 1.0.0 by the first two: programs ask the loader for these
 breaks := $(if $(filter 0.%,$(version)),$(basename $(version)),$(firstword $(subst ., ,$(version))))
+# what is installed with the program, at these places below build/ and below the prefix
 shared := lib/libhoneyplank.so.$(version)
-# beside the archive: what is installed as a plain file, as a link, and the pages
 links := lib/libhoneyplank.so.$(breaks) lib/libhoneyplank.so
 plain := lib/libhoneyplank.a include/honeyplank.h lib/pkgconfig/honeyplank.pc lib/pkgconfig/honeyplank-shared.pc
 pages := $(foreach page,$(wildcard man/*.1 man/*.3),share/man/man$(subst .,,$(suffix $(page)))/$(notdir $(page)))
