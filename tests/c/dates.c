@@ -63,5 +63,5 @@ int main(void)
     no_dates();
     texts();
     CHECK(hp_version() == HP_VERSION_NUMBER);
-    return checked("plain");
+    return checked("dates");
 }
