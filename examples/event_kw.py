@@ -34,8 +34,8 @@ def load():
     for entry in library.hp_told, library.hp_event:
         entry.restype = c_int64
         entry.argtypes = BYTES + [c_size_t, c_uint32]
-    if library.hp_version() != VERSION_NUMBER:
-        stop(f'the library is of version {library.hp_version()}, not {VERSION_NUMBER}')
+    if library.hp_version() // 100 != VERSION_NUMBER // 100:  # before 1.0.0 another second number may break callers
+        stop(f'the library is of version {library.hp_version()}, and this program for {VERSION_NUMBER}')
     return library
 
 

@@ -44,7 +44,7 @@
 #define HP_VERSION_MINOR 3
 #define HP_VERSION_PATCH 0
 #define HP_VERSION "0.3.0"
-/* What hp_version() gives where the library is of this header. Before 1.0.0 the second number tells of a change that breaks callers. */
+/* What hp_version() gives where the library is of this header. Before 1.0.0 another second number may break callers: the soname has both. */
 #define HP_VERSION_NUMBER (10000 * HP_VERSION_MAJOR + 100 * HP_VERSION_MINOR + HP_VERSION_PATCH)
 
 /* Stack, in bytes, that is enough for any entry but hp_listing: the entries over a file hold there its marks, and the readings of the event
