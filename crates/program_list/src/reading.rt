@@ -1,8 +1,8 @@
 // Reads the start of a file, or of standard input. Unlike `io::read_full`, it tells a read that fails from the end.
 ghost use Rattle.program_list.specs.Reading.{within};
 use crate::say;
-use crate::words::Wanted;
 use libc::STDIN_FILENO;
+use program_words::Wanted;
 
 // How many bytes were read, to the end or to the buffer's; or opening or reading failed, and that is said.
 pub(crate) enum Got {

@@ -85,9 +85,10 @@ pub(crate) fn failed(name: &[u8]) {
     os::fail(b"");
 }
 
-// A word of the command line is refused.
-pub(crate) fn refused(word: &[u8], why: &[u8]) {
-    about(word);
+// The word at a place, which is put into the room, is refused.
+pub(crate) fn refused(place: usize, why: &[u8], room: &mut [u8]) {
+    let length = os::arg(place, room);
+    about(&room[..length]);
     complain(why);
     complain(b" (see honeyplank-list --help)\n");
 }

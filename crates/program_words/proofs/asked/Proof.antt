@@ -11,8 +11,8 @@ slice-aggregate-is c = search needs
 is-requires : tie.Need-is-requires
 is-requires c κs = search needs
 
-option-of-requires : tie.Need-option-of-requires
-option-of-requires c κs = search needs
+option-by-requires : tie.Need-option-by-requires
+option-by-requires c κs = search needs
 
 returns : tie.Need-returns
 unfolding askedBy
@@ -24,9 +24,9 @@ returns-2 c = rw (sym (c .before .before .is .ensures), c .before .if1 .left, c 
 
 returns-3 : tie.Need-returns-3
 unfolding askedBy
-returns-3 c = rw (sym (c .before .before .before .is .ensures), c .before .before .if1 .left, c .before .if2 .left) (c .option-of .ensures)
+returns-3 c = rw (sym (c .before .before .before .is .ensures), c .before .before .if1 .left, c .before .if2 .left) (c .option-by .ensures)
 
 pub asked-spec : {M : Type 1} → statement M
 asked-spec =
     tie.close
-    (tie.spec slice-aggregate-is is-requires option-of-requires returns returns-2 returns-3)
+    (tie.spec slice-aggregate-is is-requires option-by-requires returns returns-2 returns-3)

@@ -1,10 +1,10 @@
--- `program_list::words::command_line` is safe and ends: each word is asked for once.
+-- `program_list::command_line` is safe and ends: each word is asked for once.
 use Prim.Native.Nat.{_-_}
 use mathlib.Core.Path.{_≡_}
 use lib.ListN.{length}
 use borrow.Author.Needs.{needs}
-use Rattle.program_list.proofs.words.command_line.Statement.{statement}
-use Rattle.program_list.proofs.words.command_line.Tie as tie
+use Rattle.program_list.proofs.command_line.Statement.{statement}
+use Rattle.program_list.proofs.command_line.Tie as tie
 
 abbrev Inv-loop : tie.InvT-loop
 Inv-loop room₀ count line₀ place₀ room line place = length room ≡ length room₀
@@ -18,11 +18,17 @@ arg-count-requires c κs = search needs
 loop-holds : tie.Need-loop-holds Inv-loop μ-loop
 loop-holds c = search needs
 
-next-requires : tie.Need-next-requires Inv-loop μ-loop
-next-requires c κs = search needs
+arg-requires : tie.Need-arg-requires Inv-loop μ-loop
+arg-requires c κs = search needs
 
-is-decided-requires : tie.Need-is-decided-requires Inv-loop μ-loop
-is-decided-requires c κs = search needs
+slice-reshare-prefix-with-word : tie.Need-slice-reshare-prefix-with-word Inv-loop μ-loop
+slice-reshare-prefix-with-word c = search needs
+
+slice-aggregate-with-word : tie.Need-slice-aggregate-with-word Inv-loop μ-loop
+slice-aggregate-with-word c = search needs
+
+with-word-requires : tie.Need-with-word-requires Inv-loop μ-loop
+with-word-requires c κs = search needs
 
 add-place : tie.Need-add-place Inv-loop μ-loop
 add-place c = search needs
@@ -39,12 +45,6 @@ same-length c = search needs
 returns : tie.Need-returns Inv-loop μ-loop
 returns c = search needs
 
-same-length-2 : tie.Need-same-length-2 Inv-loop μ-loop
-same-length-2 c = search needs
-
-returns-2 : tie.Need-returns-2 Inv-loop μ-loop
-returns-2 c = search needs
-
 pub command-line-spec : {M : Type 1} → statement M
 command-line-spec =
     tie.close
@@ -53,12 +53,12 @@ command-line-spec =
     μ-loop
     arg-count-requires
     loop-holds
-    next-requires
-    is-decided-requires
+    arg-requires
+    slice-reshare-prefix-with-word
+    slice-aggregate-with-word
+    with-word-requires
     add-place
     loop-less
     loop-again
     same-length
-    returns
-    same-length-2
-    returns-2)
+    returns)
