@@ -10,6 +10,7 @@ pub(crate) enum Got {
     Failed,
 }
 
+// Fills the bytes from their start, as far as the input goes.
 fn fill(input: i32, bytes: &mut [u8]) -> Got
     ensures { λ r. ⌜ within r (now (bytes .exit)) ⌝ }
 {
@@ -28,7 +29,7 @@ fn fill(input: i32, bytes: &mut [u8]) -> Got
     Got::Bytes(done)
 }
 
-// The same, which says that it failed.
+// The same; where it fails, says so of the name.
 fn fill_from(input: i32, name: &[u8], bytes: &mut [u8]) -> Got
     ensures { λ r. ⌜ within r (now (bytes .exit)) ⌝ }
 {

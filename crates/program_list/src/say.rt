@@ -93,7 +93,7 @@ pub(crate) fn refused(place: usize, why: &[u8], room: &mut [u8]) {
     complain(b" (see honeyplank-list --help)\n");
 }
 
-// Standard input is a terminal, which gives no file of itself.
+// Standard input is a terminal, whose user may not know that the program waits.
 pub(crate) fn hint() {
     complain(
         b"honeyplank-list: reads a record file from this terminal; Ctrl-D ends it (see honeyplank-list --help)\n",

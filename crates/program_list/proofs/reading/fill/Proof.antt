@@ -1,7 +1,6 @@
 -- `program_list::reading::fill` meets its contract: what was read is within the bytes.
 use Prim.Native.Nat.{_≤_, _-_}
 use mathlib.Core.Path.{_≡_}
-use native.Mathlib.Omega.{arith}
 use lib.ListN.{length}
 use Rattle.program_list.specs.Reading.{countOf}
 use borrow.Author.Needs.{needs}
