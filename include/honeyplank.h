@@ -22,7 +22,8 @@
  * a ruler of two days: 0 to 95 is the day before the event, 96 to 191 the event day. So 15:00 of the event day, its quarter 56, is place 152. The
  * event covers s up to but not e, and notice came at the start of quarter n. Whoever counts within the day is told so for s and e, which are then
  * out of range (HP_BAD_REQUEST), but not for n: notice at 14:00 of the event day is 148, and 52 is 14:00 of the day before. That is no mistake
- * that can be seen: the baseline is then adjusted by the three hours before 14:00 of the day before, and is another number.
+ * that can be seen: the baseline is then adjusted by the three hours before 14:00 of the day before, and is another number. (Where n is below 12, or
+ * a reading of the twelve quarters before it is missing, the latest twelve in a row that are all present and end at or before s are taken.)
  *
  * A record file holds these records in this order and nothing else; numbers have the low byte first:
  *   one PF       8 bytes: the letters PF, P (2 bytes), the portfolio's number (4)
