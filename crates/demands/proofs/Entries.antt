@@ -14,7 +14,7 @@ use Rattle.calendar_groups.specs.Holidays.{group}
 use Rattle.method.specs.declared.Request.{Request}
 use Rattle.method.specs.declared.Refusal.{Refusal}
 use Rattle.method.specs.declared.Refusal.the-variants.{BadFile, NoEvent, BadTable, BadMark, BadReading, BadRequest, NotHeld}
-use Rattle.method.specs.declared.Refusal.the-variants.{NotYetParticipating, NoRoom, MarginTooShort, TooFew, NoAdjustmentWindow}
+use Rattle.method.specs.declared.Refusal.the-variants.{NotYetParticipating, NoRoom, MarginTooShort, TooFew, NoAdjustmentWindow, Unwritable}
 use Rattle.method.specs.Table.{Table, mostQuarters, held, history}
 use Rattle.method.specs.Method.{outcome}
 use Rattle.method.specs.Requested.{methodOf}
@@ -81,6 +81,7 @@ seven-is NoRoom e = refl
 seven-is (MarginTooShort k) e = absurd (omega arith)
 seven-is (TooFew n k) e = absurd (omega arith)
 seven-is (NoAdjustmentWindow k) e = absurd (omega arith)
+seven-is Unwritable e = absurd (omega arith)
 
 seven : (x : Reply) → numberIn x ≡ 7 → x ≡ refused NoRoom
 seven (refused w) e = ap refused (seven-is w e)

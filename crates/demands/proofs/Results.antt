@@ -12,7 +12,7 @@ use Rattle.calendar_groups.specs.Holidays.{group}
 use Rattle.method.specs.declared.Request.{Request}
 use Rattle.method.specs.declared.Refusal.{Refusal}
 use Rattle.method.specs.declared.Refusal.the-variants.{BadFile, NoEvent, BadTable, BadMark, BadReading, BadRequest, NotHeld}
-use Rattle.method.specs.declared.Refusal.the-variants.{NotYetParticipating, NoRoom, MarginTooShort, TooFew, NoAdjustmentWindow}
+use Rattle.method.specs.declared.Refusal.the-variants.{NotYetParticipating, NoRoom, MarginTooShort, TooFew, NoAdjustmentWindow, Unwritable}
 use Rattle.method.specs.Table.{Table}
 use Rattle.method.specs.Verdict.{Reply, Answer as Numbers, refused, answered, number, firstOf, verdict, written}
 use Rattle.method.specs.CutTables.{isMargin, isSettled, reported as reportedIn}
@@ -126,6 +126,7 @@ settled-is (refused NoRoom) = refl
 settled-is (refused (MarginTooShort k)) = refl
 settled-is (refused (TooFew n k)) = refl
 settled-is (refused (NoAdjustmentWindow k)) = refl
+settled-is (refused Unwritable) = refl
 
 pub margin-is : (x : Reply) → isMargin x ≡ eqb (numberIn x) 8
 margin-is (refused w) = refl

@@ -5,7 +5,7 @@ use native.Mathlib.Omega.{arith}
 use lib.ListN.{length, take}
 use Rattle.method.specs.declared.Refusal.{Refusal}
 use Rattle.method.specs.declared.Refusal.the-variants.{BadFile, NoEvent, BadTable, BadMark, BadReading, BadRequest, NotHeld}
-use Rattle.method.specs.declared.Refusal.the-variants.{NotYetParticipating, NoRoom, MarginTooShort, TooFew, NoAdjustmentWindow}
+use Rattle.method.specs.declared.Refusal.the-variants.{NotYetParticipating, NoRoom, MarginTooShort, TooFew, NoAdjustmentWindow, Unwritable}
 use Rattle.method.specs.Verdict.{number, carries}
 use Rattle.engine_answer.specs.declared.Told.{Told}
 use Rattle.engine_answer.specs.Steps.{toldOf}
@@ -31,6 +31,7 @@ all-carried NoRoom = refl
 all-carried (MarginTooShort days) = refl
 all-carried (TooFew size reach) = refl
 all-carried (NoAdjustmentWindow reach) = refl
+all-carried Unwritable = refl
 
 pub two-at-most : (w : Refusal) → length (carries w) ≤ 2
 two-at-most (BadFile place) = omega arith
@@ -45,6 +46,7 @@ two-at-most NoRoom = omega arith
 two-at-most (MarginTooShort days) = omega arith
 two-at-most (TooFew size reach) = omega arith
 two-at-most (NoAdjustmentWindow reach) = omega arith
+two-at-most Unwritable = omega arith
 
 of-told : (w : Refusal) → Tells w (toldOf w)
 unfolding toldOf

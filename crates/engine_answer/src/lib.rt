@@ -78,5 +78,6 @@ pub fn tell(refusal: Refusal) -> Told
         Refusal::MarginTooShort(days) => carrying(8, [days, 0], 1),
         Refusal::TooFew { size, reach } => carrying(9, [size, reach], 2),
         Refusal::NoAdjustmentWindow(reach) => carrying(10, [reach, 0], 1),
+        Refusal::Unwritable => carrying(13, [0, 0], 0),
     }
 }

@@ -9,7 +9,7 @@ use Rattle.calendar_groups.specs.Holidays.{group}
 use Rattle.method.specs.declared.Request.{Request}
 use Rattle.method.specs.declared.Refusal.{Refusal}
 use Rattle.method.specs.declared.Refusal.the-variants.{BadFile, NoEvent, BadTable, BadMark, BadReading, BadRequest, NotHeld}
-use Rattle.method.specs.declared.Refusal.the-variants.{NotYetParticipating, NoRoom, MarginTooShort, TooFew, NoAdjustmentWindow}
+use Rattle.method.specs.declared.Refusal.the-variants.{NotYetParticipating, NoRoom, MarginTooShort, TooFew, NoAdjustmentWindow, Unwritable}
 use Rattle.method.specs.Table.{Table, Day, eventBit, outageBit, present, goodReading, missing, history, isExtract, dayPart}
 use Rattle.method.specs.Ruler.{rulerStart, rulerEnd, against}
 use Rattle.method.specs.Method.{chosen, daysOf}
@@ -55,11 +55,11 @@ asked p s e n = record { participation = p; event = 9006; s = s; e = e; n = n }
 abbrev pub lent : ℕ → ℕ → ℕ → Table
 lent first h readings = record { first = first; marks = replicate h 0; readings = replicate readings 1000 }
 
--- the twelve refusals, the numbers that they carry all distinct
+-- the thirteen refusals, the numbers that they carry all distinct
 abbrev pub refusals : List Refusal
 refusals =
     BadFile 21 ∷ NoEvent ∷ BadTable ∷ BadMark 22 ∷ BadReading 23 ∷ BadRequest ∷ NotHeld ∷ NotYetParticipating ∷ NoRoom ∷
-    MarginTooShort 24 ∷ TooFew 25 26 ∷ NoAdjustmentWindow 27 ∷ []
+    MarginTooShort 24 ∷ TooFew 25 26 ∷ NoAdjustmentWindow 27 ∷ Unwritable ∷ []
 
 -- an answer of two quarters
 abbrev pub twoQuarters : Reply
@@ -147,9 +147,9 @@ pub record Edges : Type 0 where
   -- and 10: D-1 and D with no reading
   pub no-adjustment : verdict group silent (at15 6900 6972) 4 ≡ refused (NoAdjustmentWindow 21)
   -- every refusal has 01's number, and carries its numbers in 01's order
-  pub numbers : map number refusals ≡ 11 ∷ 12 ∷ 1 ∷ 2 ∷ 3 ∷ 4 ∷ 5 ∷ 6 ∷ 7 ∷ 8 ∷ 9 ∷ 10 ∷ []
+  pub numbers : map number refusals ≡ 11 ∷ 12 ∷ 1 ∷ 2 ∷ 3 ∷ 4 ∷ 5 ∷ 6 ∷ 7 ∷ 8 ∷ 9 ∷ 10 ∷ 13 ∷ []
   pub carried : map carries refusals ≡
-      (21 ∷ []) ∷ [] ∷ [] ∷ (22 ∷ []) ∷ (23 ∷ []) ∷ [] ∷ [] ∷ [] ∷ [] ∷ (24 ∷ []) ∷ (25 ∷ 26 ∷ []) ∷ (27 ∷ []) ∷ []
+      (21 ∷ []) ∷ [] ∷ [] ∷ (22 ∷ []) ∷ (23 ∷ []) ∷ [] ∷ [] ∷ [] ∷ [] ∷ (24 ∷ []) ∷ (25 ∷ 26 ∷ []) ∷ (27 ∷ []) ∷ [] ∷ []
   -- "Refused, every lent buffer keeps its bytes. Answered, the first e-s outputs are written and the rest kept."
   pub refused-keeps : written (refused NoRoom) (41 ∷ 42 ∷ 43 ∷ []) ≡ 41 ∷ 42 ∷ 43 ∷ []
   pub answered-writes : written twoQuarters (41 ∷ 42 ∷ 43 ∷ []) ≡ 31 ∷ 32 ∷ 43 ∷ []

@@ -12,14 +12,14 @@ use Rattle.calendar_groups.specs.declared.Group.{Group}
 use Rattle.method.specs.declared.Request.{Request}
 use Rattle.method.specs.declared.Refusal.{Refusal}
 use Rattle.method.specs.declared.Refusal.the-variants.{BadFile, NoEvent, BadTable, BadMark, BadReading, BadRequest, NotHeld}
-use Rattle.method.specs.declared.Refusal.the-variants.{NotYetParticipating, NoRoom, MarginTooShort, TooFew, NoAdjustmentWindow}
+use Rattle.method.specs.declared.Refusal.the-variants.{NotYetParticipating, NoRoom, MarginTooShort, TooFew, NoAdjustmentWindow, Unwritable}
 use Rattle.method.specs.Table.{Table, Day, History, goodMark, goodReading, held, history, shaped, isExtract}
 use Rattle.method.specs.Ruler.{rulerStart, rulerEnd}
 use Rattle.method.specs.Method.{Outcome, short, few, chose, outcome}
 use Rattle.method.specs.Adjustment.{Baseline, floored}
 use Rattle.method.specs.Requested.{methodOf}
 
--- the paper's number of a refusal, and the numbers that it carries
+-- the paper's number of a refusal, and the numbers that it carries; document 02: "No refusal added here or later carries a number."
 abbrev pub number : Refusal → ℕ
 number (BadFile place) = 11
 number NoEvent = 12
@@ -33,6 +33,7 @@ number NoRoom = 7
 number (MarginTooShort days) = 8
 number (TooFew size reach) = 9
 number (NoAdjustmentWindow reach) = 10
+number Unwritable = 13
 
 abbrev pub carries : Refusal → List ℕ
 carries (BadFile place) = place ∷ []
@@ -47,6 +48,7 @@ carries NoRoom = []
 carries (MarginTooShort days) = days ∷ []
 carries (TooFew size reach) = size ∷ reach ∷ []
 carries (NoAdjustmentWindow reach) = reach ∷ []
+carries Unwritable = []
 
 -- an answer: the chosen days by rank, the reach, and the baseline's numerators over one denominator
 pub record Answer : Type 0 where

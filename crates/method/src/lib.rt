@@ -19,7 +19,7 @@ pub struct Request {
     pub n: u32,
 }
 
-// The refusals of 01, in the order in which they are tested, each with the numbers that it carries.
+// The refusals of 01, in the order in which they are tested, each with the numbers that it carries; then those of the orders after it, which carry none.
 pub enum Refusal {
     // 11: the byte offset of the record that is not as laid down
     BadFile(u32),
@@ -45,4 +45,6 @@ pub enum Refusal {
     TooFew { size: u32, reach: u32 },
     // 10: the reach
     NoAdjustmentWindow(u32),
+    // 13: no record file says what is to be written
+    Unwritable,
 }

@@ -76,6 +76,12 @@ enum-known-refusal-6 c = search needs
 carrying-requires-12 : tie.Need-carrying-requires-12
 carrying-requires-12 c κs = search needs
 
+enum-told-7 : tie.Need-enum-told-7
+enum-told-7 c = search needs
+
+carrying-requires-13 : tie.Need-carrying-requires-13
+carrying-requires-13 c κs = search needs
+
 returns : tie.Need-returns
 unfolding toldOf
 returns c = rw (c .before .before .refusal .given .1) (c .carrying .ensures)
@@ -124,6 +130,10 @@ returns-12 : tie.Need-returns-12
 unfolding toldOf
 returns-12 c = rw (c .before .before .refusal6 .given .1) (c .carrying12 .ensures)
 
+returns-13 : tie.Need-returns-13
+unfolding toldOf
+returns-13 c = rw (c .before .enum-told7 .given .1) (c .carrying13 .ensures)
+
 pub tell-spec : {M : Type 1} → statement M
 tell-spec =
     tie.close
@@ -152,6 +162,8 @@ tell-spec =
     carrying-requires-11
     enum-known-refusal-6
     carrying-requires-12
+    enum-told-7
+    carrying-requires-13
     returns
     returns-2
     returns-3
@@ -163,4 +175,5 @@ tell-spec =
     returns-9
     returns-10
     returns-11
-    returns-12)
+    returns-12
+    returns-13)
