@@ -17,13 +17,13 @@ unfolding readingBytes bytes
 reading-length [] = refl
 reading-length (x ∷ xs) = omega (arith, reading-length xs)
 
-pub four-set : (l : List ℕ) (a b c d : ℕ) → length l ≡ 4 → set (set (set (set l 0 a) 1 b) 2 c) 3 d ≡ a ∷ b ∷ c ∷ d ∷ []
-four-set [] a b c d e = absurd (omega arith)
-four-set (p ∷ []) a b c d e = absurd (omega arith)
-four-set (p ∷ q ∷ []) a b c d e = absurd (omega arith)
-four-set (p ∷ q ∷ r ∷ []) a b c d e = absurd (omega arith)
-four-set (p ∷ q ∷ r ∷ s ∷ []) a b c d e = refl
-four-set (p ∷ q ∷ r ∷ s ∷ t ∷ l) a b c d e = absurd (omega arith)
+-- four elements take the place of the first four
+pub four-set : (l : List ℕ) (a b c d : ℕ) → 4 ≤ length l → set (set (set (set l 0 a) 1 b) 2 c) 3 d ≡ a ∷ b ∷ c ∷ d ∷ drop 4 l
+four-set [] a b c d h = absurd (omega arith)
+four-set (p ∷ []) a b c d h = absurd (omega arith)
+four-set (p ∷ q ∷ []) a b c d h = absurd (omega arith)
+four-set (p ∷ q ∷ r ∷ []) a b c d h = absurd (omega arith)
+four-set (p ∷ q ∷ r ∷ s ∷ l) a b c d h = refl
 
 four-bytes : (n : ℕ) → length (bytes 4 n) ≡ 4
 unfolding bytes

@@ -24,7 +24,7 @@ use Rattle.base_bytes.proofs.Bytes.{reading-length}
 
 -- one DY, with anything after it
 module _ (d m : ℕ) (xs rest : List ℕ) (long : length xs ≡ size d) where
-  day-length : length (dyRecord d m xs) ≡ dyLength d
+  pub day-length : length (dyRecord d m xs) ≡ dyLength d
   unfolding dyRecord bytes
   day-length = omega (arith, reading-length xs)
 

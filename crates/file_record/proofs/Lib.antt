@@ -14,3 +14,6 @@ pub mod RefusedWhere
 pub mod Limits
 pub mod Laws
 pub mod Checks
+pub mod Writing
+pub mod WriterLaws
+pub mod WriterChecks

@@ -1,4 +1,5 @@
 // The record file of document 01, "Record file, listing, host entry", as definitions and laws: which files are as laid down, and what they say. No code.
+use method::Refusal;
 use method::Request;
 
 // What a whole file holds: P, the portfolio number, the first day, and how many days and events.
@@ -27,4 +28,10 @@ pub enum EventAt {
     Event(Request),
     NoEvent,
     Refused(u32),
+}
+
+// A file written, and its length; or a refusal.
+pub enum Written {
+    Length(u32),
+    Refused(Refusal),
 }

@@ -1,5 +1,9 @@
 -- `base_bytes::put_number` meets its contract: its four bytes take the place of what was there.
+use Prim.Native.Nat.{_≤_}
+use mathlib.Core.Path.{refl, _∙_}
+use native.Mathlib.Omega.{arith}
 use borrow.Author.Needs.{needs}
+use lib.ListN.{length, drop-of-length-le}
 use Rattle.base_bytes.proofs.Bytes.{four-set}
 use Rattle.base_bytes.proofs.put_number.Statement.{statement}
 use Rattle.base_bytes.specs.Bytes.{bytes}
@@ -34,7 +38,10 @@ same-length c = search needs
 
 returns : tie.Need-returns
 unfolding bytes
-returns c = four-set (c .args .out .now) _ _ _ _ (c .pre)
+returns c =
+    let out = c .args .out .now in
+    let four : length out ≤ 4 = omega arith in
+    four-set out _ _ _ _ (omega arith) ∙ rw (drop-of-length-le out four) refl
 
 pub put-number-spec : {M : Type 1} → statement M
 put-number-spec =

@@ -1,0 +1,39 @@
+-- The checks of the writer: each computes.
+use mathlib.Core.Path.{refl}
+use Rattle.base_lists.specs.Lists.{all}
+use Rattle.base_bytes.specs.Bytes.{bytes, readingBytes}
+use Rattle.method.specs.Table.{size, offset}
+use Rattle.file_record.specs.Layout.{pfRecord, dyRecord, evRecord, dyRecords, evRecords, fileOf, fitsEvent}
+use Rattle.file_record.specs.Writer.{eventsOf, matching, inBounds, sayable, writing, leaving}
+use Rattle.file_record.specs.Checks.{pf, ev, flat}
+use Rattle.file_record.specs.WriterChecks.{WriterChecks}
+
+pub writer-checks : WriterChecks
+unfolding all bytes readingBytes size offset pfRecord dyRecord evRecord dyRecords evRecords fileOf fitsEvent eventsOf matching inBounds sayable writing leaving pf ev flat
+writer-checks =
+    record {
+      no-days = refl;
+      short = refl;
+      first-alone = refl;
+      day-and-event = refl;
+      reading-95 = refl;
+      reading-97 = refl;
+      reading-alone = refl;
+      day-129 = refl;
+      one-first = refl;
+      thirteen-first = refl;
+      day-65535 = refl;
+      day-65536 = refl;
+      participation-65535 = refl;
+      participation-65536 = refl;
+      all-fields = refl;
+      event-65536 = refl;
+      start-256 = refl;
+      end-256 = refl;
+      notice-256 = refl;
+      events-64 = refl;
+      events-65 = refl;
+      five-numbers = refl;
+      stands = refl;
+      keeps = refl;
+    }

@@ -1,0 +1,278 @@
+-- What the writer takes and gives: events as numbers and back, what it accepts is what a file can say, and how long a file is.
+use Prim.Native.Nat.{ℕ, suc, _+_, _*_, _/_, _%_, _^_, _<_, _≤_}
+use mathlib.Core.Path.{_≡_, refl, _∙_, ap}
+use mathlib.Core.Bool.{Bool, true, false, cond, _&&_, _||_}
+use mathlib.Core.List.{List, [], _∷_, _++_}
+use mathlib.Core.Logic.{⊎-elim}
+use native.Mathlib.Omega.{arith}
+use native.Mathlib.Numerals.{add-one}
+use borrow.Author.Tests.{le-leb, lt-leb, leb-true, lt-ltb, ltb-true, ltb-false, eq-eqb, eqb-true}
+use lib.ListN.{length, getD, drop, length-append, length-drop}
+use lib.Seq.{drop-cons}
+use lib.Dec.{leb, ltb, eqb}
+use Rattle.base_lists.specs.Lists.{all}
+use Rattle.base_lists.proofs.Bools.{both, either, bool-cases}
+use Rattle.base_bytes.specs.Bytes.{bytes}
+use Rattle.method.specs.declared.Refusal.{Refusal}
+use Rattle.method.specs.declared.Refusal.the-variants.{BadTable, NoRoom, Unwritable}
+use Rattle.method.specs.Table.{heldDays, offset}
+use Rattle.file_record.specs.Layout.{Event, Contents, pfRecord, dyRecords, evRecords, fileOf, Fits, fitsEvent}
+use Rattle.file_record.specs.Reader.{pfLength, evLength, dayStart}
+use Rattle.file_record.specs.Writer.{Lent, eventsOf, said, matching, inBounds, sayable, writing, leaving, Writes}
+use Rattle.file_record.specs.WriterLaws.{Wide, numbersOf}
+use Rattle.file_record.specs.declared.Written.{Written}
+use Rattle.file_record.specs.declared.Written.the-variants.{Length, Refused}
+use Rattle.file_record.proofs.Starts.{day-start-from}
+use Rattle.file_record.proofs.Back.{days-length, events-length}
+
+-- ---- events as numbers
+pub events-count : (numbers : List ℕ) → length (eventsOf numbers) ≡ length numbers / 4
+unfolding eventsOf
+events-count [] = refl
+events-count (d ∷ []) = refl
+events-count (d ∷ s ∷ []) = refl
+events-count (d ∷ s ∷ e ∷ []) = refl
+events-count (d ∷ s ∷ e ∷ n ∷ more) = omega (arith, events-count more)
+
+pub numbers-count : (events : List Event) → length (numbersOf events) ≡ 4 * length events
+unfolding numbersOf
+numbers-count [] = refl
+numbers-count (v ∷ events) = omega (arith, numbers-count events)
+
+pub events-again : (events : List Event) → eventsOf (numbersOf events) ≡ events
+unfolding eventsOf numbersOf
+events-again [] = refl
+events-again (v ∷ events) = ap (λ (l : List Event). v ∷ l) (events-again events)
+
+pub numbers-again : (numbers : List ℕ) → length numbers % 4 ≡ 0 → numbersOf (eventsOf numbers) ≡ numbers
+unfolding eventsOf numbersOf
+numbers-again [] e = refl
+numbers-again (d ∷ []) e = absurd (omega arith)
+numbers-again (d ∷ s ∷ []) e = absurd (omega arith)
+numbers-again (d ∷ s ∷ f ∷ []) e = absurd (omega arith)
+numbers-again (d ∷ s ∷ f ∷ n ∷ more) e = ap (λ (l : List ℕ). d ∷ s ∷ f ∷ n ∷ l) (numbers-again more (omega arith))
+
+-- one event after the other: `i` are passed
+module _ (numbers : List ℕ) (i : ℕ) where
+  abbrev number : ℕ → ℕ
+  number k = getD numbers (4 * i + k) 0
+
+  abbrev pub event-at : Event
+  event-at = record { day = getD numbers (4 * i) 0; s = number 1; e = number 2; n = number 3 }
+
+  pub events-more : 4 * i + 4 ≤ length numbers → eventsOf (drop (4 * i) numbers) ≡ event-at ∷ eventsOf (drop (4 * (i + 1)) numbers)
+  unfolding eventsOf
+  events-more h =
+      let next : 4 * (i + 1) ≡ suc (suc (suc (suc (4 * i)))) = omega arith in
+      let two : 4 * i + 2 ≡ suc (suc (4 * i)) = omega arith in
+      let three : 4 * i + 3 ≡ suc (suc (suc (4 * i))) = omega arith in
+      rw (
+        drop-cons numbers (4 * i) 0 (omega arith),
+        drop-cons numbers (suc (4 * i)) 0 (omega arith),
+        drop-cons numbers (suc (suc (4 * i))) 0 (omega arith),
+        drop-cons numbers (suc (suc (suc (4 * i)))) 0 (omega arith),
+        next,
+        add-one (4 * i),
+        two,
+        three,
+      )
+      refl
+
+  pub events-none : length numbers / 4 ≤ i → eventsOf (drop (4 * i) numbers) ≡ []
+  events-none h = go (eventsOf (drop (4 * i) numbers)) (omega (arith, events-count (drop (4 * i) numbers), length-drop (4 * i) numbers))
+    where
+      go : (l : List Event) → length l ≡ 0 → l ≡ []
+      go [] e = refl
+      go (v ∷ l) e = absurd (omega arith)
+
+-- ---- what passes the tests
+module _ (first days readings : ℕ) where
+  pub record Matches : Type 0 where
+    pub few : days ≤ 128
+    pub size : readings ≡ offset first days
+
+  pub matches : matching first days readings ≡ true → Matches
+  unfolding matching
+  matches t =
+      let k = both (leb days 128) (eqb readings (offset first days)) t in
+      record { few = leb-true days 128 (k .0); size = eqb-true readings (offset first days) (k .1) }
+
+  pub matched : days ≤ 128 → readings ≡ offset first days → matching first days readings ≡ true
+  unfolding matching
+  matched h e = rw (le-leb days 128 h, eq-eqb readings (offset first days) e)
+
+module _ (participation first days : ℕ) (numbers : List ℕ) where
+  pub record Says : Type 0 where
+    pub participates : participation < 256 ^ 2
+    pub last : first + days ≤ 256 ^ 2
+    pub none : days ≡ 0 → first ≡ 0
+    pub four : length numbers % 4 ≡ 0
+    pub few : length numbers / 4 ≤ 64
+    pub fields : all fitsEvent (eventsOf numbers) ≡ true
+
+  abbrev p : Bool
+  p = ltb participation (256 ^ 2)
+
+  abbrev l : Bool
+  l = leb (first + days) (256 ^ 2)
+
+  abbrev z : Bool
+  z = ltb 0 days || eqb first 0
+
+  abbrev f : Bool
+  f = eqb (length numbers % 4) 0
+
+  abbrev e : Bool
+  e = leb (length numbers / 4) 64
+
+  some-or-first : z ≡ true → days ≡ 0 → first ≡ 0
+  some-or-first t d =
+      ⊎-elim (λ some. absurd (omega (arith, ltb-true 0 days some))) (λ zero. eqb-true first 0 zero) (either (ltb 0 days) (eqb first 0) t)
+
+  first-or-some : (days ≡ 0 → first ≡ 0) → z ≡ true
+  first-or-some h = ⊎-elim (λ some. rw some) (λ none. rw (none, eq-eqb first 0 (h (omega (arith, ltb-false 0 days none))))) (bool-cases (ltb 0 days))
+
+  pub says : sayable participation first days numbers ≡ true → Says
+  unfolding sayable inBounds
+  says t =
+      let fields = both (p && l && z && f && e) (all fitsEvent (eventsOf numbers)) t in
+      let few = both (p && l && z && f) e (fields .0) in
+      let four = both (p && l && z) f (few .0) in
+      let none = both (p && l) z (four .0) in
+      let last = both p l (none .0) in
+      record {
+        participates = ltb-true participation (256 ^ 2) (last .0);
+        last = leb-true (first + days) (256 ^ 2) (last .1);
+        none = some-or-first (none .1);
+        four = eqb-true (length numbers % 4) 0 (four .1);
+        few = leb-true (length numbers / 4) 64 (few .1);
+        fields = fields .1;
+      }
+
+  pub said-so : Says → sayable participation first days numbers ≡ true
+  unfolding sayable inBounds
+  said-so q =
+      rw (
+        lt-ltb participation (256 ^ 2) (q .participates),
+        le-leb (first + days) (256 ^ 2) (q .last),
+        first-or-some (q .none),
+        eq-eqb (length numbers % 4) 0 (q .four),
+        le-leb (length numbers / 4) 64 (q .few),
+        q .fields,
+      )
+
+-- ---- what is accepted is what a file can say
+module _ (w : Lent) where
+  abbrev matchesIt : Bool
+  matchesIt = matching (w .table .first) (heldDays (w .table)) (length (w .table .readings))
+
+  abbrev saysIt : Bool
+  saysIt = sayable (w .participation) (w .table .first) (heldDays (w .table)) (w .numbers)
+
+  pub its-length : length (w .table .readings) ≡ offset (w .table .first) (heldDays (w .table))
+      → length (fileOf (said w)) ≡ dayStart pfLength (w .table .first) (heldDays (w .table)) + evLength * (length (w .numbers) / 4)
+  unfolding fileOf pfRecord bytes
+  its-length e =
+      let days = dyRecords (w .table .first) (w .table .marks) (w .table .readings) in
+      omega (
+        arith,
+        length-append (pfRecord (w .participation) (w .portfolio) ++ days) (evRecords (eventsOf (w .numbers))),
+        length-append (pfRecord (w .participation) (w .portfolio)) days,
+        days-length (w .table .marks) (w .table .readings) (w .table .first) e,
+        day-start-from pfLength (w .table .first) (heldDays (w .table)),
+        events-length (eventsOf (w .numbers)),
+        events-count (w .numbers),
+      )
+
+  -- what an accepted one shows
+  pub record Accepts (room size : ℕ) : Type 0 where
+    pub match : Matches (w .table .first) (heldDays (w .table)) (length (w .table .readings))
+    pub say : Says (w .participation) (w .table .first) (heldDays (w .table)) (w .numbers)
+    pub enough : size ≤ room
+    pub is : size ≡ length (fileOf (said w))
+
+  pub accepts : (room size : ℕ) → Length size ≡ writing w room → Accepts room size
+  unfolding writing
+  accepts room size r = go matchesIt saysIt (leb (length (fileOf (said w))) room) refl refl refl r
+    where
+      go : (m s f : Bool) → matchesIt ≡ m → saysIt ≡ s → leb (length (fileOf (said w))) room ≡ f
+          → Length size ≡ cond m (cond s (cond f (Length (length (fileOf (said w)))) (Refused NoRoom)) (Refused Unwritable)) (Refused BadTable)
+          → Accepts room size
+      go true true true m s f r =
+          let same : size ≡ length (fileOf (said w)) = cc in
+          record {
+            match = matches (w .table .first) (heldDays (w .table)) (length (w .table .readings)) m;
+            say = says (w .participation) (w .table .first) (heldDays (w .table)) (w .numbers) s;
+            enough = rw same (leb-true (length (fileOf (said w))) room f);
+            is = same;
+          }
+      go true true false m s f r = absurd (let z : _≡_ {A = ℕ} 0 1 = cc in omega arith)
+      go true false f m s g r = absurd (let z : _≡_ {A = ℕ} 0 1 = cc in omega arith)
+      go false s f m g k r = absurd (let z : _≡_ {A = ℕ} 0 1 = cc in omega arith)
+
+  -- the ways out of the code, and what the buffer then holds
+  module _ (out : List ℕ) where
+    abbrev room : ℕ
+    room = length out
+
+    refuses : (why : Refusal) → Refused why ≡ writing w room → Writes w out (Refused why) out
+    unfolding leaving
+    refuses why e = record { result = e; output = go (writing w room) e }
+      where
+        go : (r : Written) → Refused why ≡ r → out ≡ leaving r (fileOf (said w)) out
+        go (Length size) e = absurd (let z : _≡_ {A = ℕ} 0 1 = cc in omega arith)
+        go (Refused other) e = refl
+
+    pub no-match : matchesIt ≡ false → Writes w out (Refused BadTable) out
+    no-match m = refuses BadTable (unfold writing in rw m)
+
+    module _ (m : matchesIt ≡ true) where
+      pub unsaid : saysIt ≡ false → Writes w out (Refused Unwritable) out
+      unsaid s = refuses Unwritable (unfold writing in rw (m, s))
+
+      module _ (s : saysIt ≡ true) where
+        pub no-room : room < length (fileOf (said w)) → Writes w out (Refused NoRoom) out
+        no-room h = refuses NoRoom (unfold writing in rw (m, s, lt-leb (length (fileOf (said w))) room h))
+
+        its-writing : length (fileOf (said w)) ≤ room → writing w room ≡ Length (length (fileOf (said w)))
+        unfolding writing
+        its-writing h = rw (m, s, le-leb (length (fileOf (said w))) room h)
+
+        pub wrote : {size : ℕ} {out′ : List ℕ} → length (fileOf (said w)) ≤ room → size ≡ length (fileOf (said w)) → out′ ≡ fileOf (said w) ++ drop size out
+            → Writes w out (Length size) out′
+        unfolding leaving
+        wrote {size} {out′} h e o = record { result = rw (its-writing h, e) refl; output = o ∙ rw (its-writing h, e) refl }
+
+  -- it fits a file
+  pub fits-file : {room size : ℕ} → Wide w → Accepts room size → Fits (said w)
+  fits-file wide q =
+      record {
+        participation = q .say .participates;
+        portfolio = wide .portfolio;
+        days = q .match .few;
+        last = q .say .last;
+        none = q .say .none;
+        marks = wide .marks;
+        size = q .match .size;
+        readings = wide .readings;
+        events = rw (events-count (w .numbers)) (q .say .few);
+        fields = q .say .fields;
+      }
+
+-- what fits a file is accepted
+module _ (c : Contents) (q : Fits c) where
+  pub fits-matches : matching (c .table .first) (heldDays (c .table)) (length (c .table .readings)) ≡ true
+  fits-matches = matched (c .table .first) (heldDays (c .table)) (length (c .table .readings)) (q .days) (q .size)
+
+  pub fits-says : sayable (c .participation) (c .table .first) (heldDays (c .table)) (numbersOf (c .events)) ≡ true
+  fits-says =
+      let count = numbers-count (c .events) in
+      said-so (c .participation) (c .table .first) (heldDays (c .table)) (numbersOf (c .events))
+      (record {
+        participates = q .participation;
+        last = q .last;
+        none = q .none;
+        four = omega arith;
+        few = omega (arith, q .events);
+        fields = rw (events-again (c .events)) (q .fields);
+      })
