@@ -11,7 +11,7 @@
  *
  * What a caller may count on:
  *  - A refusal changes no buffer; an answer writes only the quarters of the event: an entry that gives a baseline has nothing but `out` to
- *    write. (A listing is no baseline but a text: hp_listing writes only that, and nothing where it does not fit.)
+ *    write. (A listing and a record file are no baseline: hp_listing and hp_write write only these, and nothing where they do not fit.)
  *  - No state, no heap, no files, no locks: any threads may call at once. It always returns.
  *  - HP_STACK bytes of stack are enough for any entry but hp_listing, for which HP_STACK_LISTING are.
  *
@@ -42,9 +42,9 @@
 #include <stdint.h>
 
 #define HP_VERSION_MAJOR 0
-#define HP_VERSION_MINOR 3
+#define HP_VERSION_MINOR 4
 #define HP_VERSION_PATCH 0
-#define HP_VERSION "0.3.0"
+#define HP_VERSION "0.4.0"
 /* What hp_version() gives where the library is of this header. Before 1.0.0 another second number may break callers: the soname has both. */
 #define HP_VERSION_NUMBER (10000 * HP_VERSION_MAJOR + 100 * HP_VERSION_MINOR + HP_VERSION_PATCH)
 
@@ -53,8 +53,8 @@
 #define HP_STACK 28672
 #define HP_STACK_LISTING 327680
 
-/* What an entry gives back. The refusals are tested in this order: 11, 12, then 1 to 10. After the colon: what it carries (HP_CARRIED,
- * HP_CARRIED_SECOND). */
+/* What an entry gives back. The refusals are tested in this order: 11, 12, then 1 to 10; hp_write has an order of its own. After the colon: what it
+ * carries (HP_CARRIED, HP_CARRIED_SECOND). */
 #define HP_ANSWERED 0
 #define HP_BAD_FILE 11              /* the file is not as laid down: byte offset of the first record that is not */
 #define HP_NO_EVENT 12              /* the file has no event at that place: nothing */
@@ -68,6 +68,7 @@
 #define HP_MARGIN_TOO_SHORT 8       /* the table starts too late to tell: so many days before the event always suffice */
 #define HP_TOO_FEW 9                /* too few days to choose from: how many there are; the reach */
 #define HP_NO_ADJUSTMENT_WINDOW 10  /* no twelve quarters in a row are present: the reach */
+#define HP_UNWRITABLE 13            /* hp_write alone: no record file says this: nothing */
 
 /* Days, and how many of what there are. */
 #define HP_QUARTERS 96     /* quarters of a day, and so readings of a day */
@@ -117,7 +118,8 @@
 /* No listing has more bytes: so many of `out` are enough for any. */
 #define HP_MOST_LISTING 213194
 
-/* No record file has more bytes. One byte more is enough to read of any input: a longer one is refused all the same. */
+/* No record file has more bytes: so many of `out` are enough for hp_write. One byte more is enough to read of any input: a longer one is refused all the
+ * same. */
 #define HP_MOST_FILE 50440
 
 #ifdef __cplusplus
@@ -161,6 +163,24 @@ int64_t hp_event(const uint8_t *file, size_t file_len, size_t event_place, uint3
 /* The listing of a record file, as honeyplank-list prints it: its length in bytes, with the text at the start of `out` and the rest kept. Where
  * out_len is below that length: -HP_NO_ROOM, and `out` is kept. A file that is refused has a listing too (`file refused OFFSET`). */
 int64_t hp_listing(const uint8_t *file, size_t file_len, uint8_t *out, size_t out_len);
+
+/* Writes a record file: its length in bytes, 8 or more, with the file at the start of `out` and the rest kept; or minus the number of a refusal, and
+ * `out` is kept.
+ *   participation_day, first_day   are days: P and F
+ *   marks, readings                are those of a table in memory, one byte and 96 readings a day; marks_len is the number of days, and may be 0
+ *   events                         has four numbers for each event: D, s, e and n; events_len is how many numbers there are
+ * The refusals, tested in this order:
+ *   -HP_BAD_TABLE    there are more than 128 days, or not 96 readings a day
+ *   -HP_UNWRITABLE   there are more than 64 events, or not four numbers for each; P, a day that is held or D is above 65535; s, e or n is above 255;
+ *                    or there are no days, and first_day is not 0
+ *   -HP_NO_ROOM      out_len is below the file's length, which is 8 + 390 for each day + 8 for each event; HP_MOST_FILE bytes are enough for any
+ * Nothing else is asked: marks and readings that mean nothing, days after HP_LAST_DAY and events out of range are written as they are, and the entries
+ * above refuse them when they read the file. What is written reads back as the same values, and a file that was read is written again byte for byte.
+ *
+ *   uint32_t events[] = {6972, 152, 156, 148, 6966, 152, 156, 148};
+ *   int64_t length = hp_write(6900, 77, 6951, marks, 22, readings, 22 * HP_QUARTERS, events, 8, out, sizeof out);   8604, or below 0 */
+int64_t hp_write(uint32_t participation_day, uint32_t portfolio, uint32_t first_day, const uint8_t *marks, size_t marks_len,
+                 const uint32_t *readings, size_t readings_len, const uint32_t *events, size_t events_len, uint8_t *out, size_t out_len);
 
 /* The day number of a date, month and day counted from 1: hp_day(2024, 8, 28) is 9006. HP_NOTHING where there is no such date from 2000 to 2099. */
 int64_t hp_day(uint32_t year, uint32_t month, uint32_t day);
@@ -206,6 +226,8 @@ static inline const char *hp_refusal_text(uint32_t number)
         return "The file is not a record file, or a record of it is not as laid down.";
     case HP_NO_EVENT:
         return "The file has no event at that place.";
+    case HP_UNWRITABLE:
+        return "No record file can say this: too many events, a number that its bytes can't hold, or a first day with no days.";
     default:
         return "No result has this number.";
     }

@@ -8,11 +8,9 @@ use file_record::Shape;
 use file_starts::BEFORE_READINGS;
 use file_starts::BESIDE_READINGS;
 use file_starts::EV_LENGTH;
+use file_starts::MOST_DAYS;
+use file_starts::MOST_EVENTS;
 use file_starts::PF_LENGTH;
-
-const MOST_DAYS: u32 = 128;
-
-const MOST_EVENTS: u32 = 64;
 
 // The bytes of the DY of a day.
 fn day_length(day: u32) -> usize

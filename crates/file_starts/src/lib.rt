@@ -13,6 +13,11 @@ pub const BEFORE_READINGS: usize = 6;
 // The bytes of a DY that are not readings.
 pub const BESIDE_READINGS: usize = 6;
 
+// The most DY and EV of a file.
+pub const MOST_DAYS: u32 = 128;
+
+pub const MOST_EVENTS: u32 = 64;
+
 // Where the k-th DY starts, counted from 0, the first standing at `base`; after the last DY, where the first EV does.
 pub fn day_start(base: u32, first: u32, k: u32) -> usize
     ensures { λ r. ⌜ r ≡ dayStart base first k ⌝ }

@@ -8,10 +8,12 @@ use Rattle.engine_answer.specs.declared.Answer.{Answer}
 use Rattle.engine_answer.specs.Answer.{answerOf, Answers}
 use Rattle.table_bytes.specs.Output.{AnswersInBytes}
 use Rattle.host_answer.specs.Telling.{numberOf, toldBy}
+use Rattle.file_record.specs.declared.Written.{Written}
+use Rattle.file_record.specs.Writer.{Lent, Writes}
 use Rattle.listing_whole.specs.declared.Listed.{Listed}
 use Rattle.listing_whole.specs.Lists.{Lists}
-use Rattle.host_file.specs.OfFile.{listedTold}
-use Rattle.host_entries.specs.Host.{TableCall, FileCall, ListingCall}
+use Rattle.host_file.specs.OfFile.{writtenTold, listedTold}
+use Rattle.host_entries.specs.Host.{TableCall, FileCall, WriteCall, ListingCall}
 
 module _ {reply : Reply} {answer : Answer} {r : ℕ} {out out′ : List ℕ} (n : r ≡ numberOf (answer .given)) where
   pub file-call : AnswersInBytes reply answer out out′ → FileCall reply r out out′
@@ -27,6 +29,10 @@ module _ {reply : Reply} {answer : Answer} {out out′ : List ℕ} (name : ℕ) 
 
   pub table-told : Answers reply answer out out′ → x ≡ toldBy (answerOf reply) name
   table-told q = t ∙ ap (λ (a : Answer). toldBy a name) (q .answer)
+
+-- what is told of a file that was to be written
+pub write-call : {w : Lent} {out out′ : List ℕ} {r : Written} {x : ℤ} → x ≡ writtenTold r → Writes w out r out′ → WriteCall w x out out′
+write-call t q = record { result = t ∙ ap writtenTold (q .result); output = q .output }
 
 -- what is told of a listing
 pub listing-call : {file out out′ : List ℕ} {listed : Listed} {x : ℤ} → x ≡ listedTold listed → Lists file out listed out′

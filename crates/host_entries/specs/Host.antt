@@ -10,10 +10,12 @@ use Rattle.method.specs.Table.{mostQuarters}
 use Rattle.method.specs.Verdict.{Reply, written}
 use Rattle.engine_answer.specs.Answer.{answerOf}
 use Rattle.table_bytes.specs.Output.{bytesWritten}
+use Rattle.file_record.specs.Layout.{fileOf}
+use Rattle.file_record.specs.Writer.{Lent, said, writing, leaving}
 use Rattle.listing_lines.specs.Listing.{listing}
 use Rattle.listing_whole.specs.Lists.{listedIn}
 use Rattle.host_answer.specs.Telling.{numberOf}
-use Rattle.host_file.specs.OfFile.{listedTold}
+use Rattle.host_file.specs.OfFile.{writtenTold, listedTold}
 
 -- room for the numerators of any event, four bytes each
 abbrev pub mostBytes : ℕ
@@ -31,6 +33,11 @@ pub record FileCall (reply : Reply) (r : ℕ) (out out′ : List ℕ) : Type 0 w
 pub record TableCall (reply : Reply) (r : ℕ) (out out′ : List ℕ) : Type 0 where
   pub result : r ≡ numberOf (answerOf reply .given)
   pub output : out′ ≡ written reply out
+
+-- a file written: it stands first in the output, and the rest is kept; refused, nothing changes
+pub record WriteCall (w : Lent) (r : ℤ) (out out′ : List ℕ) : Type 0 where
+  pub result : r ≡ writtenTold (writing w (length out))
+  pub output : out′ ≡ leaving (writing w (length out)) (fileOf (said w)) out
 
 -- the listing of a file: it stands first in the output where it fits, and the rest is kept; where it does not fit nothing changes
 pub record ListingCall (file : List ℕ) (r : ℤ) (out out′ : List ℕ) : Type 0 where

@@ -7,13 +7,14 @@ ghost use Rattle.method.specs.Verdict.{verdict};
 ghost use Rattle.table_days.specs.Lent.{tableOf};
 ghost use Rattle.table_days.specs.Part.{partPlace};
 ghost use Rattle.file_record.specs.Reader.{readFile, eventAtPlace};
+ghost use Rattle.file_record.specs.Writer.{lent};
 ghost use Rattle.engine_answer.specs.Answer.{answerOf};
 ghost use Rattle.file_baseline.specs.Reply.{fileReply};
 ghost use Rattle.host_answer.specs.Telling.{toldBy};
 ghost use Rattle.host_file.specs.OfFile.{fileTold, eventTold, placeTold};
 ghost use Rattle.calendar_dates.specs.Days.{numbered, dated};
 ghost use Rattle.host_plain.specs.Plain.{dateWritten, dayTold, dateTold, version};
-ghost use Rattle.host_entries.specs.Host.{mostBytes, requestOf, TableCall, FileCall, ListingCall};
+ghost use Rattle.host_entries.specs.Host.{mostBytes, requestOf, TableCall, FileCall, WriteCall, ListingCall};
 use method::Request;
 
 // Room for the numerators of any event, four bytes each.
@@ -127,6 +128,31 @@ pub extern "C" fn hp_listing(file: &[u8], out: &mut [u8]) -> i64
 {
     let listed = listing_whole::listing(file, out);
     host_file::tell_listed(listed)
+}
+
+// A record file written into `out`: its length, or minus the number of a refusal.
+#[no_mangle]
+pub extern "C" fn hp_write(
+    participation: u32,
+    portfolio: u32,
+    first: u32,
+    marks: &[u8],
+    readings: &[u32],
+    events: &[u32],
+    out: &mut [u8],
+) -> i64
+    ensures { λ r. ⌜ WriteCall (lent participation portfolio first (now (marks .entry)) (now (readings .entry)) (now (events .entry))) r (now (out .entry)) (now (out .exit)) ⌝ }
+{
+    let written = file_writing::write(
+        participation,
+        portfolio,
+        first,
+        marks,
+        readings,
+        events,
+        out,
+    );
+    host_file::tell_written(written)
 }
 
 // The day number of a date.

@@ -1,14 +1,17 @@
 -- What a caller written in C is told of a file, of an event in it, of the part of a day, and of a listing, by include/honeyplank.h.
 use Prim.Native.Nat.{ℕ}
 use mathlib.Core.List.{List, [], _∷_}
-use lib.IntN.{ℤ, pos, negsuc}
+use lib.IntN.{ℤ, pos, negsuc, negℤ}
 use Rattle.method.specs.declared.Request.{Request}
 use Rattle.method.specs.declared.Refusal.the-variants.{BadFile, NoEvent}
+use Rattle.method.specs.Verdict.{number}
 use Rattle.file_record.specs.declared.Shape.{Shape}
 use Rattle.file_record.specs.declared.Read.{Read}
 use Rattle.file_record.specs.declared.Read.the-variants.{File, Refused}
 use Rattle.file_record.specs.declared.EventAt.{EventAt}
 use Rattle.file_record.specs.declared.EventAt.the-variants.{Event, NoEvent as NoneThere, Refused as RefusedEvent}
+use Rattle.file_record.specs.declared.Written.{Written}
+use Rattle.file_record.specs.declared.Written.the-variants.{Length as Size, Refused as Unwritten}
 use Rattle.listing_whole.specs.declared.Listed.{Listed}
 use Rattle.listing_whole.specs.declared.Listed.the-variants.{Length, DoesNotFit}
 use Rattle.table_days.specs.declared.Place.{Place}
@@ -46,6 +49,11 @@ eventTold at name = byName (eventRow at) name
 abbrev pub placeTold : Place → ℤ
 placeTold Nowhere = untold
 placeTold (From at) = pos at
+
+-- the length of a file that was written; else minus the number of the refusal
+abbrev pub writtenTold : Written → ℤ
+writtenTold (Size size) = pos size
+writtenTold (Unwritten why) = negℤ (pos (number why))
 
 -- the length of a listing; -HP_NO_ROOM, which is -7, where it does not fit
 abbrev pub listedTold : Listed → ℤ

@@ -1,10 +1,12 @@
-// What a caller written in C is told by include/honeyplank.h: of a record file, of an event in it, of the part of a day, and of a listing.
+// What a caller written in C is told by include/honeyplank.h: of a record file, of an event in it, of the part of a day, of a file that was to be
+// written, and of a listing.
 ghost use mathlib.Core.Path.{_≡_};
 ghost use Rattle.host_answer.specs.Names.{byName};
-ghost use Rattle.host_file.specs.OfFile.{shapeRow, fileTold, requestRow, eventTold, placeTold, listedTold};
+ghost use Rattle.host_file.specs.OfFile.{shapeRow, fileTold, requestRow, eventTold, placeTold, writtenTold, listedTold};
 use file_record::EventAt;
 use file_record::Read;
 use file_record::Shape;
+use file_record::Written;
 use listing_whole::Listed;
 use method::Refusal;
 use method::Request;
@@ -67,6 +69,16 @@ pub fn tell_place(place: Place) -> i64
     match place {
         Place::Nowhere => host_answer::NOTHING,
         Place::From(at) => at as i64,
+    }
+}
+
+// Of a file that was to be written: its length, or minus the number of the refusal.
+pub fn tell_written(written: Written) -> i64
+    ensures { λ r. ⌜ r ≡ writtenTold written ⌝ }
+{
+    match written {
+        Written::Length(size) => size as i64,
+        Written::Refused(refusal) => 0 - host_answer::tell_refusal(refusal, 0),
     }
 }
 
