@@ -197,6 +197,18 @@ int64_t hp_listing(const uint8_t *file, size_t file_len, uint8_t *out, size_t ou
     return carry(c, out, out_len);
 }
 
+int64_t hp_write(uint32_t participation_day, uint32_t portfolio, uint32_t first_day, const uint8_t *marks, size_t marks_len,
+                 const uint32_t *readings, size_t readings_len, const uint32_t *events, size_t events_len, uint8_t *out, size_t out_len)
+{
+    struct peer_call *c = begin_table(PEER_WRITE, first_day, marks, marks_len, readings, readings_len);
+    copy(c->events, events, 4 * events_len, PEER_IN);
+    c->events_len = events_len;
+    c->participation = participation_day;
+    c->portfolio = portfolio;
+    c->out_len = out_len;
+    return carry(c, out, out_len);
+}
+
 int64_t hp_day(uint32_t year, uint32_t month, uint32_t day)
 {
     struct peer_call *c = begin_file(PEER_DAY, NULL, 0, 0);

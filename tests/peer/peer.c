@@ -25,6 +25,9 @@ static int64_t carry_out(struct peer_call *c)
         return hp_event(c->file, c->file_len, c->place, c->name);
     case PEER_LISTING:
         return hp_listing(c->file, c->file_len, c->out, c->out_len);
+    case PEER_WRITE:
+        return hp_write(c->participation, c->portfolio, c->first, c->file, c->file_len, c->readings, c->readings_len, c->events, c->events_len,
+                        c->out, c->out_len);
     case PEER_DAY:
         return hp_day(c->s, c->e, c->n);
     case PEER_DATE:

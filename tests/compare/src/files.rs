@@ -1,6 +1,7 @@
 //! The proved entries over a record file, beside the reference.
 
 use crate::told::{some_names, Told};
+use crate::writing::{self, compare_again};
 use crate::{begins, same, PlainAnswer, QUARTERS};
 use reference::calendar::{group_of, Group};
 use reference::record::{read, Contents};
@@ -84,7 +85,7 @@ fn expected_output(result: &Result<Answer, Refusal>, room: usize) -> (u32, Vec<u
     }
 }
 
-/// How often each outcome was met: answers by group of the event day, refusals by number, and listings.
+/// How often each outcome was met: answers by group of the event day, refusals by number, listings, and files written again.
 #[derive(Default, Debug, Clone)]
 pub struct Met {
     pub weekdays: u64,
@@ -92,6 +93,7 @@ pub struct Met {
     pub holidays: u64,
     pub refused: [u64; 13],
     pub listed: u64,
+    pub written: u64,
 }
 
 impl Met {
@@ -161,6 +163,10 @@ pub fn compare(file: &[u8], seed: u64, met: &mut Met) -> Result<(), String> {
         told.check(&at("hp_told"), &some_names(seed / 2), |name| proved_told(file, place, name))?;
         Told::of_event(&read, place).check(&at("hp_event"), &some_names(seed / 3), |name| proved_event(file, place, name))?;
     }
+    if let Ok(contents) = &read {
+        compare_again(file, contents, "hp_write", writing::proved)?;
+        met.written += 1;
+    }
     if seed % 15 == 0 {
         compare_listing(file, &listing(file), seed / 15)?;
         met.listed += 1;
@@ -186,5 +192,5 @@ pub fn compare_plain(file: &[u8], seed: u64) -> Result<(), String> {
         let expected = (expected_output(&result, room), Told::of(&result));
         same(&format!("plain_host at place {place}"), &plain(file, place, room), &expected)?;
     }
-    Ok(())
+    read.map_or(Ok(()), |contents| compare_again(file, &contents, "plain_write", writing::plain))
 }

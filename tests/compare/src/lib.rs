@@ -5,6 +5,7 @@ pub mod probe;
 pub mod program;
 pub mod shrink;
 pub mod told;
+pub mod writing;
 
 use reference::{verdict, Answer, Refusal, Request, Table};
 use told::{some_names, Told, NOTHING};

@@ -8,8 +8,8 @@ use common::{august, flat, request, set_day, set_mark, set_reading, worked_file,
 use compare::program::{prints, program, run};
 use compare::told::{every_name, Told, DAYS};
 use compare::{begins, files, proved, proved_part, proved_told, UNTOUCHED};
-use reference::generate::records::{day_records, event_record, head_record};
 use reference::table::MISSING;
+use reference::writer::{day_records, event_record, head_record};
 use reference::{Request, Table};
 
 /// What a line says of a call.

@@ -2,7 +2,7 @@
 
 use compare::program::{prints, program, root, run};
 use compare::shrink::keep;
-use reference::generate::records::event_record;
+use reference::writer::event_record;
 use reference::{gen_file, gen_small_file, listing};
 use std::fs::File;
 use std::io::Write;

@@ -1,4 +1,4 @@
-/* The record file and the host entry (document 01), in plain C99, written from 01 and the headers alone. */
+/* The record file and the host entry (document 01) and the writer (order 1), in plain C99, written from 01, order 1 and the headers alone. */
 #include "file.h"
 
 #include <string.h>
@@ -24,12 +24,16 @@ static uint32_t get4(const uint8_t *from)
     return get2(from) | get2(from + 2) << 16;
 }
 
-static void put4(uint8_t *to, uint32_t number)
+static void put2(uint8_t *to, uint32_t number)
 {
     to[0] = (uint8_t)number;
     to[1] = (uint8_t)(number >> 8);
-    to[2] = (uint8_t)(number >> 16);
-    to[3] = (uint8_t)(number >> 24);
+}
+
+static void put4(uint8_t *to, uint32_t number)
+{
+    put2(to, number);
+    put2(to + 2, number >> 16);
 }
 
 /* Whether a whole record of `size` bytes with that mark stands at `at`, which is not above `length`. */
@@ -91,6 +95,75 @@ void plain_load(const uint8_t *file, const struct plain_file *shape, uint8_t mar
             for (i = 0; i < QUARTERS; i++)
                 readings[i] = get4(record + 6 + 4 * i);
     }
+}
+
+/* Whether each number of the events fits its bytes. */
+static int events_fit(const uint32_t *events, size_t events_len)
+{
+    uint32_t beyond = 0;
+    size_t i;
+
+    for (i = 0; i < events_len; i += 4)
+        beyond |= events[i] >> 16 | (events[i + 1] | events[i + 2] | events[i + 3]) >> 8;
+    return beyond == 0;
+}
+
+/* A record's mark, and the number of two bytes that follows it in each. */
+static void put_head(uint8_t *record, const char *mark, uint32_t number)
+{
+    memcpy(record, mark, 2);
+    put2(record + 2, number);
+}
+
+/* Gives back where the days end. */
+static uint8_t *put_days(uint8_t *record, uint32_t first, const uint8_t *marks, size_t days, const uint32_t *readings)
+{
+    uint32_t day, i;
+
+    for (day = 0; day < days; day++, record += DY_SIZE, readings += QUARTERS) {
+        put_head(record, "DY", first + day);
+        record[4] = marks[day];
+        record[5] = 0;
+        if (FILE_ORDER)
+            memcpy(record + 6, readings, 4 * QUARTERS);
+        else
+            for (i = 0; i < QUARTERS; i++)
+                put4(record + 6 + 4 * i, readings[i]);
+    }
+    return record;
+}
+
+static void put_events(uint8_t *record, const uint32_t *events, size_t events_len)
+{
+    size_t i;
+
+    for (i = 0; i < events_len; i += 4, record += EV_SIZE) {
+        put_head(record, "EV", events[i]);
+        record[4] = (uint8_t)events[i + 1];
+        record[5] = (uint8_t)events[i + 2];
+        record[6] = (uint8_t)events[i + 3];
+        record[7] = 0;
+    }
+}
+
+int64_t plain_write(uint32_t p, uint32_t portfolio, uint32_t first, const uint8_t *marks, size_t days, const uint32_t *readings, size_t count,
+                    const uint32_t *events, size_t events_len, uint8_t *out, size_t room)
+{
+    size_t length;
+
+    if (days > MOST_DAYS || count != QUARTERS * days)
+        return -1;
+    if (events_len > 4 * MOST_EVENTS || events_len % 4 != 0 || p > 65535 || !events_fit(events, events_len))
+        return -13;
+    if (days == 0 ? first != 0 : first > 65536 - days)
+        return -13;
+    length = PF_SIZE + DY_SIZE * days + EV_SIZE * (events_len / 4);
+    if (room < length)
+        return -7;
+    put_head(out, "PF", p);
+    put4(out + 4, portfolio);
+    put_events(put_days(out + PF_SIZE, first, marks, days, readings), events, events_len);
+    return (int64_t)length;
 }
 
 /* The numerators pass through an array of their own, for `out` may lie at any address. */

@@ -1,7 +1,8 @@
-//! Document 01 worked a second time, from its text alone, slowly and plainly.
+//! Documents 01 and 02 worked a second time, from their text alone, slowly and
+//! plainly.
 //!
-//! Nothing here is meant to be fast. Each function follows one clause of
-//! document 01 and names it, so that the two can be laid side by side.
+//! Nothing here is meant to be fast. Each function follows one clause of them
+//! and names it, so that the two can be laid side by side.
 
 pub mod baseline;
 pub mod calendar;
@@ -11,10 +12,12 @@ pub mod listing;
 pub mod record;
 pub mod refusal;
 pub mod table;
+pub mod writer;
 
 pub use baseline::{verdict, Answer};
-pub use generate::{gen_call, gen_cuts, gen_file, gen_look_backs, gen_small_file};
+pub use generate::{gen_call, gen_cuts, gen_file, gen_look_backs, gen_small_file, gen_writing};
 pub use listing::listing;
 pub use record::host;
 pub use refusal::Refusal;
 pub use table::{day_part, Request, Table, View};
+pub use writer::write;

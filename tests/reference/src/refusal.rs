@@ -1,4 +1,4 @@
-//! The refusals and the numbers they carry (01, "Refusal numbers").
+//! The refusals and the numbers they carry (01, "Refusal numbers"; 13 is 02's).
 
 /// Each refusal is a case of its own.
 #[derive(Clone, Copy, PartialEq, Eq, Debug)]
@@ -15,7 +15,7 @@ pub enum Refusal {
     NotHeld,
     /// 6: P later than D.
     StartsLater,
-    /// 7: output shorter than e-s quarters.
+    /// 7: output shorter than e-s quarters; the writer's, than the file.
     Room,
     /// 8: margin too short; D minus the oldest relevant day.
     Margin { days: u64 },
@@ -27,6 +27,9 @@ pub enum Refusal {
     File { offset: u64 },
     /// 12: no event at that place.
     NoEvent,
+    /// 13: more than 64 events, a field or day that its bytes can't hold, or no
+    /// days with F other than 0.
+    Unwritable,
 }
 
 impl Refusal {
@@ -45,6 +48,7 @@ impl Refusal {
             Refusal::NoAdjustment { .. } => 10,
             Refusal::File { .. } => 11,
             Refusal::NoEvent => 12,
+            Refusal::Unwritable => 13,
         }
     }
 

@@ -3,12 +3,10 @@
 mod common;
 
 use common::{flat, set_day, set_mark, set_reading, worked_file, worked_table, WORKED};
-use reference::generate::records::{
-    day_record as dy, day_records, event_record as ev, head_record as pf,
-};
 use reference::listing::rounded;
 use reference::record::read;
 use reference::table::MISSING;
+use reference::writer::{day_record as dy, day_records, event_record as ev, head_record as pf};
 use reference::{gen_cuts, host, listing, Refusal, Table};
 
 fn days(table: &Table) -> Vec<u8> {

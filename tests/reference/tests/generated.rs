@@ -2,13 +2,14 @@
 //! kind of answer comes up, and no case stops the call.
 
 use reference::record::read;
-use reference::{gen_call, gen_file, host, listing, verdict};
+use reference::{gen_call, gen_file, gen_writing, host, listing, verdict};
 
 #[test]
 fn seeds_are_kept() {
     for seed in 0..500 {
         assert_eq!(gen_call(seed), gen_call(seed));
         assert_eq!(gen_file(seed), gen_file(seed));
+        assert_eq!(gen_writing(seed), gen_writing(seed));
     }
     assert_ne!(gen_call(1), gen_call(2));
 }

@@ -236,4 +236,6 @@ fn numbers() {
     assert_eq!(Refusal::File { offset: 8 }.carries(), [8]);
     assert_eq!(Refusal::NoEvent.number(), 12);
     assert!(Refusal::NoEvent.carries().is_empty());
+    assert_eq!(Refusal::Unwritable.number(), 13);
+    assert!(Refusal::Unwritable.carries().is_empty());
 }

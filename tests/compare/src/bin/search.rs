@@ -1,4 +1,7 @@
-//! search [FIRST [COUNT]]: compares COUNT generated calls (a million) from seed FIRST (0) on, and stops at the first that differs.
+//! search [FIRST [COUNT]]: compares COUNT generated calls (a million), and as many of the writer, from seed FIRST (0) on, and stops at the first that
+//! differs.
+
+use compare::writing::{self, Met};
 
 fn main() {
     let mut words = std::env::args().skip(1);
@@ -11,8 +14,9 @@ fn main() {
     };
     let (first, count) = (number(0), number(1_000_000));
     let mut outcomes = [0u64; 11];
+    let mut met = Met::default();
     for seed in first..first + count {
-        match compare::compare(seed) {
+        match compare::compare(seed).and_then(|number| writing::compare(seed, &mut met).map(|()| number)) {
             Ok(number) => outcomes[number as usize] += 1,
             Err(difference) => {
                 println!("{difference}");
@@ -21,4 +25,5 @@ fn main() {
         }
     }
     println!("{count} calls from seed {first} agree: answers {}, refusals 1 to 10 {:?}", outcomes[0], &outcomes[1..]);
+    println!("{count} writings from seed {first} agree: {met:?}");
 }

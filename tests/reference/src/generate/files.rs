@@ -1,10 +1,10 @@
 //! Generated record files, valid, at their edges, cut and damaged.
 
 use super::calls::{small, well_shaped, Draft};
-use super::records::{day_record, day_records, event_record, head_record, Record};
 use super::source::Source;
 use crate::calendar::LAST_DAY;
 use crate::table::{Request, HIGHEST, MISSING};
+use crate::writer::{day_record, day_records, event_record, head_record, Record};
 
 /// The file of a seed.
 pub fn gen_file(seed: u64) -> Vec<u8> {

@@ -3,9 +3,9 @@
 
 use std::ops::RangeInclusive;
 
-use super::records::{day_record, event_record, head_record};
 use super::source::Source;
 use crate::table::{HIGHEST, MISSING, QUARTERS};
+use crate::writer::{day_record, event_record, head_record};
 
 /// The first day of each, 23 April 2024.
 const FIRST: i64 = 8879;

@@ -2,7 +2,7 @@
 #![allow(dead_code)]
 
 use reference::calendar::{day_number, Date};
-use reference::generate::records::{day_records, event_record, head_record};
+use reference::writer::{day_records, event_record, head_record};
 use reference::{Request, Table};
 
 /// A table of unmarked days, all readings the same.
