@@ -1,10 +1,10 @@
 /* bench DIR: the proved entries against the same rules in plain C at -O3, built by gcc and by clang, on the same input in one run. Prints
  * nanoseconds a call, the best of the rounds, which take turns, and the ratio of proved to each other way. Every buffer is touched before the
- * clock starts. The largest file, and the same with loads above eight million kW, are also written to DIR/largest.rec and DIR/high.rec, for the
- * listing programs.
- * bench DIR once: the names of the ways; then each case once in each way, between call_begins and call_ends, for an emulator to count
- * instructions.
- * Compiled with BEFORE it also measures the entries of an earlier archive, in which every name that it exports begins with before_. */
+ * clock starts. Writing is also measured against a copy of as many bytes, the limit. The largest file, and the same with loads above eight million
+ * kW, are also written to DIR/largest.rec and DIR/high.rec, for the listing programs.
+ * bench DIR once: each case once in each way, whose names its line has, between call_begins and call_ends, for an emulator to count instructions.
+ * Compiled with BEFORE it also measures the entries of an earlier archive, in which every name that it exports begins with before_; with
+ * BEFORE_WRITES its writer too. */
 #define _POSIX_C_SOURCE 200809L
 #include <stdio.h>
 #include <stdlib.h>
@@ -23,12 +23,15 @@ typedef uint32_t baseline_table_entry(uint32_t first, const uint8_t *marks, size
                                       uint32_t d, uint32_t s, uint32_t e, uint32_t n, uint32_t *out, size_t room);
 typedef int64_t told_table_entry(uint32_t first, const uint8_t *marks, size_t days, const uint32_t *readings, size_t count, uint32_t p,
                                  uint32_t d, uint32_t s, uint32_t e, uint32_t n, uint32_t name);
+typedef int64_t write_entry(uint32_t p, uint32_t portfolio, uint32_t first, const uint8_t *marks, size_t days, const uint32_t *readings, size_t count,
+                            const uint32_t *events, size_t numbers, uint8_t *out, size_t room);
 
 struct archive {
     baseline_entry *baseline;
     told_entry *told;
     baseline_table_entry *baseline_table;
     told_table_entry *told_table;
+    write_entry *write; /* NULL where an earlier archive has none */
 };
 
 /* The same in plain C, where an answer tells everything. */
@@ -39,24 +42,32 @@ typedef uint32_t plain_table_entry(uint32_t first, const uint8_t *marks, size_t 
 struct plain {
     plain_entry *baseline;
     plain_table_entry *baseline_table;
+    write_entry *write;
 };
 
 plain_entry plain_host_gcc, plain_host_clang;
 plain_table_entry plain_baseline_gcc, plain_baseline_clang;
+write_entry plain_write_gcc, plain_write_clang;
 
-static const struct archive proved = {hp_baseline, hp_told, hp_baseline_table, hp_told_table};
-static const struct plain gcc = {plain_host_gcc, plain_baseline_gcc}, clang = {plain_host_clang, plain_baseline_clang};
+static const struct archive proved = {hp_baseline, hp_told, hp_baseline_table, hp_told_table, hp_write};
+static const struct plain gcc = {plain_host_gcc, plain_baseline_gcc, plain_write_gcc};
+static const struct plain clang = {plain_host_clang, plain_baseline_clang, plain_write_clang};
 
 #ifdef BEFORE
 baseline_entry before_hp_baseline;
 told_entry before_hp_told;
 baseline_table_entry before_hp_baseline_table;
 told_table_entry before_hp_told_table;
-
-static const struct archive before = {before_hp_baseline, before_hp_told, before_hp_baseline_table, before_hp_told_table};
+#ifdef BEFORE_WRITES
+write_entry before_hp_write;
+#else
+#define before_hp_write NULL
 #endif
 
-/* The ways that are measured, each by an archive or by plain C. The first is compared with each of the others. */
+static const struct archive before = {before_hp_baseline, before_hp_told, before_hp_baseline_table, before_hp_told_table, before_hp_write};
+#endif
+
+/* The ways that are measured, each by an archive, by plain C or, of writing, by a copy. The first is compared with each of the others. */
 static const struct way {
     const char *name;
     const struct archive *archive;
@@ -68,15 +79,20 @@ static const struct way {
 #endif
     {"gcc -O3", NULL, &gcc},
     {"clang -O3", NULL, &clang},
+    {"memcpy", NULL, NULL},
 };
 
 enum { WAYS = sizeof ways / sizeof ways[0] };
+
+static const struct way *taken[WAYS]; /* those of the case at hand */
+static int count_taken;
 
 static struct record_file file;
 static size_t place;
 static uint8_t marks[128];
 static uint32_t readings[128 * QUARTERS], days, s, e;
-static uint8_t out[HP_MOST_BYTES];
+static uint32_t events[4 * HP_MOST_EVENTS], numbers; /* those of the file */
+static uint8_t out[HP_MOST_BYTES], written[HP_MOST_FILE];
 static uint32_t numerators[QUARTERS];
 static struct plain_answer answer;
 
@@ -119,6 +135,33 @@ static uint32_t call_told_table(const struct way *way)
     return answer.reach;
 }
 
+/* Writes the table and the events, which are those of the file. */
+static uint32_t call_write(const struct way *way)
+{
+    write_entry *entry = way->archive ? way->archive->write : way->plain ? way->plain->write : NULL;
+    if (entry)
+        return (uint32_t)entry(8000, 77, EVENT_DAY + 1 - days, marks, days, readings, days * QUARTERS, events, numbers, written, sizeof written);
+    memcpy(written, file.bytes, file.length);
+    return (uint32_t)file.length;
+}
+
+/* Whether a way has a case: an earlier archive may have no writer, and a copy does nothing but write. */
+static int has_case(const struct way *way, case_call *call)
+{
+    if (call == call_write)
+        return !way->archive || way->archive->write;
+    return way->archive || way->plain;
+}
+
+static void take_ways(case_call *call)
+{
+    int way;
+    count_taken = 0;
+    for (way = 0; way < WAYS; way++)
+        if (has_case(&ways[way], call))
+            taken[count_taken++] = &ways[way];
+}
+
 static int once;
 
 __attribute__((noinline)) void call_begins(void)
@@ -134,9 +177,10 @@ __attribute__((noinline)) void call_ends(void)
 static void call_once(case_call *call)
 {
     int way;
-    for (way = 0; way < WAYS; way++) {
+    for (way = 0; way < count_taken; way++) {
+        printf("\t%s", taken[way]->name);
         call_begins();
-        call(&ways[way]);
+        call(taken[way]);
         call_ends();
     }
 }
@@ -162,41 +206,45 @@ static double time_calls(case_call *call, const struct way *way, uint32_t number
 static void time_rounds(case_call *call, uint32_t number, double best[WAYS])
 {
     int round, way;
-    for (way = 0; way < WAYS; way++)
+    for (way = 0; way < count_taken; way++)
         best[way] = 1e18;
     for (round = 0; round < ROUNDS; round++)
-        for (way = 0; way < WAYS; way++) {
-            double took = time_calls(call, &ways[way], number);
+        for (way = 0; way < count_taken; way++) {
+            double took = time_calls(call, taken[way], number);
             best[way] = took < best[way] ? took : best[way];
         }
 }
 
-/* The number that every way gives. */
+/* The number that every way gives; of writing, the file too. */
 static uint32_t same_number(const char *name, case_call *call)
 {
-    uint32_t number = call(&ways[0]);
+    uint32_t number = call(taken[0]);
     int way;
-    for (way = 1; way < WAYS; way++)
-        if (call(&ways[way]) != number) {
-            printf("%s: %s gives another number\n", name, ways[way].name);
+    for (way = 0; way < count_taken; way++) {
+        memset(written, 0, sizeof written);
+        if (call(taken[way]) != number || (call == call_write && memcmp(written, file.bytes, file.length) != 0)) {
+            printf("%s: %s gives another %s\n", name, taken[way]->name, call == call_write ? "file" : "number");
             exit(1);
         }
+    }
     return number;
 }
 
 static void report(const char *name, case_call *call)
 {
     double best[WAYS];
-    uint32_t number = same_number(name, call);
+    uint32_t number;
     int way;
+    take_ways(call);
+    number = same_number(name, call);
     printf("%s: result %u", name, number);
     if (once)
         call_once(call);
     else {
         time_rounds(call, number, best);
-        printf(", %s %.0f ns", ways[0].name, best[0]);
-        for (way = 1; way < WAYS; way++)
-            printf(", %s %.0f ns (ratio %.2f)", ways[way].name, best[way], best[0] / best[way]);
+        printf(", %s %.0f ns", taken[0]->name, best[0]);
+        for (way = 1; way < count_taken; way++)
+            printf(", %s %.0f ns (ratio %.2f)", taken[way]->name, best[way], best[0] / best[way]);
     }
     printf("\n");
     fflush(stdout);
@@ -243,20 +291,29 @@ static void put_days(uint32_t h)
     }
 }
 
-static void put_largest(void)
+/* Events of the last days, put into the file and kept for the writer. */
+static void put_events(uint32_t count, uint32_t end)
 {
     uint32_t i;
-    put_days(128);
-    for (i = 0; i < 64; i++)
-        put_event(&file, EVENT_DAY - i, 152, 160, 148);
+    for (i = 0; i < count; i++) {
+        const uint32_t event[] = {EVENT_DAY - i, 152, end, 148};
+        put_event(&file, event[0], event[1], event[2], event[3]);
+        memcpy(events + 4 * i, event, sizeof event);
+    }
+    numbers = 4 * count;
     place = 0;
+}
+
+static void put_largest(void)
+{
+    put_days(128);
+    put_events(64, 160);
 }
 
 static void put_one_event(uint32_t h)
 {
     put_days(h);
-    put_event(&file, EVENT_DAY, 152, 156, 148);
-    place = 0;
+    put_events(1, 156);
 }
 
 static void fill_table(uint32_t h)
@@ -333,6 +390,16 @@ static void tables(void)
     report("told by a table. 128 days, the reach", call_told_table);
 }
 
+static void writing(void)
+{
+    fill_table(128);
+    put_largest();
+    report("write a. 128 days, 64 events", call_write);
+    fill_table(31);
+    put_one_event(31);
+    report("write b. 31 days, one event", call_write);
+}
+
 static void write_largest(const char *directory, const char *name)
 {
     char path[4096];
@@ -346,14 +413,6 @@ static void write_largest(const char *directory, const char *name)
     }
 }
 
-/* One line: the names of the ways, a tab between two. */
-static void print_names(void)
-{
-    int way;
-    for (way = 0; way < WAYS; way++)
-        printf("%s%c", ways[way].name, way + 1 < WAYS ? '\t' : '\n');
-}
-
 int main(int argc, char **argv)
 {
     once = argc == 3 && strcmp(argv[2], "once") == 0;
@@ -365,9 +424,8 @@ int main(int argc, char **argv)
     write_largest(argv[1], "high.rec");
     load = ordinary;
     write_largest(argv[1], "largest.rec");
-    if (once)
-        print_names();
     files();
     tables();
+    writing();
     return 0;
 }

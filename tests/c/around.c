@@ -6,11 +6,13 @@
 #include "honeyplank.h"
 #include "record.h"
 #include "told.h"
+#include "values.h"
 
 /* PLACES: the events of the largest file, and one place where there is none */
 enum { DEEP = 1 << 20, THREADS = 4, CALLS = 650, PLACES = 65 };
 
 static struct record_file file;
+static struct values values; /* those of the file */
 static ucontext_t home, away;
 static size_t place, listing_room;
 
@@ -29,12 +31,13 @@ static void put_largest(struct record_file *largest, uint32_t load)
 /* Every entry but hp_listing, by every name. */
 static void call_all(void)
 {
-    static uint8_t out[HP_MOST_BYTES], marks[128];
+    static uint8_t out[HP_MOST_BYTES], written[HP_MOST_FILE], marks[128];
     static uint32_t readings[128 * QUARTERS], numerators[QUARTERS];
     uint32_t name;
     hp_baseline(file.bytes, file.length, place, out, sizeof out);
     hp_baseline_table(8879, marks, 128, readings, 128 * QUARTERS, 0, 9006, 96, 192, 96, numerators, QUARTERS);
     hp_day_part(8879, marks, 128, readings, 128 * QUARTERS, 9006);
+    write_values(&values, written, sizeof written);
     hp_day(2024, 8, 28);
     hp_date(9006);
     hp_version();
@@ -79,6 +82,7 @@ static void check_stack(void)
     static const size_t rooms[] = {0, HP_MOST_LISTING - 1, HP_MOST_LISTING};
     size_t all = 0, listing = 0, i;
     put_largest(&file, 1000);
+    take_values(&values, &file);
     for (place = 0; place < PLACES; place++)
         all = deeper(all, depth(call_all));
     for (i = 0; i < sizeof rooms / sizeof rooms[0]; i++) {
@@ -96,11 +100,12 @@ struct given {
     uint8_t out[HP_MOST_BYTES];
 };
 
-/* One thread's file, with what it gave before any thread ran. */
+/* One thread's file with its values, and what it gave before any thread ran. */
 struct caller {
     struct record_file file;
+    struct values values;
     struct given due[PLACES];
-    uint8_t listing[HP_MOST_LISTING], again[HP_MOST_LISTING];
+    uint8_t listing[HP_MOST_LISTING], again[HP_MOST_LISTING], written[HP_MOST_FILE];
     int64_t length;
     int wrong;
 };
@@ -122,6 +127,20 @@ static int64_t list(const struct record_file *its, uint8_t *text)
     return hp_listing(its->bytes, its->length, text, HP_MOST_LISTING - 1);
 }
 
+static int same_listing(struct caller *caller)
+{
+    return list(&caller->file, caller->again) == caller->length && memcmp(caller->again, caller->listing, HP_MOST_LISTING) == 0;
+}
+
+/* Whether the values are written as the file that they are of. */
+static int same_file(struct caller *caller)
+{
+    const struct record_file *due = &caller->file;
+    uint8_t *out = caller->written;
+    memset(out, UNTOUCHED, HP_MOST_FILE);
+    return write_values(&caller->values, out, HP_MOST_FILE) == (int64_t)due->length && memcmp(out, due->bytes, due->length) == 0;
+}
+
 static void *call_often(void *passed)
 {
     struct caller *caller = passed;
@@ -131,9 +150,9 @@ static void *call_often(void *passed)
         struct given given = given_at(&caller->file, event);
         if (memcmp(&given, &caller->due[event], sizeof given) != 0)
             caller->wrong++;
-        if (event != 0)
-            continue;
-        if (list(&caller->file, caller->again) != caller->length || memcmp(caller->again, caller->listing, HP_MOST_LISTING) != 0)
+        if (!same_file(caller))
+            caller->wrong++;
+        if (event == 0 && !same_listing(caller))
             caller->wrong++;
     }
     return NULL;
@@ -151,7 +170,8 @@ static void check_threads(void)
         for (event = 0; event < PLACES; event++)
             callers[i].due[event] = given_at(&callers[i].file, event);
         callers[i].length = list(&callers[i].file, callers[i].listing);
-        CHECK(callers[i].length > 0);
+        take_values(&callers[i].values, &callers[i].file);
+        CHECK(callers[i].length > 0 && same_file(&callers[i]));
     }
     CHECK(memcmp(callers[0].due[63].out, callers[1].due[63].out, HP_MOST_BYTES) != 0);
     CHECK(callers[0].due[63].told[HP_ADJUSTMENT] != callers[1].due[63].told[HP_ADJUSTMENT]);

@@ -45,16 +45,18 @@ static void no_dates(void)
 /* Each result has a sentence of its own, and every other number the one that says so. */
 static void texts(void)
 {
-    static const uint32_t others[] = {13, 255, 256, 65536 + 8, UINT32_MAX};
+    static const uint32_t others[] = {14, 255, 256, 65536 + 8, UINT32_MAX};
+    static const char none[] = "No result has this number.";
     uint32_t i, j;
-    for (i = 0; i <= 12; i++) {
+    for (i = 0; i <= HP_UNWRITABLE; i++) {
         const char *text = hp_refusal_text(i);
         CHECK(strlen(text) > 10 && text[strlen(text) - 1] == '.' && strchr(text, '.') == text + strlen(text) - 1);
+        CHECK(strcmp(text, none) != 0);
         for (j = 0; j < i; j++)
             CHECK(strcmp(text, hp_refusal_text(j)) != 0);
     }
     for (i = 0; i < sizeof others / sizeof others[0]; i++)
-        CHECK(strcmp(hp_refusal_text(others[i]), "No result has this number.") == 0);
+        CHECK(strcmp(hp_refusal_text(others[i]), none) == 0);
 }
 
 int main(void)

@@ -1,10 +1,10 @@
 /* The entries over a record file: the worked case, each refusal, the listing, and every buffer between guards. */
-#include <dirent.h>
 #include <inttypes.h>
 
 #include "check.h"
 #include "honeyplank.h"
 #include "record.h"
+#include "sample.h"
 #include "told.h"
 
 static struct record_file file;
@@ -35,9 +35,8 @@ static void expect(int line, size_t place, size_t room, uint32_t number, struct 
 static void expect_file(int line, struct told due)
 {
     struct lent in = lend_copy(file.bytes, file.length, at_end);
-    int before = failures, i;
-    for (i = 0; i < NAMES; i++)
-        CHECK(tells(&due, name_at(i), hp_file(in.bytes, in.length, name_at(i))));
+    int before = failures;
+    check_file(in.bytes, in.length, &due);
     if (failures != before)
         printf("  of the file of line %d\n", line);
     give_back(&in);
@@ -46,9 +45,8 @@ static void expect_file(int line, struct told due)
 static void expect_event(int line, size_t place, struct told due)
 {
     struct lent in = lend_copy(file.bytes, file.length, at_end);
-    int before = failures, i;
-    for (i = 0; i < NAMES; i++)
-        CHECK(tells(&due, name_at(i), hp_event(in.bytes, in.length, place, name_at(i))));
+    int before = failures;
+    check_event(in.bytes, in.length, place, &due);
     if (failures != before)
         printf("  of the event of line %d\n", line);
     give_back(&in);
@@ -58,27 +56,6 @@ static void expect_event(int line, size_t place, struct told due)
 #define EVENT_IS(place, d, s, e, n) expect_event(__LINE__, place, event_of(d, s, e, n))
 #define FILE_REFUSED(offset) expect_file(__LINE__, told_refusal(HP_BAD_FILE, offset, NONE))
 #define EVENT_REFUSED(place, number, first) expect_event(__LINE__, place, told_refusal(number, first, NONE))
-
-static struct told held(int64_t p, int64_t portfolio, int64_t first, int64_t days, int64_t events)
-{
-    struct told told = told_refusal(HP_ANSWERED, NONE, NONE);
-    told.numbers[HP_FILE_PARTICIPATION] = p;
-    told.numbers[HP_FILE_PORTFOLIO] = portfolio;
-    told.numbers[HP_FILE_FIRST] = first;
-    told.numbers[HP_FILE_DAYS] = days;
-    told.numbers[HP_FILE_EVENTS] = events;
-    return told;
-}
-
-static struct told event_of(int64_t d, int64_t s, int64_t e, int64_t n)
-{
-    struct told told = told_refusal(HP_ANSWERED, NONE, NONE);
-    told.numbers[HP_EVENT_DAY] = d;
-    told.numbers[HP_EVENT_START] = s;
-    told.numbers[HP_EVENT_END] = e;
-    told.numbers[HP_EVENT_NOTICE] = n;
-    return told;
-}
 
 static void worked_case(void)
 {
@@ -403,43 +380,14 @@ static void expect_listing_by_entries(int line)
     expect_listing(line, text.bytes, text.length);
 }
 
-/* Reads a sample: its bytes into `to`, and how many there are. */
-static size_t read_sample(const char *name, const char *ending, void *to, size_t most)
-{
-    char path[512];
-    FILE *from;
-    size_t length;
-    snprintf(path, sizeof path, "samples/%s%s", name, ending);
-    from = fopen(path, "rb");
-    if (from == NULL)
-        return 0;
-    length = fread(to, 1, most, from);
-    fclose(from);
-    return length;
-}
-
-/* Every sample's listing. */
-static void sample_listings(void)
+static void sample_listing(const char *name)
 {
     static struct text text;
-    struct dirent *entry;
-    DIR *folder = opendir("samples");
-    int samples = 0;
-    while (folder != NULL && (entry = readdir(folder)) != NULL) {
-        char *ending = strrchr(entry->d_name, '.');
-        if (ending == NULL || strcmp(ending, ".rec") != 0)
-            continue;
-        *ending = '\0';
-        file.length = read_sample(entry->d_name, ".rec", file.bytes, sizeof file.bytes);
-        text.length = read_sample(entry->d_name, ".listing", text.bytes, sizeof text.bytes);
-        CHECK(file.length > 0 && text.length > 0);
-        expect_listing(__LINE__, text.bytes, text.length);
-        expect_listing_by_entries(__LINE__);
-        samples++;
-    }
-    CHECK(samples >= 8);
-    if (folder != NULL)
-        closedir(folder);
+    file.length = read_sample(name, ".rec", file.bytes, sizeof file.bytes);
+    text.length = read_sample(name, ".listing", text.bytes, sizeof text.bytes);
+    CHECK(file.length > 0 && text.length > 0);
+    expect_listing(__LINE__, text.bytes, text.length);
+    expect_listing_by_entries(__LINE__);
 }
 
 #define LISTED(text) expect_listing(__LINE__, text, strlen(text))
@@ -529,7 +477,7 @@ int main(void)
         most_days();
         listings();
         longest_listing();
-        sample_listings();
+        each_sample(sample_listing);
         nothing_lent();
     }
     return checked("files");

@@ -5,8 +5,8 @@
 #include "honeyplank.h"
 
 // Every constant, in the header's order. The names' numbers are those of tests/compare/src/told.rs too.
-static_assert(HP_VERSION_MAJOR == 0 && HP_VERSION_MINOR == 3 && HP_VERSION_PATCH == 0 && std::string_view(HP_VERSION) == "0.3.0");
-static_assert(HP_VERSION_NUMBER == 300);
+static_assert(HP_VERSION_MAJOR == 0 && HP_VERSION_MINOR == 4 && HP_VERSION_PATCH == 0 && std::string_view(HP_VERSION) == "0.4.0");
+static_assert(HP_VERSION_NUMBER == 400);
 static_assert(HP_STACK == 28672);
 static_assert(HP_STACK_LISTING == 327680);
 static_assert(HP_ANSWERED == 0);
@@ -22,6 +22,7 @@ static_assert(HP_NO_ROOM == 7);
 static_assert(HP_MARGIN_TOO_SHORT == 8);
 static_assert(HP_TOO_FEW == 9);
 static_assert(HP_NO_ADJUSTMENT_WINDOW == 10);
+static_assert(HP_UNWRITABLE == 13);
 static_assert(HP_QUARTERS == 96);
 static_assert(HP_LAST_DAY == 36524);
 static_assert(HP_LOOK_BACK == 45);
@@ -69,6 +70,8 @@ HAS_TYPE(hp_day_part, int64_t (*)(uint32_t, const uint8_t *, size_t, const uint3
 HAS_TYPE(hp_file, int64_t (*)(const uint8_t *, size_t, uint32_t));
 HAS_TYPE(hp_event, int64_t (*)(const uint8_t *, size_t, size_t, uint32_t));
 HAS_TYPE(hp_listing, int64_t (*)(const uint8_t *, size_t, uint8_t *, size_t));
+HAS_TYPE(hp_write, int64_t (*)(uint32_t, uint32_t, uint32_t, const uint8_t *, size_t, const uint32_t *, size_t, const uint32_t *, size_t, uint8_t *,
+                               size_t));
 HAS_TYPE(hp_day, int64_t (*)(uint32_t, uint32_t, uint32_t));
 HAS_TYPE(hp_date, int64_t (*)(uint32_t));
 HAS_TYPE(hp_version, uint32_t (*)());
@@ -81,7 +84,8 @@ int main()
                    hp_told_table(0, nullptr, 0, nullptr, 0, 0, 0, 0, 0, 0, HP_RESULT) == HP_BAD_TABLE &&
                    hp_day_part(0, nullptr, 0, nullptr, 0, 0) == HP_NOTHING && hp_file(nullptr, 0, HP_RESULT) == HP_BAD_FILE &&
                    hp_event(nullptr, 0, 0, HP_RESULT) == HP_BAD_FILE && hp_listing(nullptr, 0, nullptr, 0) == -HP_NO_ROOM &&
-                   hp_day(0, 0, 0) == HP_NOTHING && hp_date(UINT32_MAX) == HP_NOTHING && hp_version() == HP_VERSION_NUMBER &&
+                   hp_write(0, 0, 0, nullptr, 0, nullptr, 0, nullptr, 0, nullptr, 0) == -HP_NO_ROOM && hp_day(0, 0, 0) == HP_NOTHING &&
+                   hp_date(UINT32_MAX) == HP_NOTHING && hp_version() == HP_VERSION_NUMBER &&
                    std::string_view(hp_refusal_text(HP_NO_ROOM)) == "The output is too short."
                ? 0
                : 1;

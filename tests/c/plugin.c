@@ -1,4 +1,4 @@
-/* A shared library's archive, loaded while the program runs: dlopen, every entry's address, and calls through two of them. */
+/* plugin LIBRARY ENTRY..: the shared library loaded while the program runs: dlopen, every entry's address, and calls through two of them. */
 #include <dlfcn.h>
 
 #include "check.h"
@@ -7,20 +7,18 @@
 
 int main(int argc, char **argv)
 {
-    static const char *const entries[] = {"hp_baseline", "hp_told", "hp_baseline_table", "hp_told_table", "hp_day_part", "hp_file", "hp_event",
-                                          "hp_listing"};
     static struct record_file file;
     uint32_t (*baseline)(const uint8_t *, size_t, size_t, uint8_t *, size_t);
     int64_t (*told)(const uint8_t *, size_t, size_t, uint32_t);
     uint8_t out[HP_MOST_BYTES];
-    size_t i;
-    void *library = argc == 2 ? dlopen(argv[1], RTLD_NOW) : NULL;
+    int i;
+    void *library = argc > 2 ? dlopen(argv[1], RTLD_NOW) : NULL;
     if (library == NULL) {
-        fprintf(stderr, "usage: plugin LIBRARY\n");
+        fprintf(stderr, "usage: plugin LIBRARY ENTRY..\n");
         return 2;
     }
-    for (i = 0; i < sizeof entries / sizeof entries[0]; i++)
-        CHECK(dlsym(library, entries[i]) != NULL);
+    for (i = 2; i < argc; i++)
+        CHECK(dlsym(library, argv[i]) != NULL);
     *(void **)&baseline = dlsym(library, "hp_baseline");
     *(void **)&told = dlsym(library, "hp_told");
     put_worked(&file);

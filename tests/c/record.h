@@ -48,11 +48,16 @@ static inline void put_event(struct record_file *file, uint32_t d, uint32_t s, u
     put(file, 0, 1);
 }
 
-/* A reading of a file, by its place over the whole table. */
+/* Where a reading stands in a file, by its place over the whole table. */
+static inline size_t reading_at(size_t place)
+{
+    return 8 + DAY_BYTES * (place / QUARTERS) + 6 + 4 * (place % QUARTERS);
+}
+
 static inline void set_reading(struct record_file *file, size_t place, uint32_t reading)
 {
     size_t end = file->length;
-    file->length = 8 + DAY_BYTES * (place / QUARTERS) + 6 + 4 * (place % QUARTERS);
+    file->length = reading_at(place);
     put(file, reading, 4);
     file->length = end;
 }

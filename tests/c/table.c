@@ -2,8 +2,9 @@
 #include "check.h"
 #include "honeyplank.h"
 #include "told.h"
+#include "values.h"
 
-enum { QUARTERS = 96, MOST = 129 };
+enum { MOST = 129 };
 
 static uint32_t first = 6951;
 static uint8_t marks[MOST];
@@ -12,28 +13,14 @@ static size_t days, count;
 static uint32_t p, d, s, e, n;
 static int at_end;
 
-static void fill_day(uint32_t day, uint32_t reading)
-{
-    int quarter;
-    for (quarter = 0; quarter < QUARTERS; quarter++)
-        readings[QUARTERS * (day - 6951) + quarter] = reading;
-}
-
 /* Document 01's worked case. */
 static void worked(void)
 {
-    uint32_t day;
     memset(marks, 0, sizeof marks);
     first = 6951;
     days = 22;
     count = 22 * QUARTERS;
-    for (day = 6951; day < 6951 + MOST; day++)
-        fill_day(day, 1000);
-    fill_day(6951, 1300);
-    readings[56] = 1307;
-    fill_day(6958, 1100);
-    fill_day(6965, 1200);
-    fill_day(6972, 1261);
+    fill_worked(readings, MOST);
     p = 6900, d = 6972, s = 152, e = 156, n = 148;
 }
 
@@ -68,8 +55,8 @@ static void answers(void)
     worked(), ANSWERED(4, worked_answer()), ANSWERED(5, worked_answer()), ANSWERED(96, worked_answer());
     worked(), s = 96, e = 192, n = 96, ANSWERED(96, whole_day), NO_ROOM(95, whole_day);
     worked(), p = 6958, marks[7] = HP_MARK_EVENT, ANSWERED(4, answered(spare, 2, 14, 2664, 4, 30264));
-    worked(), d = 6971, fill_day(6960, 1012), ANSWERED(4, answered(weekdays, 5, 15, -144, 4, 60000)); /* Friday 1 February 2019 */
-    worked(), fill_day(6972, 0), ANSWERED(4, floored);
+    worked(), d = 6971, fill_day(readings, 6960, 1012), ANSWERED(4, answered(weekdays, 5, 15, -144, 4, 60000)); /* Friday 1 February 2019 */
+    worked(), fill_day(readings, 6972, 0), ANSWERED(4, floored);
 }
 
 static void refusals(void)

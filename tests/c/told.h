@@ -63,6 +63,29 @@ static inline struct result answered(const uint32_t *days, uint32_t count, int64
     return result;
 }
 
+/* What hp_file tells of a file that is as laid down. */
+static inline struct told held(int64_t p, int64_t portfolio, int64_t first, int64_t days, int64_t events)
+{
+    struct told told = told_refusal(HP_ANSWERED, NONE, NONE);
+    told.numbers[HP_FILE_PARTICIPATION] = p;
+    told.numbers[HP_FILE_PORTFOLIO] = portfolio;
+    told.numbers[HP_FILE_FIRST] = first;
+    told.numbers[HP_FILE_DAYS] = days;
+    told.numbers[HP_FILE_EVENTS] = events;
+    return told;
+}
+
+/* What hp_event tells of an event. */
+static inline struct told event_of(int64_t d, int64_t s, int64_t e, int64_t n)
+{
+    struct told told = told_refusal(HP_ANSWERED, NONE, NONE);
+    told.numbers[HP_EVENT_DAY] = d;
+    told.numbers[HP_EVENT_START] = s;
+    told.numbers[HP_EVENT_END] = e;
+    told.numbers[HP_EVENT_NOTICE] = n;
+    return told;
+}
+
 /* The answer of document 01's worked case: the Saturdays 6951 and 6965, and 7 kW more at the first quarter. */
 static inline struct result worked_answer(void)
 {
@@ -88,6 +111,22 @@ static inline int tells(const struct told *told, uint32_t name, int64_t found)
     if (found != due)
         printf("name %u: %lld is due, %lld is told\n", name, (long long)due, (long long)found);
     return found == due;
+}
+
+/* hp_file tells this by every name. */
+static inline void check_file(const uint8_t *file, size_t length, const struct told *due)
+{
+    int i;
+    for (i = 0; i < NAMES; i++)
+        CHECK(tells(due, name_at(i), hp_file(file, length, name_at(i))));
+}
+
+/* hp_event tells this by every name. */
+static inline void check_event(const uint8_t *file, size_t length, size_t place, const struct told *due)
+{
+    int i;
+    for (i = 0; i < NAMES; i++)
+        CHECK(tells(due, name_at(i), hp_event(file, length, place, name_at(i))));
 }
 
 #endif

@@ -1,11 +1,12 @@
-/* libFuzzer's harness: the proved entries over a record file beside the plain C ones (tests/reference/c), which are instrumented. An input is one
- * byte for the event's place, one for the room of the output, and the file. */
+/* libFuzzer's harness: the proved entries over a record file, and the writer, beside the plain C ones (tests/reference/c), which are instrumented. An
+ * input is one byte for the event's place, one for the room of the output, and the file, whose bytes are also taken as values to write. */
 #define _POSIX_C_SOURCE 200809L
 #include <stdio.h>
 #include <stdlib.h>
 #include <string.h>
 
 #include "honeyplank.h"
+#include "../c/values.h"
 #include "listing.h"
 
 int LLVMFuzzerTestOneInput(const uint8_t *data, size_t size);
@@ -150,6 +151,81 @@ static void same_listing(const uint8_t *file, size_t length, uint8_t turn)
     free(due);
 }
 
+/* WRITE_ROOM: more than any file has, also one with a day and an event too many. */
+enum { WRITE_ROOM = HP_MOST_FILE + 2 * DAY_BYTES };
+
+static struct values values;
+static uint8_t written[WRITE_ROOM];
+
+/* Both writers give this with so much room, and leave the same bytes; those of the proved one are in `written`. */
+static int64_t same_write(size_t room)
+{
+    static uint8_t due[WRITE_ROOM];
+    int64_t given;
+    memset(due, UNTOUCHED, sizeof due);
+    memset(written, UNTOUCHED, sizeof written);
+    given = plain_write(values.p, values.portfolio, values.first, values.marks, values.days, values.readings, values.count, values.events,
+                        values.numbers, due, room);
+    SAME(write_values(&values, written, room) == given);
+    SAME(memcmp(written, due, sizeof due) == 0);
+    return given;
+}
+
+/* A file that is as laid down is written again byte for byte. */
+static void same_again(const uint8_t *file, size_t length, const struct plain_file *shape)
+{
+    take_told(&values, file, length);
+    plain_load(file, shape, values.marks, values.readings);
+    SAME(same_write(length) == (int64_t)length);
+    SAME(memcmp(written, file, length) == 0);
+}
+
+/* Mostly the usual number; else, by the third byte, one about the highest that can be written, one about the end of 32 bits, or any. */
+static uint32_t number_at(const uint8_t *from, uint32_t usual, uint32_t highest)
+{
+    if (from[2] < 200)
+        return usual;
+    return from[2] < 230 ? highest - 1 + from[0] % 3 : from[2] < 240 ? UINT32_MAX - from[0] : word_at(from);
+}
+
+/* So many numbers of events; one of them may not be the usual. */
+static void take_events(const uint8_t *from, size_t size, size_t numbers)
+{
+    size_t i, place = from[16];
+    values.numbers = numbers;
+    for (i = 0; i < numbers; i++)
+        values.events[i] = from[i % size] | (i % 4 == 0 ? (uint32_t)from[(i + 1) % size] << 8 : 0);
+    if (place < numbers)
+        values.events[place] = number_at(from + 12, values.events[place], place % 4 == 0 ? 65535 : 255);
+}
+
+/* As many days as these bytes might be, with 96 readings a day, seldom with more or fewer. */
+static void take_table(const uint8_t *from, size_t size)
+{
+    static const int off[] = {1, QUARTERS, -1, -QUARTERS};
+    size_t days = size / DAY_BYTES % (HP_MOST_DAYS + 2), bytes;
+    values.days = days;
+    values.count = QUARTERS * days;
+    if (from[17] >= 252 && (from[17] < 254 ? days <= HP_MOST_DAYS : days > 0))
+        values.count += (size_t)off[from[17] - 252];
+    bytes = 4 * values.count;
+    memcpy(values.marks, from, days);
+    memcpy(values.readings, from, bytes < size ? bytes : size);
+}
+
+/* Any bytes as values, mostly such that can be written: the first twenty say what they are, and all are taken again as marks, readings and events. */
+static void same_values(const uint8_t *from, size_t size, uint8_t turn)
+{
+    if (size < 20)
+        return;
+    take_table(from, size);
+    take_events(from, size, from[17] < 200 ? 4 * (from[18] % (HP_MOST_EVENTS + 2u)) : from[18]);
+    values.p = number_at(from, word_at(from) & 65535, 65535);
+    values.portfolio = word_at(from + 4);
+    values.first = values.days == 0 ? number_at(from + 8, 0, 0) : number_at(from + 8, word_at(from + 8) & 65535, 65536 - (uint32_t)values.days);
+    same_write(8 + DAY_BYTES * values.days + EVENT_BYTES * (values.numbers / 4) + turn % 3 - 1);
+}
+
 int LLVMFuzzerTestOneInput(const uint8_t *data, size_t size)
 {
     struct plain_file shape;
@@ -175,6 +251,9 @@ int LLVMFuzzerTestOneInput(const uint8_t *data, size_t size)
     same_told(file, length, place, turn);
     same_baseline(file, length, place, room_of(data[1], event.e > event.s ? event.e - event.s : 0));
     same_listing(file, length, data[1]);
+    if (!refused)
+        same_again(file, length, &shape);
+    same_values(file, length, data[1]);
     free(file);
     return 0;
 }
