@@ -56,11 +56,9 @@ part: ## prove some crates and what they are built on, and try their must-fail e
 	$(call need,rt)
 	rt must-fail $(CRATES)
 
-examples: $(library) ## build the example programs, under build/examples/
-	@mkdir -p build/examples
-	tests/x86 cc -std=c99 -O2 -Wall -Wextra -Wpedantic -Ibuild/include examples/event_kw.c build/lib/libhoneyplank.a -o build/examples/event_kw
+examples: $(library) $(patsubst %.c,build/%,$(wildcard examples/*.c)) ## build the example programs, under build/examples/
 
-samples: ## make the sample files again from their texts
+samples: build/examples/pack ## make the sample files again from their texts
 	$(call need,python3)
 	samples/make
 
@@ -81,10 +79,10 @@ bench: all ## the entries' and the program's speed against plain C, in one run (
 	$(call need,gcc)
 	tests/bench/run $(if $(BEFORE),--before "$(BEFORE)")
 
-fuzz: all ## fuzz the file entries against plain C for FUZZ_SECONDS (600)
+fuzz: all ## fuzz the file entries and the writer against plain C for FUZZ_SECONDS (600)
 	tests/fuzz/run $(FUZZ_SECONDS)
 
-search: $(library) ## compare a million more generated calls with the reference (FIRST=seed to start elsewhere)
+search: $(library) ## compare a million more generated calls and files to be written with the reference (FIRST=seed to start elsewhere)
 	$(call need,gcc cargo)
 	cd tests/compare && cargo run --release --offline --quiet --bin search -- $(FIRST)
 
@@ -118,6 +116,10 @@ build/bin/honeyplank-list: target/bin/program_list
 build/include/honeyplank.h: include/honeyplank.h
 build/lib/libhoneyplank.a build/bin/honeyplank-list build/include/honeyplank.h:
 	@mkdir -p $(@D) && cp $< $@
+
+build/examples/%: examples/%.c build/include/honeyplank.h build/lib/libhoneyplank.a
+	@mkdir -p $(@D)
+	tests/x86 cc -std=c99 -O2 -Wall -Wextra -Wpedantic -Wconversion -Ibuild/include $< build/lib/libhoneyplank.a -o $@
 
 build/share/man/man1/%: man/%
 	@mkdir -p $(@D) && cp $< $@
