@@ -227,7 +227,7 @@ static inline const char *hp_refusal_text(uint32_t number)
     case HP_NO_EVENT:
         return "The file has no event at that place.";
     case HP_UNWRITABLE:
-        return "No record file can say this: too many events, a number that its bytes can't hold, or a first day with no days.";
+        return "No record file can say this: over 64 events or not four numbers for each, a number that its bytes can't hold, or a first day with no days.";
     default:
         return "No result has this number.";
     }
