@@ -188,7 +188,6 @@ module _ (w : Lent) where
   pub record Accepts (room size : ℕ) : Type 0 where
     pub match : Matches (w .table .first) (heldDays (w .table)) (length (w .table .readings))
     pub say : Says (w .participation) (w .table .first) (heldDays (w .table)) (w .numbers)
-    pub enough : size ≤ room
     pub is : size ≡ length (fileOf (said w))
 
   pub accepts : (room size : ℕ) → Length size ≡ writing w room → Accepts room size
@@ -203,7 +202,6 @@ module _ (w : Lent) where
           record {
             match = matches (w .table .first) (heldDays (w .table)) (length (w .table .readings)) m;
             say = says (w .participation) (w .table .first) (heldDays (w .table)) (w .numbers) s;
-            enough = rw same (leb-true (length (fileOf (said w))) room f);
             is = same;
           }
       go true true false m s f r = absurd (let z : _≡_ {A = ℕ} 0 1 = cc in omega arith)

@@ -186,7 +186,7 @@ module _ {shape : Shape} {start : ℕ} {marks readings numbers out : List ℕ} (
     abbrev now : List ℕ
     now = putMid 0 (base - 0) out first-part
 
-    pub now-long : length now ≡ length out
+    now-long : length now ≡ length out
     now-long = opened p .long
 
     pub days-room : length (midOf base (start - base) now) ≡ dayStart 0 (shape .first) (length marks)

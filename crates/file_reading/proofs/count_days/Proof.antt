@@ -34,9 +34,6 @@ is-day-of-requires c κs = omega (arith, c .day-start .ensures, c .before .befor
 add-days : tie.Need-add-days Inv-loop μ-loop
 add-days c = omega arith
 
-loop-less : tie.Need-loop-less Inv-loop μ-loop
-loop-less c = omega arith
-
 loop-again : tie.Need-loop-again Inv-loop μ-loop
 loop-again c =
     let a = c .before .before .before .before .before .before .args in
@@ -45,6 +42,9 @@ loop-again c =
     let good = rw (c .before .before .day-start .ensures) at (sym (c .before .is-day-of .ensures) ∙ c .if1 .taken) in
     counted-more isDYof dyLength (c .before .before .before .before .loop .inv) (dayStart (a .base) (a .first) (k + 1)) (omega arith) good
     (day-whole (a .first + k) (drop at (a .file .now)) good) (day-start-more (a .base) (a .first) k)
+
+loop-less : tie.Need-loop-less Inv-loop μ-loop
+loop-less c = omega arith
 
 returns : tie.Need-returns Inv-loop μ-loop
 unfolding daysFrom

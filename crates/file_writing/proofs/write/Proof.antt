@@ -9,17 +9,17 @@ use Rattle.file_writing.proofs.Whole.{Passed, end-most, too-short, shap
 use Rattle.file_writing.proofs.write.Statement.{statement}
 use Rattle.file_writing.proofs.write.Tie as tie
 
-returns-3 : tie.Need-returns-3
-returns-3 c =
-    let a = c .before .before .before .before .before .before .before .before .args in
-    unsaid (lent (a .participation) (a .portfolio) (a .first) (a .marks .now) (a .readings .now) (a .events .now)) (a .out .now)
-    (sym (c .before .before .before .is-matching .ensures) ∙ c .before .if1 .taken) (sym (c .before .before .is-sayable .ensures) ∙ c .if2 .left)
-
 returns-4 : tie.Need-returns-4
 returns-4 c =
     let a = c .before .before .before .before .before .before .before .args in
     no-match (lent (a .participation) (a .portfolio) (a .first) (a .marks .now) (a .readings .now) (a .events .now)) (a .out .now)
     (sym (c .before .before .is-matching .ensures) ∙ c .if1 .left)
+
+returns-3 : tie.Need-returns-3
+returns-3 c =
+    let a = c .before .before .before .before .before .before .before .before .args in
+    unsaid (lent (a .participation) (a .portfolio) (a .first) (a .marks .now) (a .readings .now) (a .events .now)) (a .out .now)
+    (sym (c .before .before .before .is-matching .ensures) ∙ c .before .if1 .taken) (sym (c .before .before .is-sayable .ensures) ∙ c .if2 .left)
 
 is-matching-requires : tie.Need-is-matching-requires
 is-matching-requires c κs = search needs
