@@ -1,33 +1,66 @@
--- `calendar_groups::is_holiday` meets its contract: by the test of the last day, and membership in two lists joined.
+-- `calendar_groups::is_holiday` meets its contract: by the second days of the list, the test of the last day, and the two rules.
+use mathlib.Core.Path.{sym, _∙_}
 use borrow.Author.Needs.{needs}
-use borrow.Author.Tests.{lt-leb, le-leb}
-use Rattle.base_lists.proofs.Members.{member-append}
-use Rattle.calendar_dates.specs.Days.{yearOf}
-use Rattle.calendar_groups.specs.Holidays.{fixedHolidays, easterHolidays, holidays, isHoliday}
+use Rattle.calendar_groups.proofs.Moves.{replacing, beyond, by-easter, by-date, by-none}
 use Rattle.calendar_groups.proofs.is_holiday.Statement.{statement}
 use Rattle.calendar_groups.proofs.is_holiday.Tie as tie
 
-returns : tie.Need-returns
-unfolding isHoliday
-returns c = simp (lt-leb _ _ (c .if1 .taken))
+returns-5 : tie.Need-returns-5
+returns-5 c =
+    let e = c .before .before in
+    let n = e .before .before .before in
+    let a = n .before .before .before .args in
+    by-none (a .moves .now) (a .day) (sym (n .before .names .ensures) ∙ n .if1 .left) (e .before .before .if2 .left)
+    (sym (e .before .is-easter-holiday .ensures) ∙ e .if3 .left) (sym (c .before .is-fixed-holiday .ensures) ∙ c .if4 .left)
 
-is-fixed-holiday-requires : tie.Need-is-fixed-holiday-requires
-is-fixed-holiday-requires c κs = search needs
+names-requires : tie.Need-names-requires
+names-requires c κs = search needs
+
+returns : tie.Need-returns
+returns c =
+    let a = c .before .before .before .args in
+    replacing (a .moves .now) (a .day) (sym (c .before .names .ensures) ∙ c .if1 .taken)
+
+returns-2 : tie.Need-returns-2
+returns-2 c =
+    let a = c .before .before .before .before .args in
+    beyond (a .moves .now) (a .day) (sym (c .before .before .names .ensures) ∙ c .before .if1 .left) (c .if2 .taken)
 
 is-easter-holiday-requires : tie.Need-is-easter-holiday-requires
 is-easter-holiday-requires c κs = search needs
 
-returns-2 : tie.Need-returns-2
-unfolding isHoliday holidays
-returns-2 c =
-    let d = c .before .before .before .args .day in
-    rw (
-      le-leb _ _ (c .before .before .if1 .left),
-      c .before .is-fixed-holiday .ensures,
-      c .is-easter-holiday .ensures,
-      member-append d (fixedHolidays (yearOf d)) (easterHolidays (yearOf d)),
-    )
+returns-3 : tie.Need-returns-3
+returns-3 c =
+    let n = c .before .before .before in
+    let a = n .before .before .before .args in
+    by-easter (a .moves .now) (a .day) (sym (n .before .names .ensures) ∙ n .if1 .left) (c .before .before .if2 .left)
+    (sym (c .before .is-easter-holiday .ensures) ∙ c .if3 .taken)
+
+is-fixed-holiday-requires : tie.Need-is-fixed-holiday-requires
+is-fixed-holiday-requires c κs = search needs
+
+names-requires-2 : tie.Need-names-requires-2
+names-requires-2 c κs = search needs
+
+returns-4 : tie.Need-returns-4
+returns-4 c =
+    let e = c .before .before .before in
+    let n = e .before .before .before in
+    let a = n .before .before .before .args in
+    by-date (a .moves .now) (a .day) (sym (n .before .names .ensures) ∙ n .if1 .left) (e .before .before .if2 .left)
+    (sym (e .before .is-easter-holiday .ensures) ∙ e .if3 .left) (sym (c .before .before .is-fixed-holiday .ensures) ∙ c .before .if4 .taken)
+    (c .names2 .ensures)
 
 pub is-holiday-spec : {M : Type 1} → statement M
 is-holiday-spec =
-    tie.close (tie.spec returns is-fixed-holiday-requires is-easter-holiday-requires returns-2)
+    tie.close
+    (tie.spec
+    names-requires
+    returns
+    returns-2
+    is-easter-holiday-requires
+    returns-3
+    is-fixed-holiday-requires
+    names-requires-2
+    returns-4
+    returns-5)
