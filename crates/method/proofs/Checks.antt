@@ -3,7 +3,8 @@ use mathlib.Core.Path.{refl}
 use Prim.Native.Nat.{ℕ}
 use Rattle.base_lists.specs.Lists.{keep, all, any, leading, member, sumOf, leastOf, places}
 use Rattle.calendar_dates.specs.Days.{leap, months, newYear, dayNumber, yearOf}
-use Rattle.calendar_groups.specs.Holidays.{easter, fixedHolidays, easterHolidays, holidays, isHoliday, group}
+use Rattle.calendar_groups.specs.Holidays.{easter, fixedHolidays, easterHolidays, holidays, isFixedHoliday, isEasterHoliday, firstDays, secondDays, isHoliday}
+use Rattle.calendar_groups.specs.Holidays.{goodPairs, repeated, goodMoves, group}
 use Rattle.method.specs.Table.{size, offset, dayOf, held, shaped, isExtract, dayPart}
 use Rattle.method.specs.Relevant.{daysBefore, relevant, relevantDays}
 use Rattle.method.specs.Method.{wholeReach, seen, eligibles, spares, window, chosen, reach, isShort, outcome}
@@ -13,7 +14,7 @@ use Rattle.method.specs.HighXofY.{highXofY}
 use Rattle.method.specs.Requested.{rulesOf, methodOf}
 use Rattle.method.specs.Rules.{methodBy}
 use Rattle.method.specs.Ruler.{rulerStart, rulerEnd, quarterOf, against}
-use Rattle.method.specs.Verdict.{tableRefusals, goodRequest, requestRefusals, closing, firstOf, methodology, verdict, written, wellFormed}
+use Rattle.method.specs.Verdict.{tableRefusals, goodRequest, requestRefusals, closing, firstOf, methodology, listRefusals, byList, verdict, written, wellFormed}
 use Rattle.method.specs.Checks.{Checks}
 use Rattle.method.specs.Edges.{Edges}
 use Rattle.method.proofs.Ruler.{start-is, end-is, mod-96}
@@ -21,9 +22,9 @@ use Rattle.method.proofs.Ruler.{start-is, end-is, mod-96}
 -- unfolding this unfolds every definition that the tables compute with
 unfoldable pub definitions : ℕ
 unfolding keep all any leading member sumOf leastOf leap months newYear dayNumber yearOf easter fixedHolidays easterHolidays holidays
-    isHoliday group size offset dayOf held shaped isExtract dayPart daysBefore relevant relevantDays wholeReach seen eligibles spares window chosen
+    isFixedHoliday isEasterHoliday firstDays secondDays isHoliday goodPairs repeated goodMoves group size offset dayOf held shaped isExtract dayPart daysBefore relevant relevantDays wholeReach seen eligibles spares window chosen
     reach isShort outcome windowEnds latestEnd adjustmentEnd places S A B baselineAt baseline complete eligible spare eventSum higher insertBy
-    sortBy methodOf methodBy rulesOf highXofY rulerStart rulerEnd quarterOf against tableRefusals goodRequest requestRefusals closing firstOf methodology verdict written wellFormed
+    sortBy methodOf methodBy rulesOf highXofY rulerStart rulerEnd quarterOf against tableRefusals goodRequest requestRefusals closing firstOf methodology listRefusals byList verdict written wellFormed
 definitions = 0
 
 pub checks : Checks

@@ -20,12 +20,12 @@ saturdays mark =
     record { first = 19 January 2019; marks = set (set (replicate 15 0) 0 mark) 7 mark; readings = replicate 96 1001 ++ replicate 1344 1000 }
 
 pub record AnotherOrder : Type 0 where
-  pub margin : verdict group lastSaturday (at15 6900 6972) 4 ≡ refused (MarginTooShort 42)
+  pub margin : verdict [] lastSaturday (at15 6900 6972) 4 ≡ refused (MarginTooShort 42)
   -- both eligible: the most recent first
   pub eligible-longer : LongerFormed (saturdays 0) lastSaturday
-  pub eligible-window : windowDays group (saturdays 0) (at15 6900 6972) ≡ 26 January 2019 ∷ 19 January 2019 ∷ []
+  pub eligible-window : windowDays (group []) (saturdays 0) (at15 6900 6972) ≡ 26 January 2019 ∷ 19 January 2019 ∷ []
   -- both event days: the highest first
   pub spare-longer : LongerFormed (saturdays 1) lastSaturday
-  pub spare-window : windowDays group (saturdays 1) (at15 6900 6972) ≡ 19 January 2019 ∷ 26 January 2019 ∷ []
+  pub spare-window : windowDays (group []) (saturdays 1) (at15 6900 6972) ≡ 19 January 2019 ∷ 26 January 2019 ∷ []
   -- so these two, too, give "margin too short"
-  pub undecided : Undecided group lastSaturday (at15 6900 6972)
+  pub undecided : Undecided (group []) lastSaturday (at15 6900 6972)

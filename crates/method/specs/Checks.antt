@@ -53,7 +53,7 @@ marked first last events =
     }
 
 abbrev pub reachOf : Table → Request → ℕ
-reachOf t r = reach (methodOf group r) (history t)
+reachOf t r = reach (methodOf (group []) r) (history t)
 
 -- a day with these four readings from 15:00 and one load else
 abbrev pub from15 : ℕ → List ℕ → Day
@@ -103,23 +103,23 @@ pub record Checks : Type 0 where
   -- "4 May 2024, Holy Saturday, is in the holiday group; day 6972 (2 February 2019) is a Saturday; day 8993 (15 August 2024) is in the
   -- holiday group."
   pub holy-saturday-day : easter 2024 - 1 ≡ 4 May 2024
-  pub holy-saturday : group (4 May 2024) ≡ HolidayGroup
+  pub holy-saturday : group [] (4 May 2024) ≡ HolidayGroup
   pub saturday-day : 2 February 2019 ≡ 6972
-  pub saturday : group 6972 ≡ Saturday
+  pub saturday : group [] 6972 ≡ Saturday
   pub assumption-day : 15 August 2024 ≡ 8993
-  pub assumption : group 8993 ≡ HolidayGroup
+  pub assumption : group [] 8993 ≡ HolidayGroup
   -- "event 28 August 2024 (day 9006), P 8700, events marked on 7 and 23 August, all complete: window 26, 22, 21, 20, 19, 16, 14, 13, 12, 9
   -- August, reach 19."
   pub august-day : 28 August 2024 ≡ 9006
-  pub august-window : windowDays group (marked (14 July 2024) (28 August 2024) (7 August 2024 ∷ 23 August 2024 ∷ [])) (at15 8700 9006) ≡
+  pub august-window : windowDays (group []) (marked (14 July 2024) (28 August 2024) (7 August 2024 ∷ 23 August 2024 ∷ [])) (at15 8700 9006) ≡
       26 August 2024 ∷ 22 August 2024 ∷ 21 August 2024 ∷ 20 August 2024 ∷ 19 August 2024 ∷
       16 August 2024 ∷ 14 August 2024 ∷ 13 August 2024 ∷ 12 August 2024 ∷ 9 August 2024 ∷ []
   pub august-reach : reachOf (marked (14 July 2024) (28 August 2024) (7 August 2024 ∷ 23 August 2024 ∷ [])) (at15 8700 9006) ≡ 19
   -- "Held from 10 August: refusal 8 carrying 44."
-  pub august-cut : verdict group (marked (10 August 2024) (28 August 2024) (23 August 2024 ∷ [])) (at15 8700 9006) 4 ≡
+  pub august-cut : verdict [] (marked (10 August 2024) (28 August 2024) (23 August 2024 ∷ [])) (at15 8700 9006) 4 ≡
       refused (MarginTooShort 44)
   -- "Saturday 2 February 2019, P 6900, no marks, all complete: 26, 19, 12 January (003, Table 4)."
-  pub table-4 : windowDays group (marked (1 January 2019) (2 February 2019) []) (at15 6900 6972) ≡
+  pub table-4 : windowDays (group []) (marked (1 January 2019) (2 February 2019) []) (at15 6900 6972) ≡
       26 January 2019 ∷ 19 January 2019 ∷ 12 January 2019 ∷ []
   -- "four-quarter sums 27500, 27100, 25400, 24200, 23600, 22800, 23700, 22400, 20200, 21500 (003, Table 5 in kW), day 1 nearest: days 1, 2,
   -- 3, 4, 7 chosen."
@@ -134,7 +134,7 @@ pub record Checks : Type 0 where
   -- "N 2, S 10, A 0, B 1200: numerator 0."
   pub numerator-0 : floored (unfloored 10 (adjustment 2 0 1200)) ≡ 0
   -- "6972 152 156 days 2 6951 6965 reach 21 over 24 adj 264", and the numerators of quarters 152 to 155 with their rounded kW
-  pub worked-answer : verdict group worked (at15 6900 6972) 4 ≡
+  pub worked-answer : verdict [] worked (at15 6900 6972) 4 ≡
       answered
       (record {
         days = 6951 ∷ 6965 ∷ [];
@@ -145,4 +145,4 @@ pub record Checks : Type 0 where
       })
   pub worked-kilowatts : map (λ k. rounded k 24) (30348 ∷ 30264 ∷ 30264 ∷ 30264 ∷ []) ≡ 1265 ∷ 1261 ∷ 1261 ∷ 1261 ∷ []
   -- "6966 152 156 refused 8 42"
-  pub worked-refusal : verdict group worked (at15 6900 6966) 4 ≡ refused (MarginTooShort 42)
+  pub worked-refusal : verdict [] worked (at15 6900 6966) 4 ≡ refused (MarginTooShort 42)

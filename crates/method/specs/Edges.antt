@@ -9,7 +9,7 @@ use Rattle.calendar_groups.specs.Holidays.{group}
 use Rattle.method.specs.declared.Request.{Request}
 use Rattle.method.specs.declared.Refusal.{Refusal}
 use Rattle.method.specs.declared.Refusal.the-variants.{BadFile, NoEvent, BadTable, BadMark, BadReading, BadRequest, NotHeld}
-use Rattle.method.specs.declared.Refusal.the-variants.{NotYetParticipating, NoRoom, MarginTooShort, TooFew, NoAdjustmentWindow, Unwritable}
+use Rattle.method.specs.declared.Refusal.the-variants.{NotYetParticipating, NoRoom, MarginTooShort, TooFew, NoAdjustmentWindow, Unwritable, BadMoves}
 use Rattle.method.specs.Table.{Table, Day, eventBit, outageBit, present, goodReading, missing, history, isExtract, dayPart}
 use Rattle.method.specs.Ruler.{rulerStart, rulerEnd, against}
 use Rattle.method.specs.Method.{chosen, daysOf}
@@ -21,7 +21,7 @@ use Rattle.method.specs.Checks.{_January_, _February_, _April_, _May_, _
 use Rattle.base_lists.specs.Lists.{places}
 
 abbrev pub chosenOf : Table → Request → List ℕ
-chosenOf t r = daysOf (chosen (methodOf group r) (history t))
+chosenOf t r = daysOf (chosen (methodOf (group []) r) (history t))
 
 abbrev pub notified : ℕ → Request
 notified n = record { participation = 0; event = 1; s = 152; e = 156; n = n }
@@ -33,7 +33,7 @@ fiveDays mark reading =
 
 -- what the event of Wednesday the 28th comes to over them, with participation since the 20th
 abbrev pub wednesday : ℕ → ℕ → Reply
-wednesday mark reading = verdict group (fiveDays mark reading) (at15 (20 August 2024) (28 August 2024)) 4
+wednesday mark reading = verdict [] (fiveDays mark reading) (at15 (20 August 2024) (28 August 2024)) 4
 
 -- one chosen day of which quarter q reads q
 abbrev pub counting : List (ℕ × Day)
@@ -55,11 +55,11 @@ asked p s e n = record { participation = p; event = 9006; s = s; e = e; n = n }
 abbrev pub lent : ℕ → ℕ → ℕ → Table
 lent first h readings = record { first = first; marks = replicate h 0; readings = replicate readings 1000 }
 
--- the thirteen refusals, the numbers that they carry all distinct
+-- the fourteen refusals, the numbers that they carry all distinct
 abbrev pub refusals : List Refusal
 refusals =
     BadFile 21 ∷ NoEvent ∷ BadTable ∷ BadMark 22 ∷ BadReading 23 ∷ BadRequest ∷ NotHeld ∷ NotYetParticipating ∷ NoRoom ∷
-    MarginTooShort 24 ∷ TooFew 25 26 ∷ NoAdjustmentWindow 27 ∷ Unwritable ∷ []
+    MarginTooShort 24 ∷ TooFew 25 26 ∷ NoAdjustmentWindow 27 ∷ Unwritable ∷ BadMoves ∷ []
 
 -- an answer of two quarters
 abbrev pub twoQuarters : Reply
@@ -67,15 +67,15 @@ twoQuarters = answered (record { days = []; reach = 0; denominator = 24; adjuste
 
 pub record Edges : Type 0 where
   -- D-1 is left out for a weekday alone: Easter Sunday's window has Holy Saturday, Good Friday and Labour Day
-  pub easter-sunday : windowDays group (marked (1 April 2024) (5 May 2024) []) (at15 8700 (5 May 2024)) ≡ 4 May 2024 ∷ 3 May 2024 ∷ 1 May 2024 ∷ []
+  pub easter-sunday : windowDays (group []) (marked (1 April 2024) (5 May 2024) []) (at15 8700 (5 May 2024)) ≡ 4 May 2024 ∷ 3 May 2024 ∷ 1 May 2024 ∷ []
   -- and of its three days two are chosen: N is 2 for the holiday group too
   pub easter-sunday-two : chosenOf (marked (1 April 2024) (5 May 2024) []) (at15 8700 (5 May 2024)) ≡ 4 May 2024 ∷ 3 May 2024 ∷ []
   -- equal sums: the nearer days are chosen, in that order
   pub ties : chosenOf (marked (1 January 2019) (2 February 2019) []) (at15 6900 6972) ≡ 26 January 2019 ∷ 19 January 2019 ∷ []
   -- of a Friday's look-back the 45th day is a Tuesday, and the 46th a Monday
-  pub forty-five : verdict group (marked (20 August 2024) (30 August 2024) []) (at15 8700 (30 August 2024)) 4 ≡ refused (MarginTooShort 45)
+  pub forty-five : verdict [] (marked (20 August 2024) (30 August 2024) []) (at15 8700 (30 August 2024)) 4 ≡ refused (MarginTooShort 45)
   -- "if fewer than Y but at least N exist, all of them": two Saturdays, and the third, with an event, is not added
-  pub two-of-three : windowDays group (marked (12 January 2019) (2 February 2019) (12 January 2019 ∷ [])) (at15 (12 January 2019) 6972) ≡
+  pub two-of-three : windowDays (group []) (marked (12 January 2019) (2 February 2019) (12 January 2019 ∷ [])) (at15 (12 January 2019) 6972) ≡
       26 January 2019 ∷ 19 January 2019 ∷ []
   -- "four eligible weekdays and one complete relevant event day without outage: five chosen; without the event day, refusal 9"
   pub filled : chosenOf (fiveDays 1 1000) (at15 (20 August 2024) (28 August 2024)) ≡
@@ -124,8 +124,8 @@ pub record Edges : Type 0 where
   pub no-part : dayPart (twoDays 0 7) (29 August 2024) ≡ []
   pub no-part-refused : dayPart (lent 0 1 97) 0 ≡ []
   -- "D equal to F and P equal to D: refusal 9 with 0 and 0. P one later: refusal 6."
-  pub alone : verdict group (marked (28 August 2024) (28 August 2024) []) (at15 9006 9006) 4 ≡ refused (TooFew 0 0)
-  pub later : verdict group (marked (28 August 2024) (28 August 2024) []) (at15 9007 9006) 4 ≡ refused NotYetParticipating
+  pub alone : verdict [] (marked (28 August 2024) (28 August 2024) []) (at15 9006 9006) 4 ≡ refused (TooFew 0 0)
+  pub later : verdict [] (marked (28 August 2024) (28 August 2024) []) (at15 9007 9006) 4 ≡ refused NotYetParticipating
   -- "s outside 96..191; e outside s+1..192; n above s", and P above 36,524: the last that are taken, and one further
   pub latest-taken : goodRequest (asked 36524 191 192 191) ≡ true
   pub earliest-taken : goodRequest (asked 0 96 97 0) ≡ true
@@ -137,19 +137,19 @@ pub record Edges : Type 0 where
   pub n-refused : goodRequest (asked 0 96 97 97) ≡ false
   -- "tested in this order": 1 to 7, each where the next is due too. "Places count from 0 over the whole table.": of a mark with another bit
   -- the day's, of a reading its own; the day after the last is not held
-  pub no-readings : verdict group (record { first = 9006; marks = 4 ∷ []; readings = [] }) (at15 8700 9006) 4 ≡ refused BadTable
-  pub second-mark : verdict group (twoDays 4 10000001) (at15 8700 9006) 4 ≡ refused (BadMark 1)
-  pub reading-100 : verdict group (twoDays 0 10000001) (asked 8700 152 152 148) 4 ≡ refused (BadReading 100)
-  pub no-quarters : verdict group (lent 9005 1 96) (asked 8700 152 152 148) 4 ≡ refused BadRequest
-  pub not-held : verdict group (twoDays 0 1000) (at15 9008 9007) 4 ≡ refused NotHeld
-  pub not-yet : verdict group (twoDays 0 1000) (at15 9007 9006) 3 ≡ refused NotYetParticipating
-  pub no-room : verdict group (twoDays 0 1000) (at15 8700 9006) 3 ≡ refused NoRoom
+  pub no-readings : verdict [] (record { first = 9006; marks = 4 ∷ []; readings = [] }) (at15 8700 9006) 4 ≡ refused BadTable
+  pub second-mark : verdict [] (twoDays 4 10000001) (at15 8700 9006) 4 ≡ refused (BadMark 1)
+  pub reading-100 : verdict [] (twoDays 0 10000001) (asked 8700 152 152 148) 4 ≡ refused (BadReading 100)
+  pub no-quarters : verdict [] (lent 9005 1 96) (asked 8700 152 152 148) 4 ≡ refused BadRequest
+  pub not-held : verdict [] (twoDays 0 1000) (at15 9008 9007) 4 ≡ refused NotHeld
+  pub not-yet : verdict [] (twoDays 0 1000) (at15 9007 9006) 3 ≡ refused NotYetParticipating
+  pub no-room : verdict [] (twoDays 0 1000) (at15 8700 9006) 3 ≡ refused NoRoom
   -- and 10: D-1 and D with no reading
-  pub no-adjustment : verdict group silent (at15 6900 6972) 4 ≡ refused (NoAdjustmentWindow 21)
+  pub no-adjustment : verdict [] silent (at15 6900 6972) 4 ≡ refused (NoAdjustmentWindow 21)
   -- every refusal has 01's number, and carries its numbers in 01's order
-  pub numbers : map number refusals ≡ 11 ∷ 12 ∷ 1 ∷ 2 ∷ 3 ∷ 4 ∷ 5 ∷ 6 ∷ 7 ∷ 8 ∷ 9 ∷ 10 ∷ 13 ∷ []
+  pub numbers : map number refusals ≡ 11 ∷ 12 ∷ 1 ∷ 2 ∷ 3 ∷ 4 ∷ 5 ∷ 6 ∷ 7 ∷ 8 ∷ 9 ∷ 10 ∷ 13 ∷ 14 ∷ []
   pub carried : map carries refusals ≡
-      (21 ∷ []) ∷ [] ∷ [] ∷ (22 ∷ []) ∷ (23 ∷ []) ∷ [] ∷ [] ∷ [] ∷ [] ∷ (24 ∷ []) ∷ (25 ∷ 26 ∷ []) ∷ (27 ∷ []) ∷ [] ∷ []
+      (21 ∷ []) ∷ [] ∷ [] ∷ (22 ∷ []) ∷ (23 ∷ []) ∷ [] ∷ [] ∷ [] ∷ [] ∷ (24 ∷ []) ∷ (25 ∷ 26 ∷ []) ∷ (27 ∷ []) ∷ [] ∷ [] ∷ []
   -- "Refused, every lent buffer keeps its bytes. Answered, the first e-s outputs are written and the rest kept."
   pub refused-keeps : written (refused NoRoom) (41 ∷ 42 ∷ 43 ∷ []) ≡ 41 ∷ 42 ∷ 43 ∷ []
   pub answered-writes : written twoQuarters (41 ∷ 42 ∷ 43 ∷ []) ≡ 31 ∷ 32 ∷ 43 ∷ []

@@ -1,4 +1,4 @@
--- 01, "Refusal numbers, tested in this order".
+-- 01, "Refusal numbers, tested in this order", and the refusals that document 02 adds.
 use Prim.Native.Nat.{ℕ, _+_, _-_}
 use mathlib.Core.Bool.{Bool, cond, not, _&&_}
 use mathlib.Core.List.{List, [], _∷_, _++_, map}
@@ -8,11 +8,12 @@ use lib.IntN.{ℤ}
 use lib.Dec.{leb, ltb}
 use Rattle.base_lists.specs.Lists.{all, leading}
 use Rattle.calendar_dates.specs.Days.{lastDay}
+use Rattle.calendar_groups.specs.Holidays.{goodMoves, group}
 use Rattle.calendar_groups.specs.declared.Group.{Group}
 use Rattle.method.specs.declared.Request.{Request}
 use Rattle.method.specs.declared.Refusal.{Refusal}
 use Rattle.method.specs.declared.Refusal.the-variants.{BadFile, NoEvent, BadTable, BadMark, BadReading, BadRequest, NotHeld}
-use Rattle.method.specs.declared.Refusal.the-variants.{NotYetParticipating, NoRoom, MarginTooShort, TooFew, NoAdjustmentWindow, Unwritable}
+use Rattle.method.specs.declared.Refusal.the-variants.{NotYetParticipating, NoRoom, MarginTooShort, TooFew, NoAdjustmentWindow, Unwritable, BadMoves}
 use Rattle.method.specs.Table.{Table, Day, History, goodMark, goodReading, held, history, shaped, isExtract}
 use Rattle.method.specs.Ruler.{rulerStart, rulerEnd}
 use Rattle.method.specs.Method.{Outcome, short, few, chose, outcome}
@@ -34,6 +35,7 @@ number (MarginTooShort days) = 8
 number (TooFew size reach) = 9
 number (NoAdjustmentWindow reach) = 10
 number Unwritable = 13
+number BadMoves = 14
 
 abbrev pub carries : Refusal → List ℕ
 carries (BadFile place) = place ∷ []
@@ -49,6 +51,7 @@ carries (MarginTooShort days) = days ∷ []
 carries (TooFew size reach) = size ∷ reach ∷ []
 carries (NoAdjustmentWindow reach) = reach ∷ []
 carries Unwritable = []
+carries BadMoves = []
 
 -- an answer: the chosen days by rank, the reach, and the baseline's numerators over one denominator
 pub record Answer : Type 0 where
@@ -107,9 +110,17 @@ firstOf (t ∷ ts) reply = let later = firstOf ts reply in cond (t .0) (refused 
 unfoldable pub methodology : (ℕ → Group) → History Day → Request → ℕ → Reply
 methodology group h r room = firstOf (requestRefusals h r room) (closing (outcome (methodOf group r) h))
 
--- the verdict over a lent table
-unfoldable pub verdict : (ℕ → Group) → Table → Request → ℕ → Reply
-verdict group t r room = firstOf (tableRefusals t) (methodology group (history t) r room)
+-- 02, order 2: "Every call gets a list of up to 16 pairs"; "Refusals: 14, ..; after 3, before 4"
+unfoldable pub listRefusals : List ℕ → List (Bool × Refusal)
+listRefusals moves = (not (goodMoves moves), BadMoves) ∷ []
+
+-- what the methodology gives by the groups of a list of moves
+unfoldable pub byList : List ℕ → History Day → Request → ℕ → Reply
+byList moves h r room = firstOf (listRefusals moves) (methodology (group moves) h r room)
+
+-- the verdict over a lent table and a list of moves
+unfoldable pub verdict : List ℕ → Table → Request → ℕ → Reply
+verdict moves t r room = firstOf (tableRefusals t) (byList moves (history t) r room)
 
 -- "Refused, every lent buffer keeps its bytes. Answered, the first e-s outputs are written and the rest kept."
 unfoldable pub written : Reply → List ℕ → List ℕ

@@ -14,6 +14,7 @@ pub mod Replies
 pub mod Settled
 pub mod Undecided
 pub mod CutTables
+pub mod ByList
 pub mod Extract
 pub mod NoPart
 pub mod InRange

@@ -13,6 +13,7 @@ use borrow.Author.Tests.{leb-true, not-false}
 use Rattle.base_lists.specs.Lists.{any}
 use Rattle.base_lists.proofs.Bools.{and-left, and-right, clash}
 use Rattle.base_lists.proofs.Parts.{take-drop-take}
+use Rattle.calendar_groups.specs.Holidays.{group}
 use Rattle.calendar_groups.specs.declared.Group.{Group}
 use Rattle.method.specs.declared.Request.{Request}
 use Rattle.method.specs.declared.Refusal.{Refusal}
@@ -24,7 +25,7 @@ use Rattle.method.specs.Rules.{methodBy}
 use Rattle.method.specs.Requested.{rulesOf, methodOf}
 use Rattle.method.specs.Ruler.{rulerStart}
 use Rattle.method.proofs.Ruler.{start-size, window-before}
-use Rattle.method.specs.Verdict.{closing, goodRequest, requestRefusals, methodology, verdict, wellFormed}
+use Rattle.method.specs.Verdict.{closing, goodRequest, requestRefusals, firstOf, methodology, listRefusals, byList, verdict, wellFormed}
 use Rattle.method.specs.CutTables.{NoneEarlier}
 use Rattle.method_laws.proofs.Before.{before-same}
 use Rattle.method_laws.proofs.Requested.{lawful}
@@ -152,11 +153,13 @@ module _ (group : ℕ → Group) (t u : Table) (r : Request) (well : wellFormed 
           plain group u r room (rw (same-refusals u t r room both) n) ∙
           ap closing (outcomes (known t r room n .0) (known t r room n .1)) ∙ sym (plain group t r room n)
 
-pub no-part : (group : ℕ → Group) (t u : Table) (r : Request) (room : ℕ)
+pub no-part : (moves : List ℕ) (t u : Table) (r : Request) (room : ℕ)
     → isExtract t ≡ true → wellFormed t ≡ true → isExtract u ≡ true → wellFormed u ≡ true
     → u .first ≡ t .first → held (history u) (r .event) ≡ held (history t) (r .event)
     → ((d : ℕ) → held (history t) d ≡ true → d < r .event → dayOf u d ≡ dayOf t d)
     → take (r .s - rulerStart (r .event)) (dayOf u (r .event) .readings) ≡ take (r .s - rulerStart (r .event)) (dayOf t (r .event) .readings)
-    → verdict group u r room ≡ verdict group t r room
-no-part group t u r room te tw ue uw starts both agrees alike =
-    verdict-is group u r room ue uw ∙ methodologies group t u r tw starts both agrees alike room ∙ sym (verdict-is group t r room te tw)
+    → verdict moves u r room ≡ verdict moves t r room
+unfolding byList
+no-part moves t u r room te tw ue uw starts both agrees alike =
+    verdict-is moves u r room ue uw ∙ ap (firstOf (listRefusals moves)) (methodologies (group moves) t u r tw starts both agrees alike room) ∙
+    sym (verdict-is moves t r room te tw)
