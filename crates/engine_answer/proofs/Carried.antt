@@ -5,7 +5,7 @@ use native.Mathlib.Omega.{arith}
 use lib.ListN.{length, take}
 use Rattle.method.specs.declared.Refusal.{Refusal}
 use Rattle.method.specs.declared.Refusal.the-variants.{BadFile, NoEvent, BadTable, BadMark, BadReading, BadRequest, NotHeld}
-use Rattle.method.specs.declared.Refusal.the-variants.{NotYetParticipating, NoRoom, MarginTooShort, TooFew, NoAdjustmentWindow, Unwritable}
+use Rattle.method.specs.declared.Refusal.the-variants.{NotYetParticipating, NoRoom, MarginTooShort, TooFew, NoAdjustmentWindow, Unwritable, BadMoves}
 use Rattle.method.specs.Verdict.{number, carries}
 use Rattle.engine_answer.specs.declared.Told.{Told}
 use Rattle.engine_answer.specs.Steps.{toldOf}
@@ -32,6 +32,7 @@ all-carried (MarginTooShort days) = refl
 all-carried (TooFew size reach) = refl
 all-carried (NoAdjustmentWindow reach) = refl
 all-carried Unwritable = refl
+all-carried BadMoves = refl
 
 pub two-at-most : (w : Refusal) → length (carries w) ≤ 2
 two-at-most (BadFile place) = omega arith
@@ -47,6 +48,7 @@ two-at-most (MarginTooShort days) = omega arith
 two-at-most (TooFew size reach) = omega arith
 two-at-most (NoAdjustmentWindow reach) = omega arith
 two-at-most Unwritable = omega arith
+two-at-most BadMoves = omega arith
 
 of-told : (w : Refusal) → Tells w (toldOf w)
 unfolding toldOf

@@ -79,5 +79,6 @@ pub fn tell(refusal: Refusal) -> Told
         Refusal::TooFew { size, reach } => carrying(9, [size, reach], 2),
         Refusal::NoAdjustmentWindow(reach) => carrying(10, [reach, 0], 1),
         Refusal::Unwritable => carrying(13, [0, 0], 0),
+        Refusal::BadMoves => carrying(14, [0, 0], 0),
     }
 }

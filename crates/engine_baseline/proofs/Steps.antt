@@ -1,7 +1,7 @@
 -- The steps of the engine, over plain variables: what each asks and gives.
 use Prim.Native.Nat.{ℕ, _+_, _-_, _*_, _%_, _^_, _≤_, _<_, min}
 use mathlib.Core.Path.{_≡_, sym, ap, ap₂, _∙_}
-use mathlib.Core.Bool.{true}
+use mathlib.Core.Bool.{Bool, true, false}
 use mathlib.Core.List.{List, _++_, map}
 use native.Mathlib.Nat.{mul-le-mul-right}
 use native.Mathlib.Omega.{arith}
@@ -15,10 +15,10 @@ use mir.Val.{toZ, ofZ}
 use mir.ValLaws.{toZ-ofZ}
 use Rattle.base_lists.specs.Lists.{all, places}
 use Rattle.base_lists.proofs.Maps.{map-take}
-use Rattle.calendar_groups.specs.declared.Group.{Group}
+use Rattle.calendar_groups.specs.Holidays.{goodMoves, group}
 use Rattle.method.specs.declared.Request.{Request}
 use Rattle.method.specs.declared.Refusal.{Refusal}
-use Rattle.method.specs.declared.Refusal.the-variants.{NoAdjustmentWindow}
+use Rattle.method.specs.declared.Refusal.the-variants.{NoAdjustmentWindow, BadMoves}
 use Rattle.method.specs.Table.{Day, History, size}
 use Rattle.method.specs.Ruler.{against}
 use Rattle.method.specs.Adjustment.{ruler, adjustmentEnd, A, B, S, adjustment, unfloored, floored, baselineAt, baseline}
@@ -27,6 +27,7 @@ use Rattle.method.specs.Requested.{methodOf}
 use Rattle.method.specs.Verdict.{Reply, refused, answered, requestRefusals, closing, methodology, written}
 use Rattle.method.proofs.Tables.{size-is}
 use Rattle.method.proofs.Ruler.{start-size, quarter-from}
+use Rattle.method_laws.proofs.ByList.{by-good, by-bad}
 use Rattle.engine_rooms.specs.declared.Directory.{Directory}
 use Rattle.engine_rooms.specs.Rooms.{readingsAt, roomDay, roomHistory}
 use Rattle.base_lists.proofs.Places.{length-over, over-same, over-shift, over-list}
@@ -52,23 +53,36 @@ pub words-refused : (r : Request) (h : History Day) {reply : Reply} {w : Refusal
 unfolding inWords
 words-refused r h e = rw e
 
--- ---- the refusals of the request
-module _ (group : ℕ → Group) (r : Request) (rooms : Directory) (readings : List ℕ) (room : ℕ) where
+-- ---- the refusals of the list and of the request
+-- what was found of the list holds of it
+pub found-so : {found good said : Bool} → found ≡ good → found ≡ said → good ≡ said
+found-so e t = sym e ∙ t
+
+module _ (moves : List ℕ) (r : Request) (rooms : Directory) (readings : List ℕ) (room : ℕ) where
   abbrev shown : History Day
   shown = roomHistory r rooms readings
 
-  pub over-refused : {w : Refusal} → Failed w ≡ tested (requestRefusals shown r room) → overRooms group r rooms readings room ≡ refused w
+  abbrev worked : Reply
+  worked = closing (outcome (methodOf (group moves) r) shown)
+
+  pub over-bad : goodMoves moves ≡ false → overRooms moves r rooms readings room ≡ refused BadMoves
+  unfolding overRooms
+  over-bad bad = words-refused r shown (by-bad moves shown r room bad)
+
+  pub over-refused : goodMoves moves ≡ true → {w : Refusal} → Failed w ≡ tested (requestRefusals shown r room)
+      → overRooms moves r rooms readings room ≡ refused w
   unfolding overRooms methodology
-  over-refused {w} e =
-      words-refused r shown (first-failed (requestRefusals shown r room) w (closing (outcome (methodOf group r) shown)) (sym e))
+  over-refused good {w} e =
+      words-refused r shown (by-good moves shown r room good ∙ first-failed (requestRefusals shown r room) w worked (sym e))
 
   module _ (e : Passed ≡ tested (requestRefusals shown r room)) where
     pub fit : Fit r shown room
     fit = let f = request-passed shown r room (sym e) in record { request = f .request; holds = f .holds; enough = f .enough }
 
-    pub over-passed : inWords r shown (closing (outcome (methodOf group r) shown)) ≡ overRooms group r rooms readings room
+    pub over-passed : goodMoves moves ≡ true → inWords r shown worked ≡ overRooms moves r rooms readings room
     unfolding overRooms methodology
-    over-passed = ap (inWords r shown) (sym (first-passed (requestRefusals shown r room) (closing (outcome (methodOf group r) shown)) (sym e)))
+    over-passed good =
+        ap (inWords r shown) (sym (by-good moves shown r room good ∙ first-passed (requestRefusals shown r room) worked (sym e)))
 
 -- ---- chosen days
 module _ (r : Request) (rooms : Directory) (readings : List ℕ) (room : ℕ) (chosen : Chosen) (k : Ready r room chosen) where

@@ -1,18 +1,20 @@
 -- A store whose rooms agree with its history gets of the engine what the methodology gives over that history.
 use Prim.Native.Nat.{ℕ}
 use mathlib.Core.Path.{_≡_, refl, sym, ap, _∙_}
-use mathlib.Core.Bool.{false}
+use mathlib.Core.Bool.{Bool, true, false, cond, not}
 use mathlib.Core.List.{List}
 use mathlib.Core.Logic.{⊎-elim}
 use mathlib.Core.Option.{Option}
 use Rattle.base_lists.proofs.Bools.{bool-cases}
+use Rattle.calendar_groups.specs.Holidays.{goodMoves, group}
 use Rattle.calendar_groups.specs.declared.Group.{Group}
 use Rattle.method.specs.declared.Request.{Request}
+use Rattle.method.specs.declared.Refusal.the-variants.{BadMoves}
 use Rattle.method.specs.Table.{Day, History, held}
 use Rattle.method.specs.Adjustment.{Baseline}
 use Rattle.method.specs.Method.{Method, chosen}
 use Rattle.method.specs.Requested.{methodOf}
-use Rattle.method.specs.Verdict.{Answer, Reply, refused, answered, requestRefusals, firstOf, methodology}
+use Rattle.method.specs.Verdict.{Answer, Reply, refused, answered, requestRefusals, firstOf, methodology, listRefusals, byList}
 use Rattle.method_laws.proofs.Stable.{window-of-seen}
 use Rattle.engine_rooms.specs.declared.Directory.{Directory}
 use Rattle.engine_rooms.specs.Rooms.{roomHistory}
@@ -23,6 +25,21 @@ use Rattle.engine_baseline.specs.Store.{GoodDays, Store}
 use Rattle.engine_baseline.proofs.Choosing.{chosen-again}
 use Rattle.engine_baseline.proofs.Answered.{fits, days-are}
 use Rattle.engine_baseline.proofs.Exact.{exact}
+
+-- 14 stands before all else, and has no words
+words-listed : (moves : List ℕ) (h : History Day) (r : Request) (room : ℕ)
+    → inWords r h (byList moves h r room) ≡ firstOf (listRefusals moves) (inWords r h (methodology (group moves) h r room))
+unfolding byList listRefusals firstOf
+words-listed moves h r room = go (not (goodMoves moves))
+  where
+    go : (b : Bool) → inWords r h (cond b (refused BadMoves) (methodology (group moves) h r room))
+        ≡ cond b (refused BadMoves) (inWords r h (methodology (group moves) h r room))
+    go true = unfold inWords in refl
+    go false = refl
+
+exact-listed : (h : History Day) → GoodDays h → (moves : List ℕ) (r : Request) (room : ℕ) → inWords r h (byList moves h r room) ≡ byList moves h r room
+unfolding byList
+exact-listed h good moves r room = words-listed moves h r room ∙ ap (firstOf (listRefusals moves)) (exact h good (group moves) r room)
 
 module _ {r : Request} {rooms : Directory} {readings : List ℕ} {h : History Day} (agree : Agree r rooms readings h) where
   abbrev shown : History Day
@@ -53,22 +70,31 @@ module _ {r : Request} {rooms : Directory} {readings : List ℕ} {h : History Da
     unfolding inWords
     words-answered = rw same-days
 
-  pub words : (group : ℕ → Group) (room : ℕ) → overRooms group r rooms readings room ≡ inWords r h (methodology group h r room)
-  unfolding overRooms
-  words group room = ap (inWords r shown) (agrees group room) ∙ go (methodology group h r room) refl
+  in-words : (group : ℕ → Group) (room : ℕ) → inWords r shown (methodology group shown r room) ≡ inWords r h (methodology group h r room)
+  in-words group room = ap (inWords r shown) (agrees group room) ∙ go (methodology group h r room) refl
     where
       go : (x : Reply) → methodology group h r room ≡ x → inWords r shown x ≡ inWords r h x
       go (refused w) e = unfold inWords in refl
       go (answered a) e = words-answered group room e
 
-  pub serves : GoodDays h → (group : ℕ → Group) (room : ℕ) → overRooms group r rooms readings room ≡ methodology group h r room
-  serves good group room = words group room ∙ exact h good group r room
+  -- by a list of moves
+  agrees-listed : (moves : List ℕ) (room : ℕ) → byList moves shown r room ≡ byList moves h r room
+  unfolding byList
+  agrees-listed moves room = ap (firstOf (listRefusals moves)) (agrees (group moves) room)
 
-pub store : (group : ℕ → Group) (r : Request) (room : ℕ) → Store group r room
-store group r room =
+  pub words : (moves : List ℕ) (room : ℕ) → overRooms moves r rooms readings room ≡ inWords r h (byList moves h r room)
+  unfolding overRooms
+  words moves room =
+      words-listed moves shown r room ∙ ap (firstOf (listRefusals moves)) (in-words (group moves) room) ∙ sym (words-listed moves h r room)
+
+  pub serves : GoodDays h → (moves : List ℕ) (room : ℕ) → overRooms moves r rooms readings room ≡ byList moves h r room
+  serves good moves room = words moves room ∙ exact-listed h good moves r room
+
+pub store : (moves : List ℕ) (r : Request) (room : ℕ) → Store moves r room
+store moves r room =
     record {
-      exact = λ h good. exact h good group r room;
-      agrees = λ agree. agrees agree group room;
-      words = λ agree. words agree group room;
-      serves = λ agree good. serves agree good group room;
+      exact = λ h good. exact-listed h good moves r room;
+      agrees = λ agree. agrees-listed agree moves room;
+      words = λ agree. words agree moves room;
+      serves = λ agree good. serves agree good moves room;
     }

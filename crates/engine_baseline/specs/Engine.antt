@@ -1,11 +1,11 @@
--- The baseline over rooms: what the methodology gives over the history that a directory and lent readings are, whatever they hold.
+-- The baseline over rooms: what the methodology gives by a list of moves over the history that a directory and lent readings are, whatever they
+-- hold.
 use Prim.Native.Nat.{ℕ, _-_, _%_, _^_}
 use mathlib.Core.List.{List, map}
-use Rattle.calendar_groups.specs.declared.Group.{Group}
 use Rattle.method.specs.declared.Request.{Request}
 use Rattle.method.specs.Table.{Day, History}
 use Rattle.method.specs.Adjustment.{S, unfloored, floored}
-use Rattle.method.specs.Verdict.{Reply, refused, answered, methodology}
+use Rattle.method.specs.Verdict.{Reply, refused, answered, byList}
 use Rattle.engine_rooms.specs.declared.Directory.{Directory}
 use Rattle.engine_rooms.specs.Rooms.{roomHistory}
 use Rattle.base_lists.specs.Lists.{places}
@@ -29,8 +29,8 @@ inWords r h (answered a) =
           map (λ t. floored (unfloored (S (r .event) (withDays h (a .days)) t % 2 ^ 32) (a .adjusted)) % 2 ^ 32) (places (r .e - r .s) (r .s));
     })
 
--- refusals 4 to 10, or the answer, over rooms, where `room` is the output's length
-unfoldable pub overRooms : (ℕ → Group) → Request → Directory → List ℕ → ℕ → Reply
-overRooms group r rooms readings room =
+-- refusal 14, refusals 4 to 10, or the answer, by a list of moves over rooms, where `room` is the output's length
+unfoldable pub overRooms : List ℕ → Request → Directory → List ℕ → ℕ → Reply
+overRooms moves r rooms readings room =
     let h = roomHistory r rooms readings in
-    inWords r h (methodology group h r room)
+    inWords r h (byList moves h r room)

@@ -1,5 +1,5 @@
-// The baseline over any directory of rooms and any lent readings: refusals 4 to 10, or the answer. A table, a ring and a shared store call it
-// with their own directory.
+// The baseline over any list of moves, any directory of rooms and any lent readings: refusal 14, refusals 4 to 10, or the answer. A table, a ring
+// and a shared store call it with their own directory.
 ghost use lib.ListN.{length};
 ghost use Rattle.calendar_groups.specs.Holidays.{group};
 ghost use Rattle.method.specs.Method.{outcome};
@@ -50,11 +50,17 @@ fn finish(
 }
 
 // None of the refusals 4 to 7 applies: the days are chosen, and refusal 8 or 9 given, or the answer.
-fn choose_days(request: Request, rooms: Directory, readings: &[u32], out: &mut [u32]) -> Answer
+fn choose_days(
+    moves: &[u32],
+    request: Request,
+    rooms: Directory,
+    readings: &[u32],
+    out: &mut [u32],
+) -> Answer
     requires { ⌜ Fit request (roomHistory request rooms (now readings)) (length (now out)) ⌝ }
-    ensures { λ r. ⌜ Answers (inWords request (roomHistory request rooms (now (readings .entry))) (closing (outcome (methodOf group request) (roomHistory request rooms (now (readings .entry)))))) r (now (out .entry)) (now (out .exit)) ⌝ }
+    ensures { λ r. ⌜ Answers (inWords request (roomHistory request rooms (now (readings .entry))) (closing (outcome (methodOf (group (now (moves .entry))) request) (roomHistory request rooms (now (readings .entry)))))) r (now (out .entry)) (now (out .exit)) ⌝ }
 {
-    let choice = engine_choice::choose(request, rooms, readings);
+    let choice = engine_choice::choose(moves, request, rooms, readings);
     let choosing = choice.choosing;
     match choosing {
         Choosing::Short(days) => engine_answer::refuse(Refusal::MarginTooShort(days)),
@@ -69,18 +75,24 @@ fn choose_days(request: Request, rooms: Directory, readings: &[u32], out: &mut [
     }
 }
 
-// The baseline over rooms: the first of the refusals 4 to 10 that applies, or the answer, with the numerators in the first places of the output.
+// The baseline over rooms: the first of the refusals 14 and 4 to 10 that applies, or the answer, with the numerators in the first places of the
+// output.
 pub fn baseline_over(
+    moves: &[u32],
     request: Request,
     rooms: Directory,
     readings: &[u32],
     out: &mut [u32],
 ) -> Answer
-    ensures { λ r. ⌜ Answers (overRooms group request rooms (now (readings .entry)) (length (now (out .entry)))) r (now (out .entry)) (now (out .exit)) ⌝ }
+    ensures { λ r. ⌜ Answers (overRooms (now (moves .entry)) request rooms (now (readings .entry)) (length (now (out .entry)))) r (now (out .entry)) (now (out .exit)) ⌝ }
 {
-    let of_request = engine_refusals::of_request(request, rooms, out.len());
-    match of_request {
-        Tested::Failed(refusal) => engine_answer::refuse(refusal),
-        Tested::Passed => choose_days(request, rooms, readings, out),
+    if calendar_groups::is_good_list(moves) {
+        let of_request = engine_refusals::of_request(request, rooms, out.len());
+        match of_request {
+            Tested::Failed(refusal) => engine_answer::refuse(refusal),
+            Tested::Passed => choose_days(moves, request, rooms, readings, out),
+        }
+    } else {
+        engine_answer::refuse(Refusal::BadMoves)
     }
 }

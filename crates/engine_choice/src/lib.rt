@@ -121,11 +121,17 @@ fn pick(event: u32, rules: Rules, row: [u64; 10], size: u32, reach: u32) -> Choi
 }
 
 // The choice where the eligible days do not fill the window: spare days are put in, and the reach is that of all relevant days.
-fn choose_among_few(request: Request, rules: Rules, found: Found, before: u32) -> Choice
+fn choose_among_few(
+    moves: &[u32],
+    request: Request,
+    rules: Rules,
+    found: Found,
+    before: u32,
+) -> Choice
     requires { ⌜ Sound rules × (found .count < rules .most) ⌝ }
-    ensures { λ r. ⌜ r ≡ amongFew request rules found before (wholeReach (methodOf groupOf request)) ⌝ }
+    ensures { λ r. ⌜ r ≡ amongFew request rules found before (wholeReach (methodOf (groupOf (now (moves .entry))) request)) ⌝ }
 {
-    let reach = engine_relevant::whole_reach(request);
+    let reach = engine_relevant::whole_reach(moves, request);
     if before < reach {
         return refused(Choosing::Short(reach));
     }
@@ -137,16 +143,16 @@ fn choose_among_few(request: Request, rules: Rules, found: Found, before: u32) -
 }
 
 // The choice of days: refusal 8 or 9, or the chosen days and the reach.
-pub fn choose(request: Request, rooms: Directory, readings: &[u32]) -> Choice
-    ensures { λ r. ⌜ r ≡ choiceOf (methodOf groupOf request) (roomHistory request rooms (now (readings .entry))) ⌝ }
+pub fn choose(moves: &[u32], request: Request, rooms: Directory, readings: &[u32]) -> Choice
+    ensures { λ r. ⌜ r ≡ choiceOf (methodOf (groupOf (now (moves .entry))) request) (roomHistory request rooms (now (readings .entry))) ⌝ }
 {
     let event = request.event;
-    let group = calendar_groups::group_of(event);
+    let group = calendar_groups::group_of(moves, event);
     let rules = rules_of(request, group);
     let spares = rules.spares;
-    let found = engine_look_back::look(request, group, rules.most, spares, rooms, readings);
+    let found = engine_look_back::look(moves, request, group, rules.most, spares, rooms, readings);
     if found.count < rules.most {
-        choose_among_few(request, rules, found, counts::minus(rooms.held, 1))
+        choose_among_few(moves, request, rules, found, counts::minus(rooms.held, 1))
     } else {
         let eligible = found.eligible;
         pick(event, rules, eligible, rules.most, found.oldest)

@@ -1,8 +1,7 @@
 // An example of a store of one's own: a directory that is no table's, and the law that the engine asks of it.
 ghost use lib.ListN.{length};
-ghost use Rattle.calendar_groups.specs.Holidays.{group};
 ghost use Rattle.method.specs.Table.{history};
-ghost use Rattle.method.specs.Verdict.{methodology};
+ghost use Rattle.method.specs.Verdict.{byList};
 ghost use Rattle.engine_rooms.specs.Agree.{Agree};
 ghost use Rattle.engine_answer.specs.Answer.{Answers};
 ghost use Rattle.engine_baseline.specs.Engine.{inWords};
@@ -36,8 +35,10 @@ fn rooms_apart(request: Request, before: u8, today: u8, gap: u16, readings: &[u3
     }
 }
 
-// The baseline over two days that lie apart: what the methodology gives over the table that they are in the right order.
+// The baseline over two days that lie apart: what the methodology gives, by a list of moves, over the table that they are in the right
+// order.
 pub fn baseline_apart(
+    moves: &[u32],
     request: Request,
     before: u8,
     today: u8,
@@ -45,8 +46,8 @@ pub fn baseline_apart(
     readings: &[u32],
     out: &mut [u32],
 ) -> Answer
-    ensures { λ r. ⌜ Answers (inWords request (history (apart (request .event) before today gap (now (readings .entry)))) (methodology group (history (apart (request .event) before today gap (now (readings .entry)))) request (length (now (out .entry))))) r (now (out .entry)) (now (out .exit)) ⌝ }
+    ensures { λ r. ⌜ Answers (inWords request (history (apart (request .event) before today gap (now (readings .entry)))) (byList (now (moves .entry)) (history (apart (request .event) before today gap (now (readings .entry)))) request (length (now (out .entry))))) r (now (out .entry)) (now (out .exit)) ⌝ }
 {
     let rooms = rooms_apart(request, before, today, gap, readings);
-    engine_baseline::baseline_over(request, rooms, readings, out)
+    engine_baseline::baseline_over(moves, request, rooms, readings, out)
 }

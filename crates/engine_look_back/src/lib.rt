@@ -55,6 +55,7 @@ fn with_spare(spares: SpareOrder, row: [u64; 10], count: u32, word: u64) -> [u64
 
 // What was found once one more day is looked at, `back` days before the event.
 fn with_day(
+    moves: &[u32],
     request: Request,
     group: Group,
     spares: SpareOrder,
@@ -64,9 +65,9 @@ fn with_day(
     found: Found,
 ) -> Found
     requires { ⌜ Further request back found × (length (now part) ≤ mostQuarters) ⌝ }
-    ensures { λ r. ⌜ Adds request spares back (ifRelevant (relevantTo groupOf group request) (request .event - back, dayFrom mark (now (part .entry)))) found r ⌝ }
+    ensures { λ r. ⌜ Adds request spares back (ifRelevant (relevantTo (groupOf (now (moves .entry))) group request) (request .event - back, dayFrom mark (now (part .entry)))) found r ⌝ }
 {
-    if engine_relevant::relevant(request, group, request.event - back) {
+    if engine_relevant::relevant(moves, request, group, request.event - back) {
         let eligible = found.eligible;
         let spare = found.spare;
         match engine_judging::judge(request, mark, part, back) {
@@ -103,6 +104,7 @@ fn held_before(event: u32, held: u32) -> u32
 
 // The look back over the days held before an event of this group, nearest first. It ends at the `most`th eligible day.
 pub fn look(
+    moves: &[u32],
     request: Request,
     group: Group,
     most: u32,
@@ -110,7 +112,7 @@ pub fn look(
     rooms: Directory,
     readings: &[u32],
 ) -> Found
-    ensures { λ r. ⌜ Looked request spares (upTo most (heldDays groupOf group request rooms (now (readings .entry)))) r ⌝ }
+    ensures { λ r. ⌜ Looked request spares (upTo most (heldDays (groupOf (now (moves .entry))) group request rooms (now (readings .entry)))) r ⌝ }
 {
     let before = held_before(request.event, rooms.held);
     let mut found = Found {
@@ -130,7 +132,7 @@ pub fn look(
         let size = day_ruler::size(request.event - back);
         let part = engine_rooms::readings_at(readings, rooms.at[place], size);
         let mark = rooms.marks[place];
-        let next = with_day(request, group, spares, back, mark, part, found);
+        let next = with_day(moves, request, group, spares, back, mark, part, found);
         found = next;
     }
     found

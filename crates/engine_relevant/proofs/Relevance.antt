@@ -2,6 +2,7 @@
 use Prim.Native.Nat.{ℕ, _+_, _%_, _≤_, _<_}
 use mathlib.Core.Path.{_≡_, refl, sym, _∙_}
 use mathlib.Core.Bool.{Bool, true, false, cond, not, _&&_, _||_, and-true, and-false}
+use mathlib.Core.List.{List}
 use native.Mathlib.Omega.{arith}
 use lib.Dec.{eqb}
 use borrow.Author.Tests.{le-leb, lt-leb, eq-eqb, ne-eqb, eqb-false}
@@ -35,14 +36,14 @@ relevant-to group own r d e = rw e
 by-tests : (sunday saturday holiday : Bool) → Group
 by-tests sunday saturday holiday = cond (sunday || holiday) HolidayGroup (cond saturday Saturday Weekday)
 
-module _ (d : ℕ) where
-  group-by : (g : Group) → sameGroup (group d) g ≡ sameGroup (by-tests (eqb (d % 7) 1) (eqb (d % 7) 0) (isHoliday d)) g
+module _ (moves : List ℕ) (d : ℕ) where
+  group-by : (g : Group) → sameGroup (group moves d) g ≡ sameGroup (by-tests (eqb (d % 7) 1) (eqb (d % 7) 0) (isHoliday moves d)) g
   unfolding group by-tests
   group-by g = refl
 
-  pub at-weekend : d % 7 < 2 → false ≡ sameGroup (group d) Weekday
+  pub at-weekend : d % 7 < 2 → false ≡ sameGroup (group moves d) Weekday
   unfolding by-tests
-  at-weekend h = sym (group-by Weekday ∙ go (eqb (d % 7) 1) (eqb (d % 7) 0) (isHoliday d) refl refl)
+  at-weekend h = sym (group-by Weekday ∙ go (eqb (d % 7) 1) (eqb (d % 7) 0) (isHoliday moves d) refl refl)
     where
       go : (a b c : Bool) → eqb (d % 7) 1 ≡ a → eqb (d % 7) 0 ≡ b → sameGroup (by-tests a b c) Weekday ≡ false
       go true b c e f = refl
@@ -50,38 +51,38 @@ module _ (d : ℕ) where
       go false true false e f = refl
       go false false c e f = absurd (omega (arith, eqb-false (d % 7) 1 e, eqb-false (d % 7) 0 f))
 
-  pub in-the-week : 2 ≤ d % 7 → not (isHoliday d) ≡ sameGroup (group d) Weekday
+  pub in-the-week : 2 ≤ d % 7 → not (isHoliday moves d) ≡ sameGroup (group moves d) Weekday
   unfolding by-tests
-  in-the-week h = sym (group-by Weekday ∙ rw (ne-eqb (d % 7) 1 (omega arith), ne-eqb (d % 7) 0 (omega arith)) (go (isHoliday d)))
+  in-the-week h = sym (group-by Weekday ∙ rw (ne-eqb (d % 7) 1 (omega arith), ne-eqb (d % 7) 0 (omega arith)) (go (isHoliday moves d)))
     where
       go : (c : Bool) → sameGroup (by-tests false false c) Weekday ≡ not c
       go true = refl
       go false = refl
 
-  pub on-saturday : d % 7 ≡ 0 → not (isHoliday d) ≡ sameGroup (group d) Saturday
+  pub on-saturday : d % 7 ≡ 0 → not (isHoliday moves d) ≡ sameGroup (group moves d) Saturday
   unfolding by-tests
-  on-saturday h = sym (group-by Saturday ∙ rw (ne-eqb (d % 7) 1 (omega arith), eq-eqb (d % 7) 0 h) (go (isHoliday d)))
+  on-saturday h = sym (group-by Saturday ∙ rw (ne-eqb (d % 7) 1 (omega arith), eq-eqb (d % 7) 0 h) (go (isHoliday moves d)))
     where
       go : (c : Bool) → sameGroup (by-tests false true c) Saturday ≡ not c
       go true = refl
       go false = refl
 
-  pub no-saturday : (d % 7 ≡ 0 → ⊥) → false ≡ sameGroup (group d) Saturday
+  pub no-saturday : (d % 7 ≡ 0 → ⊥) → false ≡ sameGroup (group moves d) Saturday
   unfolding by-tests
-  no-saturday h = sym (group-by Saturday ∙ rw (ne-eqb (d % 7) 0 h) (go (eqb (d % 7) 1) (isHoliday d)))
+  no-saturday h = sym (group-by Saturday ∙ rw (ne-eqb (d % 7) 0 h) (go (eqb (d % 7) 1) (isHoliday moves d)))
     where
       go : (a c : Bool) → sameGroup (by-tests a false c) Saturday ≡ false
       go true c = refl
       go false true = refl
       go false false = refl
 
-  pub on-sunday : d % 7 ≡ 1 → true ≡ sameGroup (group d) HolidayGroup
+  pub on-sunday : d % 7 ≡ 1 → true ≡ sameGroup (group moves d) HolidayGroup
   unfolding by-tests
   on-sunday h = sym (group-by HolidayGroup ∙ rw (eq-eqb (d % 7) 1 h))
 
-  pub no-sunday : (d % 7 ≡ 1 → ⊥) → isHoliday d ≡ sameGroup (group d) HolidayGroup
+  pub no-sunday : (d % 7 ≡ 1 → ⊥) → isHoliday moves d ≡ sameGroup (group moves d) HolidayGroup
   unfolding by-tests
-  no-sunday h = sym (group-by HolidayGroup ∙ rw (ne-eqb (d % 7) 1 h) (go (eqb (d % 7) 0) (isHoliday d)))
+  no-sunday h = sym (group-by HolidayGroup ∙ rw (ne-eqb (d % 7) 1 h) (go (eqb (d % 7) 0) (isHoliday moves d)))
     where
       go : (b c : Bool) → sameGroup (by-tests false b c) HolidayGroup ≡ c
       go b true = refl

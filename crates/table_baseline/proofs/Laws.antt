@@ -2,12 +2,14 @@
 use Prim.Native.Nat.{ℕ}
 use mathlib.Core.Path.{_≡_}
 use mathlib.Core.Bool.{true}
+use mathlib.Core.List.{List}
 use lib.Dec.{leb}
 use Rattle.base_lists.specs.Lists.{all}
-use Rattle.calendar_groups.specs.declared.Group.{Group}
+use Rattle.calendar_groups.specs.Holidays.{group}
 use Rattle.method.specs.declared.Request.{Request}
 use Rattle.method.specs.Table.{Table, history}
-use Rattle.method.specs.Verdict.{Answer, answered, tableRefusals, methodology, verdict}
+use Rattle.method.specs.Verdict.{Answer, answered, tableRefusals, methodology, byList, verdict}
+use Rattle.method_laws.proofs.ByList.{by-answered}
 use Rattle.engine_refusals.specs.declared.Tested.the-variants.{Passed}
 use Rattle.engine_refusals.specs.Steps.{tested}
 use Rattle.engine_refusals.proofs.Replies.{answered-past}
@@ -16,18 +18,21 @@ use Rattle.engine_baseline.proofs.Answered.{Sound, sound as sound-over}
 use Rattle.engine_baseline.proofs.Exact.{numerators-most}
 use Rattle.table_baseline.proofs.Tables.{good-days}
 
-module _ (group : ℕ → Group) (t : Table) (r : Request) (room : ℕ) {a : Answer} (e : verdict group t r room ≡ answered a) where
-  past : (tested (tableRefusals t) ≡ Passed) × (methodology group (history t) r room ≡ answered a)
+module _ (moves : List ℕ) (t : Table) (r : Request) (room : ℕ) {a : Answer} (e : verdict moves t r room ≡ answered a) where
+  past : (tested (tableRefusals t) ≡ Passed) × (byList moves (history t) r room ≡ answered a)
   unfolding verdict
-  past = answered-past (tableRefusals t) (methodology group (history t) r room) e
+  past = answered-past (tableRefusals t) (byList moves (history t) r room) e
+
+  by-method : methodology (group moves) (history t) r room ≡ answered a
+  by-method = by-answered moves (history t) r room (past .1)
 
   pub sound : Sound r room a
-  sound = sound-over group (history t) r room (past .1)
+  sound = sound-over (group moves) (history t) r room by-method
 
   numbers-most : all (λ x. leb x 1200000000) (a .numerators) ≡ true
-  numbers-most = numerators-most (history t) (good-days t (table-passed t (past .0))) group r room (past .1)
+  numbers-most = numerators-most (history t) (good-days t (table-passed t (past .0))) (group moves) r room by-method
 
 -- "The answer holds the numerators, never above 1,200,000,000"
-pub never-above : (group : ℕ → Group) (t : Table) (r : Request) (room : ℕ) (a : Answer) → verdict group t r room ≡ answered a
+pub never-above : (moves : List ℕ) (t : Table) (r : Request) (room : ℕ) (a : Answer) → verdict moves t r room ≡ answered a
     → all (λ x. leb x 1200000000) (a .numerators) ≡ true
-never-above group t r room a e = numbers-most group t r room e
+never-above moves t r room a e = numbers-most moves t r room e

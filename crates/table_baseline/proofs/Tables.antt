@@ -1,11 +1,10 @@
 -- A lent table as a store: the engine over its directory gives the verdict.
 use Prim.Native.Nat.{ℕ, _-_}
 use mathlib.Core.Path.{_≡_, sym, _∙_}
-use Rattle.calendar_groups.specs.declared.Group.{Group}
 use Rattle.method.specs.declared.Request.{Request}
 use Rattle.method.specs.declared.Refusal.{Refusal}
 use Rattle.method.specs.Table.{Table, offset, size, dayOf, goodReading, history}
-use Rattle.method.specs.Verdict.{refused, tableRefusals, methodology, verdict}
+use Rattle.method.specs.Verdict.{refused, tableRefusals, byList, verdict}
 use Rattle.base_lists.proofs.All.{all-take, all-drop}
 use mathlib.Core.List.{List}
 use lib.ListN.{drop}
@@ -28,18 +27,18 @@ good-days t good d e =
     all-take goodReading (size d) (drop (offset (t .first) (d - t .first)) (t .readings))
     (all-drop goodReading (offset (t .first) (d - t .first)) (t .readings) (good .readings))
 
-module _ (group : ℕ → Group) (t : Table) (r : Request) (room : ℕ) where
-  pub table-refused : {w : Refusal} → tested (tableRefusals t) ≡ Failed w → verdict group t r room ≡ refused w
+module _ (moves : List ℕ) (t : Table) (r : Request) (room : ℕ) where
+  pub table-refused : {w : Refusal} → tested (tableRefusals t) ≡ Failed w → verdict moves t r room ≡ refused w
   unfolding verdict
-  table-refused {w} e = first-failed (tableRefusals t) w (methodology group (history t) r room) e
+  table-refused {w} e = first-failed (tableRefusals t) w (byList moves (history t) r room) e
 
   -- the engine over rooms that agree with a table that passes
   pub over-rooms : tested (tableRefusals t) ≡ Passed → {rooms : Directory} {readings : List ℕ} → Agree r rooms readings (history t)
-      → overRooms group r rooms readings room ≡ verdict group t r room
+      → overRooms moves r rooms readings room ≡ verdict moves t r room
   unfolding verdict
   over-rooms p agree =
-      serves agree (good-days t (table-passed t p)) group room ∙ sym (first-passed (tableRefusals t) (methodology group (history t) r room) p)
+      serves agree (good-days t (table-passed t p)) moves room ∙ sym (first-passed (tableRefusals t) (byList moves (history t) r room) p)
 
-  pub over-table : tested (tableRefusals t) ≡ Passed → overTable group t r room ≡ verdict group t r room
+  pub over-table : tested (tableRefusals t) ≡ Passed → overTable moves t r room ≡ verdict moves t r room
   unfolding overTable
   over-table p = over-rooms p (table-agrees t r (table-passed t p .extract))

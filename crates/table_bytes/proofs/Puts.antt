@@ -11,7 +11,8 @@ use Rattle.calendar_groups.specs.Holidays.{group}
 use Rattle.method.specs.declared.Request.{Request}
 use Rattle.method.specs.declared.Refusal.{Refusal}
 use Rattle.method.specs.Table.{Table, mostQuarters, Day, History}
-use Rattle.method.specs.Verdict.{Answer as MethodAnswer, Reply, refused, answered, methodology, written}
+use Rattle.method.specs.Verdict.{Answer as MethodAnswer, Reply, refused, answered, byList, written}
+use Rattle.method_laws.proofs.ByList.{by-answered}
 use Rattle.engine_rooms.specs.Rooms.{roomHistory}
 use Rattle.engine_answer.specs.declared.Given.the-variants.{Answered, Refused as RefusedGiven}
 use Rattle.engine_answer.specs.declared.Answer.{Answer}
@@ -32,9 +33,9 @@ abbrev counted : Reply → ℕ
 counted (refused w) = 0
 counted (answered a) = length (a .numerators)
 
-module _ (t : Table) (r : Request) where
+module _ (moves : List ℕ) (t : Table) (r : Request) where
   abbrev over : ℕ → Reply
-  over room = overTable group t r room
+  over room = overTable moves t r room
 
   abbrev shown : History Day
   shown = roomHistory r (directoryOf t (r .event)) (t .readings)
@@ -47,18 +48,18 @@ module _ (t : Table) (r : Request) where
 
   has : (room : ℕ) {a : MethodAnswer} → over room ≡ answered a → Has room a
   unfolding overTable overRooms inWords
-  has room {a} e = go (methodology group shown r room) refl e
+  has room {a} e = go (byList moves shown r room) refl e
     where
-      go : (reply : Reply) → methodology group shown r room ≡ reply → inWords r shown reply ≡ answered a → Has room a
+      go : (reply : Reply) → byList moves shown r room ≡ reply → inWords r shown reply ≡ answered a → Has room a
       go (refused w) m x = absurd (never-both refl x)
       go (answered b) m x =
-          let s = sound group shown r room m in
+          let s = sound (group moves) shown r room (by-answered moves shown r room m) in
           record { ranges = s .ranges; enough = s .enough; quarters = sym (ap counted x) ∙ length-over _ (r .e - r .s) (r .s) }
 
   module _ (out : List ℕ) {given : Answer} (before : List ℕ) {after : List ℕ} (room : length before ≡ min (length out / 4) mostQuarters)
       (q : Answers (over (length before)) given before after) where
     same : over (length before) ≡ over (length out / 4)
-    same = ap over room ∙ room-same t r (length out / 4)
+    same = ap over room ∙ room-same moves t r (length out / 4)
 
     answer-is : given ≡ answerOf (over (length out / 4))
     answer-is = q .answer ∙ ap answerOf same

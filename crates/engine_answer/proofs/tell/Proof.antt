@@ -82,6 +82,12 @@ enum-told-7 c = search needs
 carrying-requires-13 : tie.Need-carrying-requires-13
 carrying-requires-13 c κs = search needs
 
+enum-told-8 : tie.Need-enum-told-8
+enum-told-8 c = search needs
+
+carrying-requires-14 : tie.Need-carrying-requires-14
+carrying-requires-14 c κs = search needs
+
 returns : tie.Need-returns
 unfolding toldOf
 returns c = rw (c .before .before .refusal .given .1) (c .carrying .ensures)
@@ -134,6 +140,10 @@ returns-13 : tie.Need-returns-13
 unfolding toldOf
 returns-13 c = rw (c .before .enum-told7 .given .1) (c .carrying13 .ensures)
 
+returns-14 : tie.Need-returns-14
+unfolding toldOf
+returns-14 c = rw (c .before .enum-told8 .given .1) (c .carrying14 .ensures)
+
 pub tell-spec : {M : Type 1} → statement M
 tell-spec =
     tie.close
@@ -164,6 +174,8 @@ tell-spec =
     carrying-requires-12
     enum-told-7
     carrying-requires-13
+    enum-told-8
+    carrying-requires-14
     returns
     returns-2
     returns-3
@@ -176,4 +188,5 @@ tell-spec =
     returns-10
     returns-11
     returns-12
-    returns-13)
+    returns-13
+    returns-14)

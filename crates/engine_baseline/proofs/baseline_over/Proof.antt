@@ -1,12 +1,14 @@
--- `engine_baseline::baseline_over` meets its contract: what was found of the request is known at `d`.
+-- `engine_baseline::baseline_over` meets its contract: what was found of the request is known at `d`; what was found of the list is searched for.
 use mathlib.Core.Path.{sym, _∙_}
 use borrow.Author.Needs.{needs}
 use lib.ListN.{length}
-use Rattle.calendar_groups.specs.Holidays.{group}
 use Rattle.engine_answer.proofs.Laws.{refuses}
-use Rattle.engine_baseline.proofs.Steps.{over-refused, fit, over-passed}
+use Rattle.engine_baseline.proofs.Steps.{found-so, over-bad, over-refused, fit, over-passed}
 use Rattle.engine_baseline.proofs.baseline_over.Statement.{statement}
 use Rattle.engine_baseline.proofs.baseline_over.Tie as tie
+
+is-good-list-requires : tie.Need-is-good-list-requires
+is-good-list-requires c κs = search needs
 
 of-request-requires : tie.Need-of-request-requires
 of-request-requires c κs = search needs
@@ -20,21 +22,22 @@ refuse-requires c κs = search needs
 enum-told : tie.Need-enum-told
 enum-told c = search needs
 
-choose-days-requires : tie.Need-choose-days-requires
-choose-days-requires c κs =
-    let d = c .before .before .before in
-    let a = d .before .before .before .args in
-    let room = length (a .out .now) in
-    fit group (a .request) (a .rooms) (a .readings .now) room (sym (c .before .enum-told .given .1) ∙ d .of-request .ensures (a .readings .now))
-
+-- a refusal of 4 to 7 stands after 14
 returns : tie.Need-returns
 returns c =
     let d = c .before .before .before .before in
-    let a = d .before .before .before .args in
+    refuses _ (c .refuse .ensures)
+    (over-refused _ _ _ _ _ (search found-so) (sym (c .before .before .of-request2 .given .1) ∙ d .of-request .ensures _))
+
+choose-days-requires : tie.Need-choose-days-requires
+choose-days-requires c κs =
+    let d = c .before .before .before in
+    let a = d .before .before .before .before .before .before .args in
     let room = length (a .out .now) in
-    refuses (a .out .now) (c .refuse .ensures)
-    (over-refused group (a .request) (a .rooms) (a .readings .now) room
-    (sym (c .before .before .of-request2 .given .1) ∙ d .of-request .ensures (a .readings .now)))
+    fit (a .moves .now) (a .request) (a .rooms) (a .readings .now) room (sym (c .before .enum-told .given .1) ∙ d .of-request .ensures (a .readings .now))
+
+refuse-requires-2 : tie.Need-refuse-requires-2
+refuse-requires-2 c κs = search needs
 
 same-length : tie.Need-same-length
 same-length c = search needs
@@ -42,20 +45,30 @@ same-length c = search needs
 returns-2 : tie.Need-returns-2
 returns-2 c =
     let d = c .before .before .before .before .before .before in
-    let a = d .before .before .before .args in
+    let a = d .before .before .before .before .before .before .args in
     let room = length (a .out .now) in
-    rw (over-passed group (a .request) (a .rooms) (a .readings .now) room
-    (sym (c .before .before .before .before .enum-told .given .1) ∙ d .of-request .ensures (a .readings .now))) at (c .before .before .choose-days .ensures)
+    rw (over-passed (a .moves .now) (a .request) (a .rooms) (a .readings .now) room
+    (sym (c .before .before .before .before .enum-told .given .1) ∙ d .of-request .ensures (a .readings .now))
+    (search found-so)) at (c .before .before .choose-days .ensures)
+
+returns-3 : tie.Need-returns-3
+returns-3 c =
+    let a = c .before .before .before .before .before .before .args in
+    refuses (a .out .now) (c .refuse2 .ensures)
+    (over-bad (a .moves .now) (a .request) (a .rooms) (a .readings .now) (length (a .out .now)) (search found-so))
 
 pub baseline-over-spec : {M : Type 1} → statement M
 baseline-over-spec =
     tie.close
     (tie.spec
+    is-good-list-requires
     of-request-requires
     enum-known-of-request
     refuse-requires
     enum-told
     choose-days-requires
+    refuse-requires-2
     returns
     same-length
-    returns-2)
+    returns-2
+    returns-3)

@@ -33,20 +33,20 @@ enum-told c = search needs
 finish-requires : tie.Need-finish-requires
 finish-requires c κs =
     let d = c .before .before .before .before in
-    let s = d .before .before .before in
+    let s = d .before .before .before .before in
     let a = s .args in
-    let m = methodOf group (a .request) in
+    let m = methodOf (group (a .moves .now)) (a .request) in
     let h = roomHistory (a .request) (a .rooms) (a .readings .now) in
-    ready group (a .request) h (length (a .out .now)) (s .pre) (d .choose .result)
+    ready (group (a .moves .now)) (a .request) h (length (a .out .now)) (s .pre) (d .choose .result)
     (days-is m h (d .choose .ensures) (c .before .before .enum-told .given .1))
 
 returns : tie.Need-returns
 unfolding closing
 returns c =
     let d = c .before .before .before .before in
-    let s = d .before .before .before in
+    let s = d .before .before .before .before in
     let a = s .args in
-    let m = methodOf group (a .request) in
+    let m = methodOf (group (a .moves .now)) (a .request) in
     let h = roomHistory (a .request) (a .rooms) (a .readings .now) in
     refuses (a .out .now) (c .refuse .ensures)
     (words-refused (a .request) h (ap closing (short-is m h (d .choose .ensures) (c .before .before .choosing .given .1))))
@@ -55,9 +55,9 @@ returns-2 : tie.Need-returns-2
 unfolding closing
 returns-2 c =
     let d = c .before .before .before .before in
-    let s = d .before .before .before in
+    let s = d .before .before .before .before in
     let a = s .args in
-    let m = methodOf group (a .request) in
+    let m = methodOf (group (a .moves .now)) (a .request) in
     let h = roomHistory (a .request) (a .rooms) (a .readings .now) in
     refuses (a .out .now) (c .refuse2 .ensures)
     (words-refused (a .request) h (ap closing (few-is m h (d .choose .ensures) (c .before .before .choosing2 .given .1))))
@@ -68,12 +68,12 @@ same-length c = search needs
 returns-3 : tie.Need-returns-3
 returns-3 c =
     let d = c .before .before .before .before .before .before .before in
-    let s = d .before .before .before in
+    let s = d .before .before .before .before in
     let a = s .args in
-    let m = methodOf group (a .request) in
+    let m = methodOf (group (a .moves .now)) (a .request) in
     let h = roomHistory (a .request) (a .rooms) (a .readings .now) in
     let days = days-is m h (d .choose .ensures) (c .before .before .before .before .before .enum-told .given .1) in
-    rw (reply-is group (a .request) h (length (a .out .now)) (s .pre) (d .choose .result) days) at (c .before .before .finish .ensures)
+    rw (reply-is (group (a .moves .now)) (a .request) h (length (a .out .now)) (s .pre) (d .choose .result) days) at (c .before .before .finish .ensures)
 
 pub choose-days-spec : {M : Type 1} → statement M
 choose-days-spec =

@@ -26,18 +26,18 @@ pick-requires c κs = search needs
 
 returns : tie.Need-returns
 returns c =
-    let a = c .before .before .before .before .before .before .before .before .before .args in
+    let a = c .before .before .before .before .before .before .before .before .before .before .args in
     let found = c .before .before .before .before .before .look in
     c .choose-among-few .ensures
-    ∙ request-few groupOf (a .request) (a .rooms) (a .readings .now) (found .result) (c .before .before .before .before .before .before .before .group-of .ensures) (c .before .before .before .before .before .before .rules-of .ensures)
+    ∙ request-few (groupOf (a .moves .now)) (a .request) (a .rooms) (a .readings .now) (found .result) (c .before .before .before .before .before .before .before .group-of .ensures) (c .before .before .before .before .before .before .rules-of .ensures)
     (found .ensures) (c .before .minus .ensures) (c .before .before .if1 .taken)
 
 returns-2 : tie.Need-returns-2
 returns-2 c =
-    let a = c .before .before .before .before .before .before .before .before .before .args in
+    let a = c .before .before .before .before .before .before .before .before .before .before .args in
     let found = c .before .before .before .before .before .look in
     c .pick .ensures
-    ∙ request-full groupOf (a .request) (a .rooms) (a .readings .now) (found .result) (c .before .before .before .before .before .before .before .group-of .ensures) (c .before .before .before .before .before .before .rules-of .ensures)
+    ∙ request-full (groupOf (a .moves .now)) (a .request) (a .rooms) (a .readings .now) (found .result) (c .before .before .before .before .before .before .before .group-of .ensures) (c .before .before .before .before .before .before .rules-of .ensures)
     (found .ensures) (c .before .before .if1 .left)
 
 pub choose-spec : {M : Type 1} → statement M

@@ -14,7 +14,7 @@ refused-requires c κs = search needs
 
 returns : tie.Need-returns
 returns c =
-    let a = c .before .before .before .args in
+    let a = c .before .before .before .before .args in
     let far = c .before .before .whole-reach in
     c .refused .ensures ∙ short-of-days (a .request) (a .rules) (a .found) (a .before) (far .result) (c .before .if1 .taken)
     ∙ ap (amongFew (a .request) (a .rules) (a .found) (a .before)) (far .ensures)
@@ -39,7 +39,7 @@ pick-requires c κs = search needs
 
 returns-2 : tie.Need-returns-2
 returns-2 c =
-    let a = c .before .before .before .before .before .before .before .before .before .args in
+    let a = c .before .before .before .before .before .before .before .before .before .before .args in
     let far = c .before .before .before .before .before .before .before .before .whole-reach in
     c .pick .ensures ∙ rw (c .before .before .insert-all .ensures, c .before .before .before .before .before .least .ensures, c .before .before .before .before .before .before .minus .ensures)
     (enough-days (a .request) (a .rules) (a .found) (a .before) (far .result) (c .before .before .before .before .before .before .before .if1 .left)

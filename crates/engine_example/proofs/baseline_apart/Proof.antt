@@ -1,7 +1,6 @@
 -- `engine_example::baseline_apart` meets its contract, from what its rooms show alone.
 use borrow.Author.Needs.{needs}
 use lib.ListN.{length}
-use Rattle.calendar_groups.specs.Holidays.{group}
 use Rattle.method.specs.Table.{history}
 use Rattle.engine_baseline.proofs.Store.{words}
 use Rattle.engine_example.specs.Apart.{apart}
@@ -19,9 +18,9 @@ same-length c = search needs
 
 returns : tie.Need-returns
 returns c =
-    let a = c .before .before .before .before .before .before .before .args in
+    let a = c .before .before .before .before .before .before .before .before .args in
     let h = history (apart (a .request .event) (a .before) (a .today) (a .gap) (a .readings .now)) in
-    rw (words {h = h} (c .before .before .before .before .rooms-apart .ensures) group (length (a .out .now))) at (c .before .before .baseline-over .ensures)
+    rw (words {h = h} (c .before .before .before .before .rooms-apart .ensures) (a .moves .now) (length (a .out .now))) at (c .before .before .baseline-over .ensures)
 
 pub baseline-apart-spec : {M : Type 1} → statement M
 baseline-apart-spec =

@@ -18,24 +18,24 @@ nearer : (before back : ℕ) → back < before → before - (back + 1) < before 
 nearer before back h = omega arith
 
 abbrev Inv-loop : tie.InvT-loop
-Inv-loop request group most spares readings rooms before found₀ back₀ found back =
-    Back (relevantTo groupOf group request) request (roomsOf request rooms readings) most spares before back found
+Inv-loop moves request group most spares readings rooms before found₀ back₀ found back =
+    Back (relevantTo (groupOf moves) group request) request (roomsOf request rooms readings) most spares before back found
 
 abbrev μ-loop : tie.MeasureT-loop
-μ-loop request group most spares readings rooms before found₀ back₀ found back = before - back
+μ-loop moves request group most spares readings rooms before found₀ back₀ found back = before - back
 
 held-before-requires : tie.Need-held-before-requires Inv-loop μ-loop
 held-before-requires c κs = search needs
 
 loop-holds : tie.Need-loop-holds Inv-loop μ-loop
 loop-holds c =
-    let a = c .before .before .args in
-    back-start (relevantTo groupOf (a .group) (a .request)) (a .request) (roomsOf (a .request) (a .t5) (a .readings .now)) (a .most) (a .spares) (c .held-before .result)
+    let a = c .before .before .before .args in
+    back-start (relevantTo (groupOf (a .moves .now)) (a .group) (a .request)) (a .request) (roomsOf (a .request) (a .t6) (a .readings .now)) (a .most) (a .spares) (c .held-before .result)
 
 returns : tie.Need-returns Inv-loop μ-loop
 returns c =
-    let a = c .before .before .before .before .before .before .args in
-    let held = c .before .before .before .before .held-before .ensures ∙ before-is (a .request) (a .t5) in
+    let a = c .before .before .before .before .before .before .before .args in
+    let held = c .before .before .before .before .held-before .ensures ∙ before-is (a .request) (a .t6) in
     rw held at (back-full (c .before .before .before .loop .inv) (c .if1 .taken))
 
 add-back : tie.Need-add-back Inv-loop μ-loop
@@ -64,12 +64,12 @@ element-copy-out-mark c = omega arith
 
 with-day-requires : tie.Need-with-day-requires Inv-loop μ-loop
 with-day-requires c κs =
-    let s = c .before .before .before .before .before .before .before .before .before .before .before in
+    let s = c .before .before .before .before .before .before .before .before .before .before .before .before in
     let l = c .before .before .before .before .before .before .before .before .loop in
     let held = c .before .before .before .before .before .before .before .before .before .held-before .ensures in (
       back-further (l .inv) (c .before .before .before .before .before .before .before .loop-test .taken) (omega (arith, held)) (omega (arith, held)),
       rw (c .before .readings-at .ensures .list)
-          (part-most (s .args .readings .now) (getD (s .args .t5 .at) (l .back + 1) 0) (s .args .request .event - (l .back + 1)) (c .before .before .before .size .ensures)),
+          (part-most (s .args .readings .now) (getD (s .args .t6 .at) (l .back + 1) 0) (s .args .request .event - (l .back + 1)) (c .before .before .before .size .ensures)),
     )
 
 loop-less : tie.Need-loop-less Inv-loop μ-loop
@@ -77,19 +77,19 @@ loop-less c = nearer _ _ (c .before .before .before .before .before .before .bef
 
 loop-again : tie.Need-loop-again Inv-loop μ-loop
 loop-again c =
-    let s = c .before .before .before .before .before .before .before .before .before .before .before .before in
+    let s = c .before .before .before .before .before .before .before .before .before .before .before .before .before in
     let a = s .args in
     let l = c .before .before .before .before .before .before .before .before .before .loop in
     let test = c .before .before .before .before .before .before .before .before .loop-test .taken in
     let held = c .before .before .before .before .before .before .before .before .before .before .held-before .ensures in
-    let part = ap (dayFrom (getD (a .t5 .marks) (l .back + 1) 0)) (rw (c .before .before .before .before .size .ensures) at (c .before .before .readings-at .ensures .list)) in
-    let here = room-back (a .request) (a .t5) (a .readings .now) (l .back + 1) (omega (arith, test, held)) in
+    let part = ap (dayFrom (getD (a .t6 .marks) (l .back + 1) 0)) (rw (c .before .before .before .before .size .ensures) at (c .before .before .readings-at .ensures .list)) in
+    let here = room-back (a .request) (a .t6) (a .readings .now) (l .back + 1) (omega (arith, test, held)) in
     back-more (l .inv) test (omega (arith, held)) (c .before .before .before .before .before .before .if1 .left) (rw (part ∙ here) at (c .with-day .ensures))
 
 returns-2 : tie.Need-returns-2 Inv-loop μ-loop
 returns-2 c =
-    let a = c .before .before .before .before .args in
-    let held = c .before .before .held-before .ensures ∙ before-is (a .request) (a .t5) in
+    let a = c .before .before .before .before .before .args in
+    let held = c .before .before .held-before .ensures ∙ before-is (a .request) (a .t6) in
     rw held at (back-end (c .before .loop .inv) (c .loop-test .left))
 
 pub look-spec : {M : Type 1} → statement M

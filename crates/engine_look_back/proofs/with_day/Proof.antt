@@ -27,8 +27,8 @@ enum-known-word c = search needs
 insert-requires : tie.Need-insert-requires
 insert-requires c κs = search needs
 
-add-t18 : tie.Need-add-t18
-add-t18 c = search needs
+add-t19 : tie.Need-add-t19
+add-t19 c = search needs
 
 enum-known-word-2 : tie.Need-enum-known-word-2
 enum-known-word-2 c = search needs
@@ -36,48 +36,48 @@ enum-known-word-2 c = search needs
 with-spare-requires : tie.Need-with-spare-requires
 with-spare-requires c κs = search needs
 
-add-t20 : tie.Need-add-t20
-add-t20 c = search needs
+add-t21 : tie.Need-add-t21
+add-t21 c = search needs
 
 enum-told : tie.Need-enum-told
 enum-told c = search needs
 
 returns : tie.Need-returns
 returns c =
-    let s = c .before .before .before .before .before .before .before .before .before .before .before .before in
+    let s = c .before .before .before .before .before .before .before .before .before .before .before .before .before in
     let a = s .args in
     let p : ℕ × Day = (a .request .event - a .back, dayFrom (a .mark) (a .part .now)) in
     let sure = sym (c .before .before .before .before .before .before .before .before .before .relevant .ensures) ∙ c .before .before .before .before .before .before .before .before .if1 .taken in
     let next = s .pre .0 in
-    let same = same-judged (a .request) (a .back) (a .mark) (a .part .now) (next .some) (next .most) (next .within) (s .pre .1) (λ i. omega (arith, c .before .before .before .before .before .before .before .before .before .before .before .shared-slice-known .given i)) in
-    adds-eligible (relevantTo groupOf (a .group) (a .request)) p next refl sure (sym same ∙ sym (c .before .before .before .before .before .judge .ensures) ∙ c .before .before .before .word .given .1) (c .before .insert .ensures)
+    let same = same-judged (a .request) (a .back) (a .mark) (a .part .now) (next .some) (next .most) (next .within) (s .pre .1) (λ i. omega (arith, c .before .before .before .before .before .before .before .before .before .before .before .shared-slice-known2 .given i)) in
+    adds-eligible (relevantTo (groupOf (a .moves .now)) (a .group) (a .request)) p next refl sure (sym same ∙ sym (c .before .before .before .before .before .judge .ensures) ∙ c .before .before .before .word .given .1) (c .before .insert .ensures)
 
 returns-2 : tie.Need-returns-2
 returns-2 c =
-    let s = c .before .before .before .before .before .before .before .before .before .before .before .before in
+    let s = c .before .before .before .before .before .before .before .before .before .before .before .before .before in
     let a = s .args in
     let p : ℕ × Day = (a .request .event - a .back, dayFrom (a .mark) (a .part .now)) in
     let sure = sym (c .before .before .before .before .before .before .before .before .before .relevant .ensures) ∙ c .before .before .before .before .before .before .before .before .if1 .taken in
     let next = s .pre .0 in
-    let same = same-judged (a .request) (a .back) (a .mark) (a .part .now) (next .some) (next .most) (next .within) (s .pre .1) (λ i. omega (arith, c .before .before .before .before .before .before .before .before .before .before .before .shared-slice-known .given i)) in
-    adds-spare (relevantTo groupOf (a .group) (a .request)) p next refl sure (sym same ∙ sym (c .before .before .before .before .before .judge .ensures) ∙ c .before .before .before .word2 .given .1) (c .before .with-spare .ensures)
+    let same = same-judged (a .request) (a .back) (a .mark) (a .part .now) (next .some) (next .most) (next .within) (s .pre .1) (λ i. omega (arith, c .before .before .before .before .before .before .before .before .before .before .before .shared-slice-known2 .given i)) in
+    adds-spare (relevantTo (groupOf (a .moves .now)) (a .group) (a .request)) p next refl sure (sym same ∙ sym (c .before .before .before .before .before .judge .ensures) ∙ c .before .before .before .word2 .given .1) (c .before .with-spare .ensures)
 
 returns-3 : tie.Need-returns-3
 returns-3 c =
-    let s = c .before .before .before .before .before .before .before .before .before in
+    let s = c .before .before .before .before .before .before .before .before .before .before in
     let a = s .args in
     let p : ℕ × Day = (a .request .event - a .back, dayFrom (a .mark) (a .part .now)) in
     let sure = sym (c .before .before .before .before .before .before .relevant .ensures) ∙ c .before .before .before .before .before .if1 .taken in
     let next = s .pre .0 in
-    let same = same-judged (a .request) (a .back) (a .mark) (a .part .now) (next .some) (next .most) (next .within) (s .pre .1) (λ i. omega (arith, c .before .before .before .before .before .before .before .before .shared-slice-known .given i)) in
-    adds-neither (relevantTo groupOf (a .group) (a .request)) p next refl sure (sym same ∙ sym (c .before .before .judge .ensures) ∙ c .enum-told .given .1)
+    let same = same-judged (a .request) (a .back) (a .mark) (a .part .now) (next .some) (next .most) (next .within) (s .pre .1) (λ i. omega (arith, c .before .before .before .before .before .before .before .before .shared-slice-known2 .given i)) in
+    adds-neither (relevantTo (groupOf (a .moves .now)) (a .group) (a .request)) p next refl sure (sym same ∙ sym (c .before .before .judge .ensures) ∙ c .enum-told .given .1)
 
 returns-4 : tie.Need-returns-4
 returns-4 c =
-    let s = c .before .before .before .before in
+    let s = c .before .before .before .before .before in
     let a = s .args in
     let p : ℕ × Day = (a .request .event - a .back, dayFrom (a .mark) (a .part .now)) in
-    adds-none (relevantTo groupOf (a .group) (a .request)) p (s .pre .0) refl (sym (c .before .relevant .ensures) ∙ c .if1 .left)
+    adds-none (relevantTo (groupOf (a .moves .now)) (a .group) (a .request)) p (s .pre .0) refl (sym (c .before .relevant .ensures) ∙ c .if1 .left)
 
 pub with-day-spec : {M : Type 1} → statement M
 with-day-spec =
@@ -88,10 +88,10 @@ with-day-spec =
     judge-requires
     enum-known-word
     insert-requires
-    add-t18
+    add-t19
     enum-known-word-2
     with-spare-requires
-    add-t20
+    add-t21
     enum-told
     returns
     returns-2

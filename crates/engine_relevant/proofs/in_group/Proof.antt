@@ -29,33 +29,33 @@ is-holiday-requires-3 c κs = search needs
 
 returns : tie.Need-returns
 returns c =
-    let d = c .before .before .before .args .day in
-    at-weekend d (c .if1 .taken) ∙ ap (λ (g : Group). sameGroup (groupOf d) g) (sym (c .before .enum-told .given .1))
+    let a = c .before .before .before .before .args in
+    at-weekend (a .moves .now) (a .day) (c .if1 .taken) ∙ ap (λ (g : Group). sameGroup (groupOf (a .moves .now) (a .day)) g) (sym (c .before .enum-told .given .1))
 
 returns-2 : tie.Need-returns-2
 returns-2 c =
-    let d = c .before .before .before .before .args .day in
-    ap not (c .is-holiday .ensures) ∙ in-the-week d (c .before .if1 .left) ∙ ap (λ (g : Group). sameGroup (groupOf d) g) (sym (c .before .before .enum-told .given .1))
+    let a = c .before .before .before .before .before .args in
+    ap not (c .is-holiday .ensures) ∙ in-the-week (a .moves .now) (a .day) (c .before .if1 .left) ∙ ap (λ (g : Group). sameGroup (groupOf (a .moves .now) (a .day)) g) (sym (c .before .before .enum-told .given .1))
 
 returns-3 : tie.Need-returns-3
 returns-3 c =
-    let d = c .before .before .before .before .args .day in
-    ap not (c .is-holiday2 .ensures) ∙ on-saturday d (c .before .if2 .taken) ∙ ap (λ (g : Group). sameGroup (groupOf d) g) (sym (c .before .before .enum-told2 .given .1))
+    let a = c .before .before .before .before .before .args in
+    ap not (c .is-holiday2 .ensures) ∙ on-saturday (a .moves .now) (a .day) (c .before .if2 .taken) ∙ ap (λ (g : Group). sameGroup (groupOf (a .moves .now) (a .day)) g) (sym (c .before .before .enum-told2 .given .1))
 
 returns-4 : tie.Need-returns-4
 returns-4 c =
-    let d = c .before .before .before .args .day in
-    no-saturday d (c .if2 .left) ∙ ap (λ (g : Group). sameGroup (groupOf d) g) (sym (c .before .enum-told2 .given .1))
+    let a = c .before .before .before .before .args in
+    no-saturday (a .moves .now) (a .day) (c .if2 .left) ∙ ap (λ (g : Group). sameGroup (groupOf (a .moves .now) (a .day)) g) (sym (c .before .enum-told2 .given .1))
 
 returns-5 : tie.Need-returns-5
 returns-5 c =
-    let d = c .before .before .before .args .day in
-    on-sunday d (c .if3 .taken) ∙ ap (λ (g : Group). sameGroup (groupOf d) g) (sym (c .before .enum-told3 .given .1))
+    let a = c .before .before .before .before .args in
+    on-sunday (a .moves .now) (a .day) (c .if3 .taken) ∙ ap (λ (g : Group). sameGroup (groupOf (a .moves .now) (a .day)) g) (sym (c .before .enum-told3 .given .1))
 
 returns-6 : tie.Need-returns-6
 returns-6 c =
-    let d = c .before .before .before .before .args .day in
-    c .is-holiday3 .ensures ∙ no-sunday d (c .before .if3 .left) ∙ ap (λ (g : Group). sameGroup (groupOf d) g) (sym (c .before .before .enum-told3 .given .1))
+    let a = c .before .before .before .before .before .args in
+    c .is-holiday3 .ensures ∙ no-sunday (a .moves .now) (a .day) (c .before .if3 .left) ∙ ap (λ (g : Group). sameGroup (groupOf (a .moves .now) (a .day)) g) (sym (c .before .before .enum-told3 .given .1))
 
 pub in-group-spec : {M : Type 1} → statement M
 in-group-spec =

@@ -8,7 +8,7 @@ use Rattle.engine_relevant.proofs.relevant.Tie as tie
 
 returns : tie.Need-returns
 returns c =
-    let a = c .before .before .args in too-early groupOf (a .group) (a .request) (a .day) (c .if1 .taken)
+    let a = c .before .before .before .args in too-early (groupOf (a .moves .now)) (a .group) (a .request) (a .day) (c .if1 .taken)
 
 number-requires : tie.Need-number-requires
 number-requires c κs = search needs
@@ -21,17 +21,17 @@ cast-if2 c = search needs
 
 returns-2 : tie.Need-returns-2
 returns-2 c =
-    let a = c .before .before .before .before .before .args in
-    the-eve groupOf (a .group) (a .request) (a .day) (rw (c .before .before .number .ensures) at (c .if2 .taken))
+    let a = c .before .before .before .before .before .before .args in
+    the-eve (groupOf (a .moves .now)) (a .group) (a .request) (a .day) (rw (c .before .before .number .ensures) at (c .if2 .taken))
 
 in-group-requires : tie.Need-in-group-requires
 in-group-requires c κs = search needs
 
 returns-3 : tie.Need-returns-3
 returns-3 c =
-    let a = c .before .before .before .before .before .before .args in
+    let a = c .before .before .before .before .before .before .before .args in
     c .in-group .ensures
-    ∙ by-group groupOf (a .group) (a .request) (a .day) (c .before .before .before .before .if1 .left)
+    ∙ by-group (groupOf (a .moves .now)) (a .group) (a .request) (a .day) (c .before .before .before .before .if1 .left)
     (rw (c .before .before .before .number .ensures) at (c .before .if2 .left))
 
 pub relevant-spec : {M : Type 1} → statement M

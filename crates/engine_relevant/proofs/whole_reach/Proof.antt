@@ -12,11 +12,11 @@ use Rattle.engine_relevant.proofs.whole_reach.Statement.{statement}
 use Rattle.engine_relevant.proofs.whole_reach.Tie as tie
 
 abbrev Inv-loop : tie.InvT-loop
-Inv-loop request event group back₀ back =
-    (back ≤ request .event) × (wholeReach (methodOf groupOf request) ≡ reachWithin groupOf request back)
+Inv-loop moves request event group back₀ back =
+    (back ≤ request .event) × (wholeReach (methodOf (groupOf moves) request) ≡ reachWithin (groupOf moves) request back)
 
 abbrev μ-loop : tie.MeasureT-loop
-μ-loop request event group back₀ back = back
+μ-loop moves request event group back₀ back = back
 
 group-of-requires : tie.Need-group-of-requires Inv-loop μ-loop
 group-of-requires c κs = search needs
@@ -26,8 +26,8 @@ least-requires c κs = search needs
 
 loop-holds : tie.Need-loop-holds Inv-loop μ-loop
 loop-holds c =
-    let a = c .before .before .args in
-    (omega (arith, c .least .ensures), reach-start groupOf (a .request) ∙ ap (reachWithin groupOf (a .request)) (sym (c .least .ensures)))
+    let a = c .before .before .before .args in
+    (omega (arith, c .least .ensures), reach-start (groupOf (a .moves .now)) (a .request) ∙ ap (reachWithin (groupOf (a .moves .now)) (a .request)) (sym (c .least .ensures)))
 
 sub-relevant : tie.Need-sub-relevant Inv-loop μ-loop
 sub-relevant c = search needs
@@ -37,10 +37,10 @@ relevant-requires c κs = search needs
 
 returns : tie.Need-returns Inv-loop μ-loop
 returns c =
-    let a = c .before .before .before .before .before .before .args in
+    let a = c .before .before .before .before .before .before .before .args in
     let l = c .before .before .before .loop in
-    let own = relevant-to groupOf _ (a .request) (a .request .event - l .back) (c .before .before .before .before .before .group-of .ensures) in
-    sym (l .inv .1 ∙ reach-here groupOf (a .request) (l .back) (c .before .before .loop-test .taken) (l .inv .0) (sym own ∙ sym (c .before .relevant .ensures) ∙ c .if1 .taken))
+    let own = relevant-to (groupOf (a .moves .now)) _ (a .request) (a .request .event - l .back) (c .before .before .before .before .before .group-of .ensures) in
+    sym (l .inv .1 ∙ reach-here (groupOf (a .moves .now)) (a .request) (l .back) (c .before .before .loop-test .taken) (l .inv .0) (sym own ∙ sym (c .before .relevant .ensures) ∙ c .if1 .taken))
 
 sub-back : tie.Need-sub-back Inv-loop μ-loop
 sub-back c = search needs
@@ -50,18 +50,18 @@ loop-less c = search needs
 
 loop-again : tie.Need-loop-again Inv-loop μ-loop
 loop-again c =
-    let a = c .before .before .before .before .before .before .args in
+    let a = c .before .before .before .before .before .before .before .args in
     let l = c .before .before .before .loop in
-    let own = relevant-to groupOf _ (a .request) (a .request .event - l .back) (c .before .before .before .before .before .group-of .ensures) in (
+    let own = relevant-to (groupOf (a .moves .now)) _ (a .request) (a .request .event - l .back) (c .before .before .before .before .before .group-of .ensures) in (
       omega arith,
-      l .inv .1 ∙ reach-pass groupOf (a .request) (l .back) (c .before .before .loop-test .taken) (l .inv .0) (sym own ∙ sym (c .before .relevant .ensures) ∙ c .if1 .left),
+      l .inv .1 ∙ reach-pass (groupOf (a .moves .now)) (a .request) (l .back) (c .before .before .loop-test .taken) (l .inv .0) (sym own ∙ sym (c .before .relevant .ensures) ∙ c .if1 .left),
     )
 
 returns-2 : tie.Need-returns-2 Inv-loop μ-loop
 returns-2 c =
-    let a = c .before .before .before .before .args in
+    let a = c .before .before .before .before .before .args in
     let e : c .before .loop .back ≡ 0 = omega arith in
-    sym (c .before .loop .inv .1 ∙ ap (reachWithin groupOf (a .request)) e ∙ reach-none groupOf (a .request))
+    sym (c .before .loop .inv .1 ∙ ap (reachWithin (groupOf (a .moves .now)) (a .request)) e ∙ reach-none (groupOf (a .moves .now)) (a .request))
 
 pub whole-reach-spec : {M : Type 1} → statement M
 whole-reach-spec =

@@ -2,7 +2,6 @@
 use mathlib.Core.Path.{sym, _∙_}
 use borrow.Author.Needs.{needs}
 use lib.ListN.{length}
-use Rattle.calendar_groups.specs.Holidays.{group}
 use Rattle.table_days.specs.Lent.{tableOf}
 use Rattle.engine_answer.proofs.Laws.{refuses}
 use Rattle.table_baseline.proofs.Tables.{table-refused, over-table}
@@ -27,11 +26,11 @@ over-table-requires c κs = search needs
 returns : tie.Need-returns
 returns c =
     let d = c .before .before .before .before in
-    let a = d .before .before .before .before .args in
+    let a = d .before .before .before .before .before .args in
     let t = tableOf (a .first) (a .marks .now) (a .readings .now) in
     let room = length (a .out .now) in
     refuses (a .out .now) (c .refuse .ensures)
-    (table-refused group t (a .request) room (sym (d .of-table .ensures) ∙ c .before .before .of-table2 .given .1))
+    (table-refused (a .moves .now) t (a .request) room (sym (d .of-table .ensures) ∙ c .before .before .of-table2 .given .1))
 
 same-length : tie.Need-same-length
 same-length c = search needs
@@ -39,9 +38,9 @@ same-length c = search needs
 returns-2 : tie.Need-returns-2
 returns-2 c =
     let d = c .before .before .before .before .before .before in
-    let a = d .before .before .before .before .args in
+    let a = d .before .before .before .before .before .args in
     let t = tableOf (a .first) (a .marks .now) (a .readings .now) in
-    rw (over-table group t (a .request) (length (a .out .now)) (sym (d .of-table .ensures) ∙ c .before .before .before .before .enum-told .given .1)) at (c .before .before .over-table .ensures)
+    rw (over-table (a .moves .now) t (a .request) (length (a .out .now)) (sym (d .of-table .ensures) ∙ c .before .before .before .before .enum-told .given .1)) at (c .before .before .over-table .ensures)
 
 pub baseline-spec : {M : Type 1} → statement M
 baseline-spec =

@@ -8,14 +8,14 @@ use Rattle.table_bytes.proofs.through_numbers.Tie as tie
 
 -- where the call answers, its numerators are one for each of the event's quarters
 its : (c : tie.After-enum-told2) →
-    (let s = c .before .before .before .before .before .before .before .before .before .before in
+    (let s = c .before .before .before .before .before .before .before .before .before .before .before in
     let a = s .args in
     let q = c .before .before .before .before .over-table in
-    Numerators (tableOf (a .first) (a .marks .now) (a .readings .now)) (a .request) (a .out .now) (a .numerators .now) (s .pre) (q .ensures))
+    Numerators (a .moves .now) (tableOf (a .first) (a .marks .now) (a .readings .now)) (a .request) (a .out .now) (a .numerators .now) (s .pre) (q .ensures))
 its c =
-    let s = c .before .before .before .before .before .before .before .before .before .before in
+    let s = c .before .before .before .before .before .before .before .before .before .before .before in
     let a = s .args in
-    numerators (tableOf (a .first) (a .marks .now) (a .readings .now)) (a .request) (a .out .now) (a .numerators .now) (s .pre)
+    numerators (a .moves .now) (tableOf (a .first) (a .marks .now) (a .readings .now)) (a .request) (a .out .now) (a .numerators .now) (s .pre)
     (c .before .before .before .before .over-table .ensures) (c .enum-told2 .given .1)
 
 over-table-requires : tie.Need-over-table-requires
@@ -47,9 +47,9 @@ same-length c = search needs
 
 returns : tie.Need-returns
 returns c =
-    let s = c .before .before .before .before .before .before .before .before .before .before in
+    let s = c .before .before .before .before .before .before .before .before .before .before .before in
     let a = s .args in
-    kept (tableOf (a .first) (a .marks .now) (a .readings .now)) (a .request) (a .out .now) (a .numerators .now) (s .pre) (c .before .before .before .before .over-table .ensures)
+    kept (a .moves .now) (tableOf (a .first) (a .marks .now) (a .readings .now)) (a .request) (a .out .now) (a .numerators .now) (s .pre) (c .before .before .before .before .over-table .ensures)
     (c .enum-told .given .1)
 
 same-length-2 : tie.Need-same-length-2

@@ -15,7 +15,7 @@ same-length c = search needs
 
 returns : tie.Need-returns
 unfolding overTable
-returns c = rw (c .before .before .before .before .directory .ensures (c .before .before .before .before .before .before .before .before .args .readings .now)) at (c .before .before .baseline-over .ensures)
+returns c = rw (c .before .before .before .before .directory .ensures (c .before .before .before .before .before .before .before .before .before .args .readings .now)) at (c .before .before .baseline-over .ensures)
 
 pub over-table-spec : {M : Type 1} → statement M
 over-table-spec = tie.close (tie.spec directory-requires baseline-over-requires same-length returns)
