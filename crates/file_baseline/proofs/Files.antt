@@ -9,7 +9,6 @@ use Rattle.base_lists.specs.Lists.{leading}
 use Rattle.base_lists.proofs.Bools.{clash}
 use Rattle.base_lists.proofs.Leading.{leading-most, leading-stops, leading-goes-on}
 use Rattle.calendar_dates.specs.Days.{lastDay}
-use Rattle.calendar_groups.specs.Holidays.{group}
 use Rattle.method.specs.declared.Request.{Request}
 use Rattle.method.specs.declared.Refusal.the-variants.{BadFile, NoEvent}
 use Rattle.method.specs.Table.{Table, offset, mostQuarters, goodReading, history, isExtract}
@@ -30,7 +29,7 @@ use Rattle.file_record.specs.declared.Span.{Span}
 use Rattle.file_record.specs.declared.Read.the-variants.{Refused as RefusedRead}
 use Rattle.file_record.specs.declared.EventAt.{EventAt}
 use Rattle.file_record.specs.declared.EventAt.the-variants.{Event, NoEvent as NoneThere, Refused as RefusedEvent}
-use Rattle.file_record.specs.Reader.{readFile, tableIn, eventAtPlace}
+use Rattle.file_record.specs.Reader.{readFile, listIn, tableIn, eventAtPlace}
 use Rattle.file_record.specs.Steps.{tableWithin, spanWithin}
 use Rattle.file_record.proofs.Files.{shape-fits}
 use Rattle.file_record.proofs.Lengths.{table-within, marks-within, readings-within}
@@ -52,7 +51,7 @@ module _ (file : List ℕ) (place room : ℕ) {at : EventAt} (s : at ≡ eventAt
   unfolding fileReply
   none-there e = rw (← s, e)
 
-  pub event-there : {request : Request} → at ≡ Event request → fileReply file place room ≡ verdict group (tableIn file) request (room / 4)
+  pub event-there : {request : Request} → at ≡ Event request → fileReply file place room ≡ verdict (listIn file) (tableIn file) request (room / 4)
   unfolding fileReply
   event-there e = rw (← s, e)
 
@@ -173,8 +172,8 @@ module _ {file : List ℕ} {shape : Shape} {s : Span} {rooms marks : List ℕ} (
   part-is : tableOf (shape .first + s .start) (take (s .end - s .start) (drop (s .start) marks)) rooms ≡ part
   part-is = rw (m, q .its-rooms, ← own-table (q .laid-down), marks-part shape file s (q .low) (q .high)) (unfold spanWithin in refl)
 
-  pub over-loaded : (room : ℕ)
-      → overTable group (tableOf (shape .first + s .start) (take (s .end - s .start) (drop (s .start) marks)) rooms) r room ≡ verdict group (tableIn file) r room
+  pub over-loaded : (moves : List ℕ) (room : ℕ)
+      → overTable moves (tableOf (shape .first + s .start) (take (s .end - s .start) (drop (s .start) marks)) rooms) r room ≡ verdict moves (tableIn file) r room
   unfolding overTable
-  over-loaded room =
-      ap (λ (t : Table). overRooms group r (directoryOf t (r .event)) rooms room) part-is ∙ over-rooms group (tableIn file) r room passed agree
+  over-loaded moves room =
+      ap (λ (t : Table). overRooms moves r (directoryOf t (r .event)) rooms room) part-is ∙ over-rooms moves (tableIn file) r room passed agree

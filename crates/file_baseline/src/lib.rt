@@ -4,15 +4,15 @@ ghost use Prim.Native.Nat.{_/_};
 ghost use mathlib.Core.Path.{_≡_};
 ghost use lib.ListN.{length};
 ghost use Rattle.base_lists.specs.Lists.{leading};
-ghost use Rattle.calendar_groups.specs.Holidays.{group};
 ghost use Rattle.method.specs.Table.{goodReading};
 ghost use Rattle.method.specs.Verdict.{tableRefusals, verdict};
 ghost use Rattle.engine_refusals.specs.Steps.{tested};
-ghost use Rattle.file_record.specs.Reader.{tableIn};
+ghost use Rattle.file_record.specs.Reader.{listIn, tableIn};
 ghost use Rattle.table_bytes.specs.Output.{AnswersInBytes};
 ghost use Rattle.file_baseline.specs.Reply.{fileReply};
 ghost use Rattle.file_baseline.specs.Steps.{LaidDown, Loaded, asked as askedOf};
 use base_numbers::counts;
+use calendar_groups::MOST_MOVES;
 use engine_answer::Answer;
 use engine_refusals::Tested;
 use file_record::EventAt;
@@ -90,7 +90,8 @@ fn of_file(file: &[u8], shape: Shape, span: Span, marks: &[u8], rooms: &[u32]) -
     }
 }
 
-// The baseline of an event over the table of a file of this shape, whose marks and the days that the event can ask for are loaded.
+// The baseline of an event over the table of a file of this shape, whose marks and the days that the event can ask for are loaded. Its
+// list of moves is loaded where refusals 1 to 3 let it pass.
 fn loaded_baseline(
     file: &[u8],
     shape: Shape,
@@ -101,7 +102,7 @@ fn loaded_baseline(
     out: &mut [u8],
 ) -> Answer
     requires { ⌜ Loaded (now file) shape span (now rooms) × (now marks ≡ tableIn (now file) .marks) × (span ≡ askedOf shape (request .event)) ⌝ }
-    ensures { λ r. ⌜ AnswersInBytes (verdict group (tableIn (now (file .entry))) request (length (now (out .entry)) / 4)) r (now (out .entry)) (now (out .exit)) ⌝ }
+    ensures { λ r. ⌜ AnswersInBytes (verdict (listIn (now (file .entry))) (tableIn (now (file .entry))) request (length (now (out .entry)) / 4)) r (now (out .entry)) (now (out .exit)) ⌝ }
 {
     let of_file = of_file(file, shape, span, marks, rooms);
     match of_file {
@@ -109,10 +110,14 @@ fn loaded_baseline(
         Tested::Passed => {
             let start = span.start as usize;
             let end = span.end as usize;
+            let mut moves = [0u32; 2 * MOST_MOVES];
+            file_moves::load_list(file, shape, &mut moves);
+            let numbers = 2 * (shape.moves as usize);
             table_bytes::over_table_in_bytes(
                 shape.first + span.start,
                 &marks[start..end],
                 rooms,
+                &moves[..numbers],
                 request,
                 out,
             )
@@ -124,7 +129,7 @@ fn loaded_baseline(
 // tested.
 fn event_baseline(file: &[u8], shape: Shape, request: Request, out: &mut [u8]) -> Answer
     requires { ⌜ LaidDown (now file) shape ⌝ }
-    ensures { λ r. ⌜ AnswersInBytes (verdict group (tableIn (now (file .entry))) request (length (now (out .entry)) / 4)) r (now (out .entry)) (now (out .exit)) ⌝ }
+    ensures { λ r. ⌜ AnswersInBytes (verdict (listIn (now (file .entry))) (tableIn (now (file .entry))) request (length (now (out .entry)) / 4)) r (now (out .entry)) (now (out .exit)) ⌝ }
 {
     let span = asked(shape, request.event);
     let mut marks = [0u8; 128];

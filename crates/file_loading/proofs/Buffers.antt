@@ -7,10 +7,9 @@ use lib.ListN.{length, take, drop}
 use lib.Seq.{take-at}
 use Rattle.file_record.specs.declared.Shape.{Shape}
 use Rattle.file_record.specs.declared.Span.{Span}
-use Rattle.file_record.specs.Steps.{tableWithin, spanWithin}
+use Rattle.file_record.specs.Steps.{filledIf, tableWithin, spanWithin}
 use Rattle.file_record.proofs.Lengths.{marks-within}
 use Rattle.file_record.proofs.Spans.{span-readings-length}
-use Rattle.file_loading.specs.Steps.{filledIf}
 use Rattle.file_loading.proofs.Loading.{place}
 
 -- the first places of the buffers are the marks of a shape, and the readings of a span of its days

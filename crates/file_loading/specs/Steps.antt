@@ -1,8 +1,8 @@
 -- What loading a file's days into lent buffers says, and what it leaves in them, for a shape that is known; and what passing them says.
 use Prim.Native.Nat.{ℕ, _≤_}
 use mathlib.Core.Bool.{Bool, cond, _&&_}
-use mathlib.Core.List.{List, _++_}
-use lib.ListN.{length, drop}
+use mathlib.Core.List.{List}
+use lib.ListN.{length}
 use lib.Dec.{leb}
 use Rattle.base_lists.specs.Lists.{leading}
 use Rattle.method.specs.Table.{heldDays, goodReading}
@@ -21,9 +21,6 @@ unfoldable pub fitsWithin : Shape → Span → List ℕ → ℕ → ℕ → Bool
 fitsWithin shape span file marks readings =
     standsWithin shape span (length file)
     && (leb (heldDays (tableWithin shape file)) marks && leb (length (spanWithin shape span file .readings)) readings)
-
-abbrev pub filledIf : Bool → List ℕ → List ℕ → List ℕ
-filledIf fits values buffer = cond fits (values ++ drop (length values) buffer) buffer
 
 -- the place of the first bad reading of a span, among its own; their number where there is none, and 0 where the span does not stand in the file
 unfoldable pub badWithin : Shape → Span → List ℕ → ℕ

@@ -1,5 +1,5 @@
 -- Records put first into a buffer: what is written and what is left to write are the record (`Filling`).
-use Prim.Native.Nat.{ℕ, _+_, _-_, _*_, _≤_, _<_}
+use Prim.Native.Nat.{ℕ, _+_, _-_, _*_, _/_, _%_, _≤_, _<_}
 use mathlib.Core.Path.{_≡_, refl, sym, ap, _∙_}
 use mathlib.Core.Bool.{Bool, true, false, cond}
 use mathlib.Core.List.{List, [], _∷_, _++_, append-nil}
@@ -14,7 +14,7 @@ use Rattle.base_bytes.specs.PutFirst.{putFirst}
 use Rattle.base_bytes.proofs.Told.{tells-whole, tells-none}
 use Rattle.base_bytes.proofs.Bytes.{reading-length}
 use Rattle.base_bytes.proofs.Filling.{Filling, filling-none, filling-one, filling-part, filled}
-use Rattle.file_record.specs.Layout.{pfRecord, dyRecord, Event, evRecord}
+use Rattle.file_record.specs.Layout.{pfRecord, mvRecord, dyRecord, Event, evRecord}
 
 -- values put into a buffer of their length are all that it holds
 pub put-exactly : (values buffer : List ℕ) → length buffer ≡ length values → putFirst values buffer ≡ values
@@ -56,6 +56,10 @@ pub opening-kept : (before : List ℕ) (participation portfolio : ℕ) → lengt
 unfolding pfRecord bytes
 opening-kept before participation portfolio h = tells-none (pfRecord participation portfolio) before h
 
+pub move-kept : (before : List ℕ) (old new : ℕ) → length before < 6 → before ≡ putFirst (mvRecord old new) before
+unfolding mvRecord bytes
+move-kept before old new h = tells-none (mvRecord old new) before h
+
 pub day-kept : (before : List ℕ) (day mark : ℕ) (readings : List ℕ) → length before < 6 + 4 * length readings
     → before ≡ putFirst (dyRecord day mark readings) before
 unfolding dyRecord bytes
@@ -74,6 +78,17 @@ module _ (before now : List ℕ) (participation portfolio : ℕ) (h : 8 ≤ leng
       let room : 8 ≤ length now = omega (arith, ap length head, length-drop 4 before) in
       let fill = head-put before (ascii "PF" ++ bytes 2 participation) (bytes 4 portfolio) refl (omega arith) head in
       numbers-last (portfolio ∷ []) {end = 8} fill refl room refl p
+
+-- an MV
+module _ (before now : List ℕ) (old new : ℕ) (h : 6 ≤ length before) (head : now ≡ (ascii "MV" ++ bytes 2 old) ++ drop 4 before) where
+  pub move-put : set (set now 4 (new % 256)) 5 (new / 256 % 256) ≡ putFirst (mvRecord old new) before
+  unfolding mvRecord bytes
+  move-put =
+      let long : length now ≡ length before = omega (arith, ap length head, length-drop 4 before) in
+      let fill = head-put before (ascii "MV" ++ bytes 2 old) (bytes 2 new) refl (omega arith) head in
+      let low = filling-one fill (new % 256) (new / 256 % 256 ∷ []) (omega arith) refl in
+      let high = filling-one low (new / 256 % 256) [] (rw length-set (omega arith)) refl in
+      tells-whole (mvRecord old new) before h (filled high refl)
 
 -- a DY
 module _ (before now : List ℕ) (day mark : ℕ) (readings : List ℕ) (h : 6 + 4 * length readings ≤ length before)

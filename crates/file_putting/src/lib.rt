@@ -1,13 +1,14 @@
-// One record of a file put first into a lent buffer: a PF, a DY or an EV. Where it does not fit, nothing is changed.
+// One record of a file put first into a lent buffer: a PF, an MV, a DY or an EV. Where it does not fit, nothing is changed.
 ghost use mathlib.Core.Path.{_≡_};
 ghost use mathlib.Core.List.{_∷_, _++_};
 ghost use Prim.Native.Nat.{_≤_};
 ghost use lib.ListN.{length, getD, drop};
 ghost use Rattle.base_bytes.specs.Bytes.{bytes};
 ghost use Rattle.base_bytes.specs.PutFirst.{putFirst};
-ghost use Rattle.file_record.specs.Layout.{pfRecord, dyRecord, evRecord};
+ghost use Rattle.file_record.specs.Layout.{pfRecord, mvRecord, dyRecord, evRecord};
 use file_starts::BEFORE_READINGS;
 use file_starts::EV_LENGTH;
+use file_starts::MV_LENGTH;
 use file_starts::PF_LENGTH;
 
 // What every record opens with: its mark, and a number of two bytes.
@@ -31,6 +32,18 @@ pub fn put_opening(out: &mut [u8], participation: u32, portfolio: u32)
     put_head(out, b"PF", participation);
     let one = [portfolio];
     base_bytes::put_numbers(&mut out[4..PF_LENGTH], &one);
+}
+
+// An MV.
+pub fn put_move(out: &mut [u8], old: u32, new: u32)
+    ensures { λ _. ⌜ now (out .exit) ≡ putFirst (mvRecord old new) (now (out .entry)) ⌝ }
+{
+    if out.len() < MV_LENGTH {
+        return;
+    }
+    put_head(out, b"MV", old);
+    out[4] = (new % 256) as u8;
+    out[5] = (new / 256 % 256) as u8;
 }
 
 // The DY of a day.

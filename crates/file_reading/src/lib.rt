@@ -2,7 +2,7 @@
 ghost use mathlib.Core.Path.{_≡_};
 ghost use Prim.Native.Nat.{_+_, _*_, _≤_, _<_};
 ghost use lib.ListN.{length, drop};
-ghost use Rattle.file_record.specs.Reader.{numberAt, opensWith, isRecord, pfLength, dyLength, isEV, evLength, isDYof, daysFrom, eventsFrom, fileBase, firstIn, dayStart, readFile};
+ghost use Rattle.file_record.specs.Reader.{numberAt, opensWith, isRecord, pfLength, isMV, dyLength, isEV, evLength, isDYof, movesIn, moveStart, daysFrom, eventsFrom, fileBase, firstIn, dayStart, readFile};
 use file_record::Read;
 use file_record::Shape;
 use file_starts::BEFORE_READINGS;
@@ -10,6 +10,8 @@ use file_starts::BESIDE_READINGS;
 use file_starts::EV_LENGTH;
 use file_starts::MOST_DAYS;
 use file_starts::MOST_EVENTS;
+use file_starts::MOST_MOVES;
+use file_starts::MV_LENGTH;
 use file_starts::PF_LENGTH;
 
 // The bytes of the DY of a day.
@@ -58,6 +60,17 @@ fn is_record(file: &[u8], at: usize, size: usize, mark: &[u8; 2], blank: usize) 
     }
 }
 
+// Whether an MV stands at a place, whole.
+fn is_move(file: &[u8], at: usize) -> bool
+    requires { ⌜ at ≤ length (now file) ⌝ }
+    ensures { λ r. ⌜ r ≡ isMV (drop at (now (file .entry))) ⌝ }
+{
+    if file.len() - at < MV_LENGTH {
+        return false;
+    }
+    opens(file, at, b"MV")
+}
+
 // Whether an EV as laid down stands at a place.
 fn is_event(file: &[u8], at: usize) -> bool
     requires { ⌜ at ≤ length (now file) ⌝ }
@@ -78,12 +91,20 @@ fn is_day_of(file: &[u8], at: usize, day: u32) -> bool
     }
 }
 
-// Where the DY of a file start.
-fn file_base(file: &[u8]) -> u32
+// How many MV stand one after the other behind the PF.
+fn count_moves(file: &[u8]) -> u8
     requires { ⌜ pfLength ≤ length (now file) ⌝ }
-    ensures { λ r. ⌜ (r ≡ fileBase (now (file .entry))) × (r ≤ length (now (file .entry))) ⌝ }
+    ensures { λ r. ⌜ (r ≡ movesIn (now (file .entry))) × (moveStart r ≤ length (now (file .entry))) ⌝ }
 {
-    PF_LENGTH as u32
+    let mut moves: u8 = 0;
+    while moves < MOST_MOVES {
+        if is_move(file, file_starts::move_start(moves) as usize) {
+            moves += 1;
+        } else {
+            return moves;
+        }
+    }
+    moves
 }
 
 // The first day, 0 where there is no DY.
@@ -143,7 +164,8 @@ pub fn read_file(file: &[u8]) -> Read
         return Read::Refused(0);
     }
     if opens(file, 0, b"PF") {
-        let base = file_base(file);
+        let moves = count_moves(file);
+        let base = file_starts::move_start(moves);
         let first = first_in(file, base);
         let days = count_days(file, base, first);
         let start = file_starts::day_start(base, first, days);
@@ -153,6 +175,7 @@ pub fn read_file(file: &[u8]) -> Read
             Read::File(Shape {
                 participation: number2(file, 2),
                 portfolio: number4(file, 4),
+                moves,
                 first,
                 days,
                 events,

@@ -1,4 +1,4 @@
--- What is written of days and events reads back: one record, and records one after the other.
+-- What is written of moves, days and events reads back: one record, and records one after the other.
 use Prim.Native.Nat.{ℕ, zero, suc, _+_, _*_, _/_, _%_, _^_, _<_, _≤_}
 use mathlib.Core.Path.{_≡_, refl, sym, _∙_, ap}
 use mathlib.Core.Bool.{true, false, _&&_, and-false}
@@ -12,15 +12,33 @@ use Rattle.base_lists.proofs.Bools.{both}
 use Rattle.base_lists.specs.Lists.{all}
 use Rattle.base_lists.specs.Ascii.{ascii}
 use Rattle.method.specs.Table.{size, offset}
-use Rattle.file_record.specs.Layout.{Below, dyRecord, Event, evRecord, dyRecords, evRecords, fitsEvent}
-use Rattle.file_record.specs.Reader.{numberAt, opensWith, isRecord, isDY, isEV, evLength, isDYof, dyLength, dyDay, run, dayStart}
-use Rattle.file_record.specs.Reader.{marksFrom, numbers, readingsFrom, eventOf, eventList}
+use Rattle.file_record.specs.Layout.{Below, mvRecord, dyRecord, Event, evRecord, mvRecords, dyRecords, evRecords, fitsEvent}
+use Rattle.file_record.specs.Reader.{numberAt, opensWith, isRecord, isMV, mvLength, isDY, isEV, evLength, isDYof, dyLength, dyDay, run, dayStart}
+use Rattle.file_record.specs.Reader.{moveNumbers, marksFrom, numbers, readingsFrom, eventOf, eventList}
 use Rattle.file_record.proofs.Bytes.{below-drop, below-take, numbers-bytes}
 use Rattle.file_record.proofs.Starts.{day-start-none, day-start-cons}
 use Rattle.file_record.proofs.Records.{day-record, day-of-is, day-not, day-cut}
 use Rattle.file_record.proofs.Runs.{run-more, run-stops}
 use Rattle.base_bytes.specs.Bytes.{bytes, readingBytes}
 use Rattle.base_bytes.proofs.Bytes.{reading-length}
+
+-- one MV, with anything after it
+module _ (old new : ℕ) (rest : List ℕ) where
+  move-good : isMV (mvRecord old new ++ rest) ≡ true
+  unfolding isMV opensWith mvRecord bytes
+  move-good = let o : mvLength ≤ length (mvRecord old new ++ rest) = omega arith in rw (le-leb mvLength (length (mvRecord old new ++ rest)) o)
+
+  move-after : drop mvLength (mvRecord old new ++ rest) ≡ rest
+  unfolding mvRecord bytes
+  move-after = refl
+
+  move-old : old < 256 ^ 2 → numberAt 2 2 (mvRecord old new ++ rest) ≡ old
+  unfolding mvRecord bytes numberAt
+  move-old h = omega arith
+
+  move-new : new < 256 ^ 2 → numberAt 2 4 (mvRecord old new ++ rest) ≡ new
+  unfolding mvRecord bytes numberAt
+  move-new h = omega arith
 
 -- one DY, with anything after it
 module _ (d m : ℕ) (xs rest : List ℕ) (long : length xs ≡ size d) where
@@ -44,6 +62,10 @@ module _ (d m : ℕ) (xs rest : List ℕ) (long : length xs ≡ size d) where
   pub day-is : d < 256 ^ 2 → isDY (dyRecord d m xs ++ rest) ≡ true
   day-is h = day-of-is d (dyRecord d m xs ++ rest) (day-good h)
 
+  day-no-move : isMV (dyRecord d m xs ++ rest) ≡ false
+  unfolding isMV opensWith dyRecord bytes
+  day-no-move = simp and-false
+
   pub day-after : drop (dyLength d) (dyRecord d m xs ++ rest) ≡ rest
   day-after = drop-at (dyRecord d m xs) rest (dyLength d) day-length
 
@@ -61,6 +83,10 @@ module _ (v : Event) (rest : List ℕ) where
   unfolding isEV isRecord opensWith evRecord bytes
   event-good = let o : evLength ≤ length (evRecord v ++ rest) = omega arith in rw (le-leb evLength (length (evRecord v ++ rest)) o)
 
+  event-no-move : isMV (evRecord v ++ rest) ≡ false
+  unfolding isMV opensWith evRecord bytes
+  event-no-move = simp and-false
+
   pub event-no-day : isDY (evRecord v ++ rest) ≡ false
   unfolding isDY isRecord opensWith evRecord bytes
   event-no-day = simp and-false
@@ -74,6 +100,42 @@ module _ (v : Event) (rest : List ℕ) where
   event-back h =
       let p : v .day % 256 + 256 * (v .day / 256 % 256 + 256 * 0) ≡ v .day = omega arith in
       λ i. record { day = p i; s = v .s; e = v .e; n = v .n }
+
+-- moves one after the other, and what comes after them
+pub moves-length : (ms : List ℕ) → length (mvRecords ms) ≡ mvLength * (length ms / 2)
+unfolding mvRecords mvRecord bytes
+moves-length [] = refl
+moves-length (old ∷ []) = refl
+moves-length (old ∷ new ∷ more) = omega (arith, moves-length more)
+
+module _ (tail : List ℕ) where
+  pub moves-back : (ms : List ℕ) (most i : ℕ) → length ms % 2 ≡ 0 → length ms / 2 ≤ most → isMV tail ≡ false
+      → run (λ j. isMV) (λ j. mvLength) most i (mvRecords ms ++ tail) ≡ length ms / 2
+  unfolding mvRecords
+  moves-back [] most i e h n = run-stops (λ j. isMV) (λ j. mvLength) most i tail n
+  moves-back (old ∷ []) most i e h n = absurd (omega arith)
+  moves-back (old ∷ new ∷ more) zero i e h n = absurd (omega arith)
+  moves-back (old ∷ new ∷ more) (suc most) i e h n =
+      let half : length (old ∷ new ∷ more) / 2 ≡ suc (length more / 2) = omega arith in
+      rw (append-assoc (mvRecord old new) (mvRecords more) tail, half)
+      (run-more (λ j. isMV) (λ j. mvLength) most i (mvRecord old new ++ (mvRecords more ++ tail)) (move-good old new (mvRecords more ++ tail))
+      ∙ rw (move-after old new (mvRecords more ++ tail)) (ap suc (moves-back more most (suc i) (omega arith) (omega arith) n)))
+
+  pub move-numbers-back : (ms : List ℕ) → length ms % 2 ≡ 0 → Below (256 ^ 2) ms → moveNumbers (length ms / 2) (mvRecords ms ++ tail) ≡ ms
+  unfolding mvRecords moveNumbers
+  move-numbers-back [] e h = refl
+  move-numbers-back (old ∷ []) e h = absurd (omega arith)
+  move-numbers-back (old ∷ new ∷ more) e h =
+      let half : length (old ∷ new ∷ more) / 2 ≡ suc (length more / 2) = omega arith in
+      let left = mvRecords more ++ tail in
+      rw (
+        append-assoc (mvRecord old new) (mvRecords more) tail,
+        half,
+        move-old old new left (h 0),
+        move-new old new left (h 1),
+        move-after old new left,
+        move-numbers-back more (omega arith) (λ i. h (suc (suc i))),
+      )
 
 -- the readings of the first of several days, and those of the others
 module _ (h : ℕ) (rs : List ℕ) (d : ℕ) (e : length rs ≡ offset d (suc h)) where
@@ -173,3 +235,11 @@ pub no-day-left : (es : List Event) → isDY (evRecords es) ≡ false
 unfolding evRecords
 no-day-left [] = day-cut [] (omega arith)
 no-day-left (v ∷ es) = event-no-day v (evRecords es)
+
+pub no-move-left : (d : ℕ) (ms rs : List ℕ) (es : List Event) → length rs ≡ offset d (length ms) → isMV (dyRecords d ms rs ++ evRecords es) ≡ false
+unfolding dyRecords
+no-move-left d (m ∷ ms) rs es e =
+    rw (append-assoc (dyRecord d m (take (size d) rs)) (dyRecords (suc d) ms (drop (size d) rs)) (evRecords es))
+    (day-no-move d m (take (size d) rs) (dyRecords (suc d) ms (drop (size d) rs) ++ evRecords es) (first-long (length ms) rs d e))
+no-move-left d [] rs (v ∷ es) e = unfold evRecords in event-no-move v (evRecords es)
+no-move-left d [] rs [] e = unfold evRecords isMV in refl

@@ -1,18 +1,21 @@
 -- The checks on bytes: each computes.
 use mathlib.Core.Path.{refl}
 use Rattle.method.specs.Table.{size}
-use Rattle.file_record.specs.Layout.{pfRecord, dyRecord, evRecord, evRecords}
-use Rattle.file_record.specs.Reader.{numberAt, opensWith, isRecord, isPF, isDY, isEV, run, isDYof, daysFrom, eventsFrom, fileBase, firstIn, daysIn, dayStart, eventStart, eventsIn, goodEnd, shapeIn, readFile}
-use Rattle.file_record.specs.Checks.{pf, ev, flat, Checks}
+use Rattle.file_record.specs.Layout.{pfRecord, mvRecord, dyRecord, evRecord, mvRecords, evRecords}
+use Rattle.file_record.specs.Reader.{numberAt, opensWith, isRecord, isPF, isMV, isDY, isEV, run, isDYof}
+use Rattle.file_record.specs.Reader.{movesFrom, movesIn, daysFrom, eventsFrom, fileBase, moveNumbers, listIn, firstIn, daysIn, dayStart, eventStart, eventsIn, goodEnd, shapeIn, readFile}
+use Rattle.file_record.specs.Checks.{pf, mv, ev, flat, Checks}
 use Rattle.base_bytes.specs.Bytes.{bytes, readingBytes}
 
 pub checks : Checks
-unfolding size bytes pfRecord readingBytes dyRecord evRecord evRecords numberAt opensWith isRecord isPF isDY isEV run isDYof daysFrom eventsFrom fileBase firstIn daysIn dayStart eventStart eventsIn goodEnd shapeIn readFile pf ev flat
+unfolding size bytes pfRecord readingBytes mvRecord dyRecord evRecord mvRecords evRecords numberAt opensWith isRecord isPF isMV isDY isEV run isDYof movesFrom
+    movesIn daysFrom eventsFrom fileBase moveNumbers listIn firstIn daysIn dayStart eventStart eventsIn goodEnd shapeIn readFile pf mv ev flat
 checks =
     record {
       pf-bytes = refl;
       ev-bytes = refl;
       dy-bytes = refl;
+      mv-bytes = refl;
       empty = refl;
       cut = refl;
       foreign = refl;
@@ -29,4 +32,14 @@ checks =
       late-day = refl;
       last-day = refl;
       no-turn = refl;
+      one-move = refl;
+      cut-move = refl;
+      all-moves = refl;
+      move-17 = refl;
+      move-first = refl;
+      move-after-day = refl;
+      move-after-event = refl;
+      moves-and-day = refl;
+      list-said = refl;
+      no-list = refl;
     }

@@ -11,18 +11,24 @@ use Rattle.base_lists.proofs.Bools.{both}
 use Rattle.base_lists.specs.Ascii.{ascii}
 use Rattle.file_record.specs.declared.Shape.{Shape}
 use Rattle.file_record.specs.declared.Read.the-variants.{File, Refused}
-use Rattle.file_record.specs.Reader.{numberAt, opensWith, isPF, pfLength, isDY, isEV, isDYof, dyLength, dyDay, evLength, daysFrom, eventsFrom}
-use Rattle.file_record.specs.Reader.{fileBase, firstIn, daysIn, dayStart, eventStart, eventsIn, goodEnd, shapeIn, readFile}
+use Rattle.file_record.specs.Reader.{numberAt, opensWith, isPF, pfLength, isMV, mvLength, isDY, isEV, isDYof, dyLength, dyDay, evLength, movesFrom, daysFrom, eventsFrom}
+use Rattle.file_record.specs.Reader.{movesIn, moveStart, fileBase, firstIn, daysIn, dayStart, eventStart, eventsIn, goodEnd, shapeIn, readFile}
 use Rattle.file_record.specs.Laws.{Accepted}
 use Rattle.file_record.proofs.Numbers.{number-drop}
 use Rattle.file_record.proofs.Starts.{base-is}
-use Rattle.file_record.proofs.Records.{day-cut, named-day}
-use Rattle.file_record.proofs.Runs.{run-most}
+use Rattle.file_record.proofs.Records.{move-whole, day-cut, named-day}
+use Rattle.file_record.proofs.Runs.{run-most, fits}
 
 -- the DY start within a file that opens with a PF
 pub base-within : (file : List ℕ) → isPF file ≡ true → fileBase file ≤ length file
-unfolding isPF fileBase
-base-within file t = leb-true pfLength (length file) (both (leb pfLength (length file)) (opensWith (ascii "PF") file) t .0)
+unfolding isPF fileBase movesIn movesFrom
+base-within file t =
+    let opening = leb-true pfLength (length file) (both (leb pfLength (length file)) (opensWith (ascii "PF") file) t .0) in
+    omega (
+      arith,
+      fits (λ j. isMV) (λ j. mvLength) (λ j k. mvLength * k) (λ j. refl) (λ j k. omega arith) (λ i l m. move-whole l m) 16 0 (drop pfLength file),
+      length-drop pfLength file,
+    )
 
 -- the first day: of bytes that no DY has room in, of a DY, and of something else
 pub first-cut : (file : List ℕ) → length file - fileBase file < 6 → 0 ≡ firstIn file
@@ -55,6 +61,11 @@ event-start-more file i = omega (arith, event-start-is file i, event-start-is fi
 pub event-start-first : (file : List ℕ) → eventStart file 0 ≡ dayStart (fileBase file) (firstIn file) (daysIn file)
 event-start-first file = omega (arith, event-start-is file 0)
 
+-- where the DY start, from the number of MV
+pub base-from : (file : List ℕ) {moves base : ℕ} → moves ≡ movesIn file → base ≡ moveStart moves → base ≡ fileBase file
+unfolding fileBase
+base-from file m g = rw (g, m) refl
+
 -- refused at 0: an empty or cut file, and a foreign one
 pub file-cut : (file : List ℕ) → length file < pfLength → Refused 0 ≡ readFile file
 unfolding readFile isPF
@@ -64,8 +75,11 @@ pub file-foreign : (file : List ℕ) → pfLength ≤ length file → opensWith 
 unfolding readFile isPF
 file-foreign file h t = rw (le-leb pfLength (length file) h, t)
 
-module _ (file : List ℕ) {base first days start events : ℕ} (b : base ≡ fileBase file) (f : first ≡ firstIn file) (d : days ≡ daysFrom first (drop base file))
-    (s : start ≡ dayStart base first days) (v : events ≡ eventsFrom (drop start file)) where
+module _ (file : List ℕ) {moves base first days start events : ℕ} (m : moves ≡ movesIn file) (g : base ≡ moveStart moves) (f : first ≡ firstIn file)
+    (d : days ≡ daysFrom first (drop base file)) (s : start ≡ dayStart base first days) (v : events ≡ eventsFrom (drop start file)) where
+  b : base ≡ fileBase file
+  b = base-from file m g
+
   days-are : days ≡ daysIn file
   unfolding daysIn
   days-are = rw (b, f) at d
@@ -84,10 +98,10 @@ module _ (file : List ℕ) {base first days start events : ℕ} (b : base ≡ fi
   -- the records end where the file does
   pub file-good : {participation portfolio : ℕ} → pfLength ≤ length file → opensWith (ascii "PF") file ≡ true → start + evLength * events ≡ length file
       → participation ≡ numberAt 2 2 file → portfolio ≡ numberAt 4 4 file
-      → File (record { participation = participation; portfolio = portfolio; first = first; days = days; events = events }) ≡ readFile file
+      → File (record { participation = participation; portfolio = portfolio; moves = moves; first = first; days = days; events = events }) ≡ readFile file
   unfolding readFile isPF shapeIn
   file-good h t e p n =
-      rw (le-leb pfLength (length file) h, t, eq-eqb (goodEnd file) (length file) (sym end-is ∙ e), p, n, f, ← days-are, ← events-are)
+      rw (le-leb pfLength (length file) h, t, eq-eqb (goodEnd file) (length file) (sym end-is ∙ e), p, n, m, f, ← days-are, ← events-are)
 
   pub file-bad : pfLength ≤ length file → opensWith (ascii "PF") file ≡ true → (start + evLength * events ≡ length file → ⊥)
       → Refused (start + evLength * events) ≡ readFile file
@@ -97,7 +111,7 @@ module _ (file : List ℕ) {base first days start events : ℕ} (b : base ≡ fi
 
 -- what an accepted file has
 pub shape-fits : (file : List ℕ) (shape : Shape) → readFile file ≡ File shape → Accepted file shape
-unfolding readFile shapeIn goodEnd daysIn daysFrom eventsIn eventsFrom
+unfolding readFile shapeIn goodEnd movesIn movesFrom daysIn daysFrom eventsIn eventsFrom
 shape-fits file shape t = go (isPF file) (eqb (goodEnd file) (length file)) refl refl t
   where
     go : (p q : Bool) → isPF file ≡ p → eqb (goodEnd file) (length file) ≡ q → cond p (cond q (File (shapeIn file)) (Refused (goodEnd file))) (Refused 0) ≡ File shape
@@ -108,6 +122,7 @@ shape-fits file shape t = go (isPF file) (eqb (goodEnd file) (length file)) refl
         record {
           is-shape = same;
           opens = e;
+          moves = rw same (run-most (λ i. isMV) (λ i. mvLength) 16 0 (drop pfLength file));
           days = rw same (run-most isDYof dyLength 128 (firstIn file) (drop (fileBase file) file));
           events = rw same (run-most (λ i. isEV) (λ i. evLength) 64 0 (drop (eventStart file 0) file));
           whole = rw (base-is file same, same) (sym (event-start-is file (eventsIn file)) ∙ end);

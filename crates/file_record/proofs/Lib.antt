@@ -1,8 +1,8 @@
 pub mod Numbers
 pub mod Bytes
+pub mod Runs
 pub mod Starts
 pub mod Records
-pub mod Runs
 pub mod Files
 pub mod Events
 pub mod Lengths

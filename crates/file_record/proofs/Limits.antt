@@ -11,9 +11,10 @@ use lib.Dec.{ltb}
 use Rattle.base_lists.specs.Lists.{all}
 use Rattle.base_lists.proofs.Bools.{both, bool-cases}
 use Rattle.method.specs.Table.{size}
-use Rattle.file_record.specs.Layout.{Below, pfRecord, dyRecord, Event, evRecord, dyRecords, evRecords, Contents, fileOf, Fits, fitsEvent}
+use Rattle.file_record.specs.Layout.{Below, pfRecord, mvRecord, dyRecord, Event, evRecord, mvRecords, dyRecords, evRecords, Contents, fileOf, Fits, fitsEvent}
 use Rattle.file_record.specs.declared.Shape.{Shape}
 use Rattle.file_record.specs.declared.Read.the-variants.{File}
+use Rattle.file_record.specs.Reader.{pfLength, mvLength, movesIn, moveNumbers, listIn}
 use Rattle.file_record.specs.Reader.{numberAt, isDY, evLength, isDYof, dyLength, dyDay, daysFrom, fileBase, firstIn, daysIn, dayStart, eventStart, eventsIn, shapeIn, readFile}
 use Rattle.file_record.specs.Reader.{marksFrom, numbers, readingsFrom, tableIn, eventOf, eventList, contentsIn}
 use Rattle.file_record.specs.Laws.{Accepted}
@@ -21,7 +22,7 @@ use Rattle.file_record.proofs.Bytes.{below-drop, below-append, below-co
 use Rattle.file_record.proofs.Records.{day-named, named-day}
 use Rattle.file_record.proofs.Runs.{run-more}
 use Rattle.file_record.proofs.Files.{shape-fits}
-use Rattle.file_record.proofs.Lengths.{marks-length, readings-length}
+use Rattle.file_record.proofs.Lengths.{move-numbers-length, marks-length, readings-length}
 use Rattle.file_record.proofs.RefusedWhere.{each-day-in}
 use Rattle.base_bytes.specs.Bytes.{bytes, readingBytes}
 
@@ -30,6 +31,14 @@ unfolding marksFrom
 marks-below zero d left b = below-none (omega arith)
 marks-below (suc h) d left b =
     below-cons (getD left 4 0) (marksFrom h (suc d) (drop (dyLength d) left)) (b 4) (marks-below h (suc d) (drop (dyLength d) left) (below-drop (dyLength d) left b))
+
+moves-below : (count : ℕ) (left : List ℕ) → Below 256 left → Below (256 ^ 2) (moveNumbers count left)
+unfolding moveNumbers
+moves-below zero left b = below-none (omega arith)
+moves-below (suc count) left b =
+    below-cons (numberAt 2 2 left) (numberAt 2 4 left ∷ moveNumbers count (drop mvLength left)) (number-below 2 2 left b)
+    (below-cons (numberAt 2 4 left) (moveNumbers count (drop mvLength left)) (number-below 2 4 left b)
+    (moves-below count (drop mvLength left) (below-drop mvLength left b)))
 
 readings-below : (h d : ℕ) (left : List ℕ) → Below 256 left → Below (256 ^ 4) (readingsFrom h d left)
 unfolding readingsFrom
@@ -78,15 +87,20 @@ last-below file b = go (daysIn file) refl
         )
 
 pub says-what-fits : (file : List ℕ) (shape : Shape) → Below 256 file → readFile file ≡ File shape → Fits (contentsIn file)
-unfolding contentsIn tableIn shapeIn
+unfolding contentsIn listIn tableIn shapeIn
 says-what-fits file shape b r =
     let q : Accepted file shape = shape-fits file shape r in
+    let moves : shape .moves ≡ movesIn file = rw (q .is-shape) in
+    let listed = move-numbers-length (movesIn file) (drop pfLength file) in
     let days : shape .days ≡ daysIn file = rw (q .is-shape) in
     let events : shape .events ≡ eventsIn file = rw (q .is-shape) in
     let held = marks-length (daysIn file) (firstIn file) (drop (fileBase file) file) in
     record {
       participation = number-below 2 2 file b;
       portfolio = number-below 4 4 file b;
+      pairs = rw listed (omega arith);
+      moves = rw listed (omega (arith, q .moves));
+      moved = moves-below (movesIn file) (drop pfLength file) (below-drop pfLength file b);
       days = rw held (omega arith);
       last = rw held (last-below file b);
       none = λ z. first-held file (sym held ∙ z);
@@ -99,6 +113,15 @@ says-what-fits file shape b r =
 
 marked : (x y : ℕ) (l : List ℕ) → x < 256 → y < 256 → Below 256 l → Below 256 (x ∷ y ∷ l)
 marked x y l h g b = below-cons x (y ∷ l) h (below-cons y l g b)
+
+moves-bytes : (ms : List ℕ) → Below 256 (mvRecords ms)
+unfolding mvRecords mvRecord
+moves-bytes [] = below-none (omega arith)
+moves-bytes (old ∷ []) = below-none (omega arith)
+moves-bytes (old ∷ new ∷ more) =
+    marked 77 86 (bytes 2 old ++ bytes 2 new ++ mvRecords more) (omega arith) (omega arith)
+    (below-append (bytes 2 old ++ bytes 2 new) (mvRecords more) (below-append (bytes 2 old) (bytes 2 new) (bytes-below 2 old) (bytes-below 2 new))
+    (moves-bytes more))
 
 days-bytes : (ms rs : List ℕ) (d : ℕ) → Below 256 ms → Below 256 (dyRecords d ms rs)
 unfolding dyRecords dyRecord
@@ -131,10 +154,12 @@ pub writes-bytes : (c : Contents) → Fits c → Below 256 (fileOf c)
 unfolding fileOf pfRecord
 writes-bytes c q =
     let dy = dyRecords (c .table .first) (c .table .marks) (c .table .readings) in
+    let mv = mvRecords (c .moves) in
     let p = bytes 2 (c .participation) in
     let n = bytes 4 (c .portfolio) in
-    marked 80 70 (p ++ n ++ dy ++ evRecords (c .events)) (omega arith) (omega arith)
-    (below-append (p ++ n ++ dy) (evRecords (c .events))
-    (below-append (p ++ n) dy (below-append p n (bytes-below 2 (c .participation)) (bytes-below 4 (c .portfolio)))
+    marked 80 70 (p ++ n ++ mv ++ dy ++ evRecords (c .events)) (omega arith) (omega arith)
+    (below-append (p ++ n ++ mv ++ dy) (evRecords (c .events))
+    (below-append (p ++ n ++ mv) dy
+    (below-append (p ++ n) mv (below-append p n (bytes-below 2 (c .participation)) (bytes-below 4 (c .portfolio))) (moves-bytes (c .moves)))
     (days-bytes (c .table .marks) (c .table .readings) (c .table .first) (q .marks)))
     (events-bytes (c .events) (q .fields)))

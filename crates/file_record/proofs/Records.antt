@@ -12,7 +12,7 @@ use lib.Seq.{getD-drop}
 use lib.Dec.{eqb, leb}
 use Rattle.base_lists.proofs.Bools.{both, bool-cases}
 use Rattle.base_lists.specs.Ascii.{ascii}
-use Rattle.file_record.specs.Reader.{opensWith, numberAt, isRecord, isDY, isEV, isDYof, dyLength, dyDay, evLength}
+use Rattle.file_record.specs.Reader.{opensWith, numberAt, isRecord, isMV, mvLength, isDY, isEV, isDYof, dyLength, dyDay, evLength}
 use Rattle.file_record.proofs.Numbers.{number-drop}
 
 pub opens-at : (file mark : List ℕ) (at : ℕ)
@@ -33,6 +33,20 @@ module _ (file mark : List ℕ) (at size zeroByte : ℕ) (within : at ≤ length
       → eqb (getD file (at + zeroByte) 0) 0 ≡ isRecord size mark zeroByte (drop at file)
   unfolding isRecord
   record-zero h t = rw (length-drop at file, le-leb size (length file - at) h, t, getD-drop at file zeroByte 0)
+
+-- an MV
+module _ (file : List ℕ) (at : ℕ) where
+  pub move-cut : length file - at < mvLength → false ≡ isMV (drop at file)
+  unfolding isMV
+  move-cut h = rw (length-drop at file, lt-leb mvLength (length file - at) h)
+
+  pub move-marked : mvLength ≤ length file - at → opensWith (ascii "MV") (drop at file) ≡ isMV (drop at file)
+  unfolding isMV
+  move-marked h = rw (length-drop at file, le-leb mvLength (length file - at) h) refl
+
+pub move-whole : (left : List ℕ) → isMV left ≡ true → mvLength ≤ length left
+unfolding isMV
+move-whole left t = leb-true mvLength (length left) (both (leb mvLength (length left)) (opensWith (ascii "MV") left) t .0)
 
 -- a DY of a day has that day's length
 pub day-record : (day : ℕ) (left : List ℕ) → isDYof day left ≡ (isRecord (dyLength day) (ascii "DY") 5 left && eqb (dyDay left) day)

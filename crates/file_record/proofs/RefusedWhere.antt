@@ -1,75 +1,39 @@
 -- Where a file is refused: every record before the place is as laid down, and what stands there is not, or is one too many.
-use Prim.Native.Nat.{ℕ, zero, suc, _+_, _*_, _<_, _≤_}
+use Prim.Native.Nat.{ℕ, _+_, _*_, _<_, _≤_}
 use mathlib.Core.Path.{_≡_, refl, sym, _∙_}
 use mathlib.Core.Bool.{Bool, true, false, cond}
 use mathlib.Core.List.{List}
 use mathlib.Core.Logic.{_⊎_, inl, inr}
 use native.Mathlib.Omega.{arith}
-use native.Mathlib.Nat.{add-zero}
 use borrow.Author.Tests.{eqb-false}
 use lib.Arith.{lt-of-le-ne}
 use lib.ListN.{length, drop, length-drop}
 use lib.Seq.{drop-drop}
 use lib.Dec.{eqb}
 use Rattle.file_record.specs.declared.Read.the-variants.{File, Refused}
-use Rattle.file_record.specs.Reader.{isPF, isEV, evLength, isDYof, dyLength, run, daysFrom, eventsFrom, fileBase, firstIn, daysIn, dayStart, eventStart, eventsIn}
+use Rattle.file_record.specs.Reader.{isPF, pfLength, isMV, mvLength, isEV, evLength, isDYof, dyLength, movesFrom, movesIn, moveStart, daysFrom, eventsFrom}
+use Rattle.file_record.specs.Reader.{fileBase, firstIn, daysIn, dayStart, eventStart, eventsIn}
 use Rattle.file_record.specs.Reader.{goodEnd, shapeIn, readFile}
 use Rattle.file_record.specs.Laws.{StopsAt}
 use Rattle.file_record.proofs.Starts.{day-start-none, day-start-from, day-start-cons}
 use Rattle.file_record.proofs.Records.{day-whole, event-whole}
-use Rattle.file_record.proofs.Runs.{run-more, run-stops, run-full, run-most}
+use Rattle.file_record.proofs.Runs.{run-most, each, next, fits}
 use Rattle.file_record.proofs.Files.{base-within, event-start-first, event-start-more}
 
--- a run of records: `span i k` is how long `k` of them are, from the one numbered `i` on
-module _ (good : ℕ → List ℕ → Bool) (recordLength : ℕ → ℕ) (span : ℕ → ℕ → ℕ) (none : (i : ℕ) → span i 0 ≡ 0)
-    (cons : (i k : ℕ) → span i (suc k) ≡ recordLength i + span (suc i) k) where
-  pub each : (most i : ℕ) (left : List ℕ) (k : ℕ) → k < run good recordLength most i left → good (i + k) (drop (span i k) left) ≡ true
-  each zero i left k h = absurd (omega (arith, run-full good recordLength i left))
-  each (suc most) i left k h = go (good i left) refl k h (each most (suc i) (drop (recordLength i) left))
-    where
-      go : (t : Bool) → good i left ≡ t → (k : ℕ) → k < run good recordLength (suc most) i left
-          → ((k : ℕ) → k < run good recordLength most (suc i) (drop (recordLength i) left)
-          → good (suc i + k) (drop (span (suc i) k) (drop (recordLength i) left)) ≡ true)
-          → good (i + k) (drop (span i k) left) ≡ true
-      go false e k h later = absurd (omega (arith, run-stops good recordLength (suc most) i left e))
-      go true e zero h later = rw (add-zero, none i) e
-      go true e (suc k) h later =
-          let o : k < run good recordLength most (suc i) (drop (recordLength i) left) = omega (arith, run-more good recordLength most i left e) in
-          let a : i + suc k ≡ suc i + k = omega arith in
-          rw (a, cons i k, ← drop-drop (span (suc i) k) (recordLength i) left) (later k o)
-
-  pub next : (most i : ℕ) (left : List ℕ) → run good recordLength most i left < most
-      → good (i + run good recordLength most i left) (drop (span i (run good recordLength most i left)) left) ≡ false
-  next zero i left h = absurd (omega arith)
-  next (suc most) i left h = go (good i left) refl h (next most (suc i) (drop (recordLength i) left))
-    where
-      go : (t : Bool) → good i left ≡ t → run good recordLength (suc most) i left < suc most
-          → (run good recordLength most (suc i) (drop (recordLength i) left) < most
-          → good (suc i + run good recordLength most (suc i) (drop (recordLength i) left))
-          (drop (span (suc i) (run good recordLength most (suc i) (drop (recordLength i) left))) (drop (recordLength i) left)) ≡ false)
-          → good (i + run good recordLength (suc most) i left) (drop (span i (run good recordLength (suc most) i left)) left) ≡ false
-      go false e h later = rw (run-stops good recordLength (suc most) i left e, add-zero, none i) e
-      go true e h later =
-          let k = run good recordLength most (suc i) (drop (recordLength i) left) in
-          let o : k < most = omega (arith, run-more good recordLength most i left e) in
-          let a : i + suc k ≡ suc i + k = omega arith in
-          rw (run-more good recordLength most i left e, a, cons i k, ← drop-drop (span (suc i) k) (recordLength i) left) (later o)
-
-  pub fits : ((i : ℕ) (left : List ℕ) → good i left ≡ true → recordLength i ≤ length left) → (most i : ℕ) (left : List ℕ)
-      → span i (run good recordLength most i left) ≤ length left
-  fits whole zero i left = rw (run-full good recordLength i left, none i) (omega arith)
-  fits whole (suc most) i left = go (good i left) refl (fits whole most (suc i) (drop (recordLength i) left))
-    where
-      go : (t : Bool) → good i left ≡ t
-          → span (suc i) (run good recordLength most (suc i) (drop (recordLength i) left)) ≤ length (drop (recordLength i) left)
-          → span i (run good recordLength (suc most) i left) ≤ length left
-      go false e h = rw (run-stops good recordLength (suc most) i left e, none i) (omega arith)
-      go true e h =
-          let k = run good recordLength most (suc i) (drop (recordLength i) left) in
-          rw (run-more good recordLength most i left e, cons i k) (omega (arith, length-drop (recordLength i) left, whole i left e))
-
--- the days of a file, and its events
+-- the moves of a file, its days, and its events
 module _ (file : List ℕ) where
+  each-move-in : (k : ℕ) → k < movesIn file → isMV (drop (moveStart k) file) ≡ true
+  unfolding movesIn movesFrom
+  each-move-in k o =
+      rw (← drop-drop (mvLength * k) pfLength file)
+      (each (λ j. isMV) (λ j. mvLength) (λ j n. mvLength * n) (λ j. refl) (λ j n. omega arith) 16 0 (drop pfLength file) k o)
+
+  next-move-in : movesIn file < 16 → isMV (drop (fileBase file) file) ≡ false
+  unfolding movesIn movesFrom fileBase
+  next-move-in o =
+      rw (← drop-drop (mvLength * movesIn file) pfLength file)
+      (next (λ j. isMV) (λ j. mvLength) (λ j n. mvLength * n) (λ j. refl) (λ j n. omega arith) 16 0 (drop pfLength file) o)
+
   pub each-day-in : (k : ℕ) → k < daysIn file → isDYof (firstIn file + k) (drop (dayStart (fileBase file) (firstIn file) k) file) ≡ true
   unfolding daysIn daysFrom
   each-day-in k o =
@@ -94,7 +58,7 @@ module _ (file : List ℕ) where
       )
 
 stops : (file : List ℕ) (at : ℕ) → isPF file ≡ true → at ≡ eventStart file (eventsIn file) → (at ≡ length file → ⊥) → StopsAt file at
-unfolding daysIn daysFrom eventsIn eventsFrom
+unfolding movesIn movesFrom daysIn daysFrom eventsIn eventsFrom
 stops file at e place other =
     let v = eventsIn file in
     let left = drop (eventStart file 0) file in
@@ -103,12 +67,15 @@ stops file at e place other =
     record {
       opens = e;
       place = place;
+      moves = run-most (λ j. isMV) (λ j. mvLength) 16 0 (drop pfLength file);
+      each-move = each-move-in file;
       days = run-most isDYof dyLength 128 (firstIn file) (drop (fileBase file) file);
       each-day = each-day-in file;
       events = run-most (λ j. isEV) (λ j. evLength) 64 0 left;
       each-event = λ i o. rw (event-start-more file i, ← drop-drop (evLength * i) (eventStart file 0) file)
           (each (λ j. isEV) (λ j. evLength) (λ j k. evLength * k) (λ j. refl) (λ j k. omega arith) 64 0 left i o);
       something = lt-of-le-ne (omega (arith, length-drop (eventStart file 0) file, event-start-more file v)) other;
+      no-move = λ o d z. rw (place, z, event-start-first file, d, day-start-none (fileBase file) (firstIn file)) (next-move-in file o);
       no-day = λ o z. rw (place, z) (next-day-in file o);
       no-event = λ o. rw (place, event-start-more file v, ← drop-drop (evLength * v) (eventStart file 0) file)
           (next (λ j. isEV) (λ j. evLength) (λ j k. evLength * k) (λ j. refl) (λ j k. omega arith) 64 0 left o);

@@ -62,3 +62,51 @@ module _ (good : ℕ → List ℕ → Bool) (recordLength : ℕ → ℕ) where
       go : (t : Bool) → good i left ≡ t → run good recordLength most (suc i) (drop (recordLength i) left) ≤ most → run good recordLength (suc most) i left ≤ suc most
       go true e h = rw e (omega arith)
       go false e h = rw e (omega arith)
+
+-- a run of records: `span i k` is how long `k` of them are, from the one numbered `i` on
+module _ (good : ℕ → List ℕ → Bool) (recordLength : ℕ → ℕ) (span : ℕ → ℕ → ℕ) (none : (i : ℕ) → span i 0 ≡ 0)
+    (cons : (i k : ℕ) → span i (suc k) ≡ recordLength i + span (suc i) k) where
+  pub each : (most i : ℕ) (left : List ℕ) (k : ℕ) → k < run good recordLength most i left → good (i + k) (drop (span i k) left) ≡ true
+  each zero i left k h = absurd (omega (arith, run-full good recordLength i left))
+  each (suc most) i left k h = go (good i left) refl k h (each most (suc i) (drop (recordLength i) left))
+    where
+      go : (t : Bool) → good i left ≡ t → (k : ℕ) → k < run good recordLength (suc most) i left
+          → ((k : ℕ) → k < run good recordLength most (suc i) (drop (recordLength i) left)
+          → good (suc i + k) (drop (span (suc i) k) (drop (recordLength i) left)) ≡ true)
+          → good (i + k) (drop (span i k) left) ≡ true
+      go false e k h later = absurd (omega (arith, run-stops good recordLength (suc most) i left e))
+      go true e zero h later = rw (add-zero, none i) e
+      go true e (suc k) h later =
+          let o : k < run good recordLength most (suc i) (drop (recordLength i) left) = omega (arith, run-more good recordLength most i left e) in
+          let a : i + suc k ≡ suc i + k = omega arith in
+          rw (a, cons i k, ← drop-drop (span (suc i) k) (recordLength i) left) (later k o)
+
+  pub next : (most i : ℕ) (left : List ℕ) → run good recordLength most i left < most
+      → good (i + run good recordLength most i left) (drop (span i (run good recordLength most i left)) left) ≡ false
+  next zero i left h = absurd (omega arith)
+  next (suc most) i left h = go (good i left) refl h (next most (suc i) (drop (recordLength i) left))
+    where
+      go : (t : Bool) → good i left ≡ t → run good recordLength (suc most) i left < suc most
+          → (run good recordLength most (suc i) (drop (recordLength i) left) < most
+          → good (suc i + run good recordLength most (suc i) (drop (recordLength i) left))
+          (drop (span (suc i) (run good recordLength most (suc i) (drop (recordLength i) left))) (drop (recordLength i) left)) ≡ false)
+          → good (i + run good recordLength (suc most) i left) (drop (span i (run good recordLength (suc most) i left)) left) ≡ false
+      go false e h later = rw (run-stops good recordLength (suc most) i left e, add-zero, none i) e
+      go true e h later =
+          let k = run good recordLength most (suc i) (drop (recordLength i) left) in
+          let o : k < most = omega (arith, run-more good recordLength most i left e) in
+          let a : i + suc k ≡ suc i + k = omega arith in
+          rw (run-more good recordLength most i left e, a, cons i k, ← drop-drop (span (suc i) k) (recordLength i) left) (later o)
+
+  pub fits : ((i : ℕ) (left : List ℕ) → good i left ≡ true → recordLength i ≤ length left) → (most i : ℕ) (left : List ℕ)
+      → span i (run good recordLength most i left) ≤ length left
+  fits whole zero i left = rw (run-full good recordLength i left, none i) (omega arith)
+  fits whole (suc most) i left = go (good i left) refl (fits whole most (suc i) (drop (recordLength i) left))
+    where
+      go : (t : Bool) → good i left ≡ t
+          → span (suc i) (run good recordLength most (suc i) (drop (recordLength i) left)) ≤ length (drop (recordLength i) left)
+          → span i (run good recordLength (suc most) i left) ≤ length left
+      go false e h = rw (run-stops good recordLength (suc most) i left e, none i) (omega arith)
+      go true e h =
+          let k = run good recordLength most (suc i) (drop (recordLength i) left) in
+          rw (run-more good recordLength most i left e, cons i k) (omega (arith, length-drop (recordLength i) left, whole i left e))

@@ -5,10 +5,12 @@ use mathlib.Core.List.{List}
 use native.Mathlib.Omega.{arith}
 use native.Mathlib.Nat.{add-zero}
 use native.Mathlib.Numerals.{add-one}
+use lib.ListN.{drop}
 use Rattle.method.specs.Table.{offset, mostQuarters}
 use Rattle.method.proofs.Tables.{size-most, offset-suc}
 use Rattle.file_record.specs.declared.Shape.{Shape}
-use Rattle.file_record.specs.Reader.{dyBytes, dyLength, fileBase, shapeBase, mostBase, shapeIn, dayStart}
+use Rattle.file_record.specs.Reader.{pfLength, isMV, mvLength, dyBytes, dyLength, movesFrom, movesIn, fileBase, shapeBase, mostBase, shapeIn, dayStart}
+use Rattle.file_record.proofs.Runs.{run-most}
 
 module _ (base first : ℕ) where
   pub day-start-none : dayStart base first 0 ≡ base
@@ -56,10 +58,10 @@ day-start-cons first (suc k) =
     rw later (omega (arith, day-start-cons first k))
 
 pub base-most : (file : List ℕ) → fileBase file ≤ mostBase
-unfolding fileBase
-base-most file = omega arith
+unfolding fileBase movesIn movesFrom
+base-most file = omega (arith, run-most (λ i. isMV) (λ i. mvLength) 16 0 (drop pfLength file))
 
 -- the days of a file and of its shape start at one place
 pub base-is : (file : List ℕ) {shape : Shape} → shape ≡ shapeIn file → shapeBase shape ≡ fileBase file
-unfolding shapeBase fileBase
-base-is file e = refl
+unfolding fileBase shapeIn
+base-is file e = rw e refl

@@ -3,13 +3,14 @@ use mathlib.Core.Path.{refl}
 use Rattle.base_lists.specs.Lists.{all}
 use Rattle.base_bytes.specs.Bytes.{bytes, readingBytes}
 use Rattle.method.specs.Table.{size, offset}
-use Rattle.file_record.specs.Layout.{pfRecord, dyRecord, evRecord, dyRecords, evRecords, fileOf, fitsEvent}
-use Rattle.file_record.specs.Writer.{eventsOf, matching, inBounds, sayable, writing, leaving}
-use Rattle.file_record.specs.Checks.{pf, ev, flat}
+use Rattle.file_record.specs.Layout.{pfRecord, mvRecord, dyRecord, evRecord, mvRecords, dyRecords, evRecords, fileOf, fitsEvent}
+use Rattle.file_record.specs.Writer.{eventsOf, matching, daysInBounds, fewOf, sayable, writing, leaving}
+use Rattle.file_record.specs.Checks.{pf, mv, ev, flat}
 use Rattle.file_record.specs.WriterChecks.{WriterChecks}
 
 pub writer-checks : WriterChecks
-unfolding all bytes readingBytes size offset pfRecord dyRecord evRecord dyRecords evRecords fileOf fitsEvent eventsOf matching inBounds sayable writing leaving pf ev flat
+unfolding all bytes readingBytes size offset pfRecord mvRecord dyRecord evRecord mvRecords dyRecords evRecords fileOf fitsEvent eventsOf matching daysInBounds
+    fewOf sayable writing leaving pf mv ev flat
 writer-checks =
     record {
       no-days = refl;
@@ -34,6 +35,13 @@ writer-checks =
       events-64 = refl;
       events-65 = refl;
       five-numbers = refl;
+      moves-16 = refl;
+      moves-17 = refl;
+      half-a-move = refl;
+      move-65535 = refl;
+      old-65536 = refl;
+      new-65536 = refl;
       stands = refl;
+      moves-stand = refl;
       keeps = refl;
     }

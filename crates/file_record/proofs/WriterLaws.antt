@@ -13,7 +13,7 @@ use Rattle.method.specs.declared.Refusal.the-variants.{NoRoom, Unwritable}
 use Rattle.method.specs.Table.{heldDays}
 use Rattle.method.proofs.Tables.{offset-is}
 use Rattle.file_record.specs.Layout.{Below, fileOf}
-use Rattle.file_record.specs.Reader.{pfLength, readFile, contentsIn, shapeOf}
+use Rattle.file_record.specs.Reader.{moveStart, readFile, contentsIn, shapeOf}
 use Rattle.file_record.specs.Writer.{Lent, said, writing, leaving, Writes}
 use Rattle.file_record.specs.WriterLaws.{Wide, toSay, Wrote, WriterLaws}
 use Rattle.file_record.specs.declared.Shape.{Shape}
@@ -54,13 +54,13 @@ module _ (w : Lent) (file : List ℕ) where
     it-is : file ≡ fileOf (said w)
     it-is = sym (q .first) ∙ file-is w (q .out) (length file) (q .out′) (q .writes)
 
-    long-is : length file ≡ 8 + 390 * heldDays (w .table) + 8 * (length (w .numbers) / 4)
+    long-is : length file ≡ 8 + 6 * (length (w .moves) / 2) + 390 * heldDays (w .table) + 8 * (length (w .numbers) / 4)
     long-is =
         omega (
           arith,
           accepted .is,
           its-length w (accepted .match .size),
-          day-start-is pfLength (w .table .first) (heldDays (w .table)),
+          day-start-is (moveStart (length (w .moves) / 2)) (w .table .first) (heldDays (w .table)),
           offset-is (w .table .first) (heldDays (w .table)),
         )
 

@@ -11,19 +11,20 @@ use lib.ListN.{length, getD, drop, length-append, length-drop}
 use lib.Seq.{drop-cons}
 use lib.Dec.{leb, ltb, eqb}
 use Rattle.base_lists.specs.Lists.{all}
+use Rattle.base_lists.proofs.All.{all-at, all-of}
 use Rattle.base_lists.proofs.Bools.{both, either, bool-cases}
 use Rattle.base_bytes.specs.Bytes.{bytes}
 use Rattle.method.specs.declared.Refusal.{Refusal}
 use Rattle.method.specs.declared.Refusal.the-variants.{BadTable, NoRoom, Unwritable}
 use Rattle.method.specs.Table.{heldDays, offset}
-use Rattle.file_record.specs.Layout.{Event, Contents, pfRecord, dyRecords, evRecords, fileOf, Fits, fitsEvent}
-use Rattle.file_record.specs.Reader.{pfLength, evLength, dayStart}
-use Rattle.file_record.specs.Writer.{Lent, eventsOf, said, matching, inBounds, sayable, writing, leaving, Writes}
+use Rattle.file_record.specs.Layout.{Event, Contents, pfRecord, mvRecords, dyRecords, evRecords, fileOf, Fits, fitsDay, fitsEvent}
+use Rattle.file_record.specs.Reader.{evLength, moveStart, dayStart}
+use Rattle.file_record.specs.Writer.{Lent, eventsOf, said, matching, daysInBounds, fewOf, sayable, writing, leaving, Writes}
 use Rattle.file_record.specs.WriterLaws.{Wide, numbersOf}
 use Rattle.file_record.specs.declared.Written.{Written}
 use Rattle.file_record.specs.declared.Written.the-variants.{Length, Refused}
 use Rattle.file_record.proofs.Starts.{day-start-from}
-use Rattle.file_record.proofs.Back.{days-length, events-length}
+use Rattle.file_record.proofs.Back.{moves-length, days-length, events-length}
 
 -- ---- events as numbers
 pub events-count : (numbers : List ℕ) → length (eventsOf numbers) ≡ length numbers / 4
@@ -101,11 +102,25 @@ module _ (first days readings : ℕ) where
   unfolding matching
   matched h e = rw (le-leb days 128 h, eq-eqb readings (offset first days) e)
 
-module _ (participation first days : ℕ) (numbers : List ℕ) where
+module _ (each most numbers : ℕ) where
+  few-of : fewOf each most numbers ≡ true → (numbers % each ≡ 0) × (numbers / each ≤ most)
+  unfolding fewOf
+  few-of t =
+      let k = both (eqb (numbers % each) 0) (leb (numbers / each) most) t in
+      (eqb-true (numbers % each) 0 (k .0), leb-true (numbers / each) most (k .1))
+
+  of-few : numbers % each ≡ 0 → numbers / each ≤ most → fewOf each most numbers ≡ true
+  unfolding fewOf
+  of-few e h = rw (eq-eqb (numbers % each) 0 e, le-leb (numbers / each) most h)
+
+module _ (participation first days : ℕ) (moves numbers : List ℕ) where
   pub record Says : Type 0 where
     pub participates : participation < 256 ^ 2
     pub last : first + days ≤ 256 ^ 2
     pub none : days ≡ 0 → first ≡ 0
+    pub pairs : length moves % 2 ≡ 0
+    pub few-moves : length moves / 2 ≤ 16
+    pub moved : all fitsDay moves ≡ true
     pub four : length numbers % 4 ≡ 0
     pub few : length numbers / 4 ≤ 64
     pub fields : all fitsEvent (eventsOf numbers) ≡ true
@@ -119,11 +134,11 @@ module _ (participation first days : ℕ) (numbers : List ℕ) where
   abbrev z : Bool
   z = ltb 0 days || eqb first 0
 
-  abbrev f : Bool
-  f = eqb (length numbers % 4) 0
+  abbrev m : Bool
+  m = fewOf 2 16 (length moves)
 
   abbrev e : Bool
-  e = leb (length numbers / 4) 64
+  e = fewOf 4 64 (length numbers)
 
   some-or-first : z ≡ true → days ≡ 0 → first ≡ 0
   some-or-first t d =
@@ -132,32 +147,37 @@ module _ (participation first days : ℕ) (numbers : List ℕ) where
   first-or-some : (days ≡ 0 → first ≡ 0) → z ≡ true
   first-or-some h = ⊎-elim (λ some. rw some) (λ none. rw (none, eq-eqb first 0 (h (omega (arith, ltb-false 0 days none))))) (bool-cases (ltb 0 days))
 
-  pub says : sayable participation first days numbers ≡ true → Says
-  unfolding sayable inBounds
+  pub says : sayable participation first days moves numbers ≡ true → Says
+  unfolding sayable daysInBounds
   says t =
-      let fields = both (p && l && z && f && e) (all fitsEvent (eventsOf numbers)) t in
-      let few = both (p && l && z && f) e (fields .0) in
-      let four = both (p && l && z) f (few .0) in
-      let none = both (p && l) z (four .0) in
+      let fields = both (p && l && z && m && all fitsDay moves && e) (all fitsEvent (eventsOf numbers)) t in
+      let events = both (p && l && z && m && all fitsDay moves) e (fields .0) in
+      let moved = both (p && l && z && m) (all fitsDay moves) (events .0) in
+      let pairs = both (p && l && z) m (moved .0) in
+      let none = both (p && l) z (pairs .0) in
       let last = both p l (none .0) in
       record {
         participates = ltb-true participation (256 ^ 2) (last .0);
         last = leb-true (first + days) (256 ^ 2) (last .1);
         none = some-or-first (none .1);
-        four = eqb-true (length numbers % 4) 0 (four .1);
-        few = leb-true (length numbers / 4) 64 (few .1);
+        pairs = few-of 2 16 (length moves) (pairs .1) .0;
+        few-moves = few-of 2 16 (length moves) (pairs .1) .1;
+        moved = moved .1;
+        four = few-of 4 64 (length numbers) (events .1) .0;
+        few = few-of 4 64 (length numbers) (events .1) .1;
         fields = fields .1;
       }
 
-  pub said-so : Says → sayable participation first days numbers ≡ true
-  unfolding sayable inBounds
+  pub said-so : Says → sayable participation first days moves numbers ≡ true
+  unfolding sayable daysInBounds
   said-so q =
       rw (
         lt-ltb participation (256 ^ 2) (q .participates),
         le-leb (first + days) (256 ^ 2) (q .last),
         first-or-some (q .none),
-        eq-eqb (length numbers % 4) 0 (q .four),
-        le-leb (length numbers / 4) 64 (q .few),
+        of-few 2 16 (length moves) (q .pairs) (q .few-moves),
+        q .moved,
+        of-few 4 64 (length numbers) (q .four) (q .few),
         q .fields,
       )
 
@@ -167,19 +187,21 @@ module _ (w : Lent) where
   matchesIt = matching (w .table .first) (heldDays (w .table)) (length (w .table .readings))
 
   abbrev saysIt : Bool
-  saysIt = sayable (w .participation) (w .table .first) (heldDays (w .table)) (w .numbers)
+  saysIt = sayable (w .participation) (w .table .first) (heldDays (w .table)) (w .moves) (w .numbers)
 
   pub its-length : length (w .table .readings) ≡ offset (w .table .first) (heldDays (w .table))
-      → length (fileOf (said w)) ≡ dayStart pfLength (w .table .first) (heldDays (w .table)) + evLength * (length (w .numbers) / 4)
+      → length (fileOf (said w)) ≡ dayStart (moveStart (length (w .moves) / 2)) (w .table .first) (heldDays (w .table)) + evLength * (length (w .numbers) / 4)
   unfolding fileOf pfRecord bytes
   its-length e =
+      let moves = mvRecords (w .moves) in
       let days = dyRecords (w .table .first) (w .table .marks) (w .table .readings) in
       omega (
         arith,
-        length-append (pfRecord (w .participation) (w .portfolio) ++ days) (evRecords (eventsOf (w .numbers))),
-        length-append (pfRecord (w .participation) (w .portfolio)) days,
+        length-append (pfRecord (w .participation) (w .portfolio) ++ moves ++ days) (evRecords (eventsOf (w .numbers))),
+        length-append (pfRecord (w .participation) (w .portfolio) ++ moves) days,
+        moves-length (w .moves),
         days-length (w .table .marks) (w .table .readings) (w .table .first) e,
-        day-start-from pfLength (w .table .first) (heldDays (w .table)),
+        day-start-from (moveStart (length (w .moves) / 2)) (w .table .first) (heldDays (w .table)),
         events-length (eventsOf (w .numbers)),
         events-count (w .numbers),
       )
@@ -187,7 +209,7 @@ module _ (w : Lent) where
   -- what an accepted one shows
   pub record Accepts (room size : ℕ) : Type 0 where
     pub match : Matches (w .table .first) (heldDays (w .table)) (length (w .table .readings))
-    pub say : Says (w .participation) (w .table .first) (heldDays (w .table)) (w .numbers)
+    pub say : Says (w .participation) (w .table .first) (heldDays (w .table)) (w .moves) (w .numbers)
     pub is : size ≡ length (fileOf (said w))
 
   pub accepts : (room size : ℕ) → Length size ≡ writing w room → Accepts room size
@@ -201,7 +223,7 @@ module _ (w : Lent) where
           let same : size ≡ length (fileOf (said w)) = cc in
           record {
             match = matches (w .table .first) (heldDays (w .table)) (length (w .table .readings)) m;
-            say = says (w .participation) (w .table .first) (heldDays (w .table)) (w .numbers) s;
+            say = says (w .participation) (w .table .first) (heldDays (w .table)) (w .moves) (w .numbers) s;
             is = same;
           }
       go true true false m s f r = absurd (let z : _≡_ {A = ℕ} 0 1 = cc in omega arith)
@@ -247,6 +269,9 @@ module _ (w : Lent) where
       record {
         participation = q .say .participates;
         portfolio = wide .portfolio;
+        pairs = q .say .pairs;
+        moves = q .say .few-moves;
+        moved = λ i. ltb-true (getD (w .moves) i 0) (256 ^ 2) (all-at fitsDay 0 refl (w .moves) (q .say .moved) i);
         days = q .match .few;
         last = q .say .last;
         none = q .say .none;
@@ -262,14 +287,17 @@ module _ (c : Contents) (q : Fits c) where
   pub fits-matches : matching (c .table .first) (heldDays (c .table)) (length (c .table .readings)) ≡ true
   fits-matches = matched (c .table .first) (heldDays (c .table)) (length (c .table .readings)) (q .days) (q .size)
 
-  pub fits-says : sayable (c .participation) (c .table .first) (heldDays (c .table)) (numbersOf (c .events)) ≡ true
+  pub fits-says : sayable (c .participation) (c .table .first) (heldDays (c .table)) (c .moves) (numbersOf (c .events)) ≡ true
   fits-says =
       let count = numbers-count (c .events) in
-      said-so (c .participation) (c .table .first) (heldDays (c .table)) (numbersOf (c .events))
+      said-so (c .participation) (c .table .first) (heldDays (c .table)) (c .moves) (numbersOf (c .events))
       (record {
         participates = q .participation;
         last = q .last;
         none = q .none;
+        pairs = q .pairs;
+        few-moves = q .moves;
+        moved = all-of fitsDay 0 (c .moves) (λ i. lt-ltb (getD (c .moves) i 0) (256 ^ 2) (q .moved i));
         four = omega arith;
         few = omega (arith, q .events);
         fields = rw (events-again (c .events)) (q .fields);

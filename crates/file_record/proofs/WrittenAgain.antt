@@ -10,17 +10,18 @@ use lib.Seq.{drop-cons, drop-drop, take-at, drop-at}
 use lib.Dec.{eqb, leb}
 use Rattle.base_lists.proofs.Bools.{both}
 use Rattle.method.specs.Table.{size}
-use Rattle.file_record.specs.Layout.{Below, pfRecord, dyRecord, evRecord, dyRecords, evRecords, fileOf}
+use Rattle.file_record.specs.Layout.{Below, pfRecord, mvRecord, dyRecord, evRecord, mvRecords, dyRecords, evRecords, fileOf}
 use Rattle.base_lists.specs.Ascii.{ascii}
 use Rattle.file_record.specs.declared.Shape.{Shape}
 use Rattle.file_record.specs.declared.Read.the-variants.{File}
-use Rattle.file_record.specs.Reader.{numberAt, opensWith, isRecord, isPF, pfLength, isEV, evLength, isDYof, dyLength, dyDay, run, daysFrom, eventsFrom}
+use Rattle.file_record.specs.Reader.{numberAt, opensWith, isRecord, isPF, pfLength, isMV, mvLength, isEV, evLength, isDYof, dyLength, dyDay, run, movesFrom, daysFrom, eventsFrom}
+use Rattle.file_record.specs.Reader.{movesIn, moveNumbers, listIn}
 use Rattle.file_record.specs.Reader.{fileBase, firstIn, daysIn, dayStart, eventStart, eventsIn, shapeIn, readFile, marksFrom, numbers, readingsFrom, tableIn, eventOf, eventList, contentsIn}
 use Rattle.file_record.specs.Laws.{Accepted}
 use Rattle.file_record.proofs.Numbers.{number-drop}
 use Rattle.file_record.proofs.Bytes.{below-drop, bytes-number, bytes-numbers}
 use Rattle.file_record.proofs.Starts.{day-start-none, day-start-from, day-start-cons}
-use Rattle.file_record.proofs.Records.{day-record, event-record, day-whole, event-whole}
+use Rattle.file_record.proofs.Records.{move-whole, day-record, event-record, day-whole, event-whole}
 use Rattle.file_record.proofs.Runs.{run-more, run-stops, run-full}
 use Rattle.file_record.proofs.Files.{shape-fits, event-start-first, event-start-more, end-is-length}
 use Rattle.file_record.proofs.Lengths.{numbers-length}
@@ -40,9 +41,9 @@ firsts-are (suc n) k left h =
     rw e (ap (λ (l : List ℕ). getD left k 0 ∷ l) (firsts-are n (suc k) left later) ∙ sym (drop-cons left k 0 o))
 
 -- a number of two bytes, taken apart again
-two-low : (left : List ℕ) → Below 256 left → (d : ℕ) → numberAt 2 2 left ≡ d → (d % 256 ≡ getD left 2 0) × (d / 256 % 256 ≡ getD left 3 0)
+two-low : (at : ℕ) (left : List ℕ) → Below 256 left → (d : ℕ) → numberAt 2 at left ≡ d → (d % 256 ≡ getD left at 0) × (d / 256 % 256 ≡ getD left (suc at) 0)
 unfolding numberAt
-two-low left b d e = let x : getD left 2 0 < 256 = b 2 in let y : getD left 3 0 < 256 = b 3 in (omega arith, omega arith)
+two-low at left b d e = let x : getD left at 0 < 256 = b at in let y : getD left (suc at) 0 < 256 = b (suc at) in (omega arith, omega arith)
 
 -- what the tests of a record say
 record Tested (mark : List ℕ) (blank : ℕ) (left : List ℕ) : Type 0 where
@@ -62,6 +63,22 @@ tested size mark blank left t =
       none = eqb-true (getD left blank 0) 0 (last .1);
     }
 
+move-again : (left : List ℕ) → Below 256 left → isMV left ≡ true → mvRecord (numberAt 2 2 left) (numberAt 2 4 left) ++ drop mvLength left ≡ left
+unfolding mvRecord isMV opensWith bytes
+move-again left b t =
+    let k = both (leb mvLength (length left)) (opensWith (ascii "MV") left) t in
+    let m = both (eqb (getD left 0 0) 77) (eqb (getD left 1 0) 86) (k .1) in
+    let six : firsts 6 0 left ++ drop mvLength left ≡ left = firsts-are 6 0 left (move-whole left t) in
+    let old = two-low 2 left b (numberAt 2 2 left) refl in
+    let new = two-low 4 left b (numberAt 2 4 left) refl in
+    let one : getD left 0 0 ≡ 77 = eqb-true (getD left 0 0) 77 (m .0) in
+    let two : getD left 1 0 ≡ 86 = eqb-true (getD left 1 0) 86 (m .1) in
+    let old-low = old .0 in
+    let old-high = old .1 in
+    let new-low = new .0 in
+    let new-high = new .1 in
+    cc
+
 day-again : (d : ℕ) (left : List ℕ) → Below 256 left → isDYof d left ≡ true
     → dyRecord d (getD left 4 0) (numbers (size d) (drop 6 left)) ++ drop (dyLength d) left ≡ left
 unfolding dyRecord bytes
@@ -70,7 +87,7 @@ day-again d left b t =
     let q : Tested (ascii "DY") 5 left = tested (dyLength d) (ascii "DY") 5 left (k .0) in
     let long : dyLength d ≤ length left = day-whole d left t in
     let o : 6 ≤ length left = omega arith in
-    let day = two-low left b d (eqb-true (dyDay left) d (k .1)) in
+    let day = two-low 2 left b d (eqb-true (dyDay left) d (k .1)) in
     let six : firsts 6 0 left ++ drop 6 left ≡ left = firsts-are 6 0 left o in
     let room : 4 * size d ≤ length (drop 6 left) = omega (arith, length-drop 6 left) in
     let rest : readingBytes (numbers (size d) (drop 6 left)) ++ drop (4 * size d) (drop 6 left) ≡ drop 6 left =
@@ -88,7 +105,7 @@ unfolding evRecord eventOf bytes
 event-again left b t =
     let q : Tested (ascii "EV") 7 left = tested evLength (ascii "EV") 7 left (rw event-record at t) in
     let long : evLength ≤ length left = event-whole left t in
-    let day = two-low left b (numberAt 2 2 left) refl in
+    let day = two-low 2 left b (numberAt 2 2 left) refl in
     let eight : firsts 8 0 left ++ drop evLength left ≡ left = firsts-are 8 0 left long in
     let one : getD left 0 0 ≡ 69 = q .one in
     let two : getD left 1 0 ≡ 86 = q .two in
@@ -96,6 +113,29 @@ event-again left b t =
     let low = day .0 in
     let high = day .1 in
     cc
+
+moves-again : (most i : ℕ) (left : List ℕ) → Below 256 left
+    → mvRecords (moveNumbers (run (λ j. isMV) (λ j. mvLength) most i left) left) ++ drop (mvLength * run (λ j. isMV) (λ j. mvLength) most i left) left ≡ left
+unfolding mvRecords moveNumbers
+moves-again zero i left b = rw (run-full (λ j. isMV) (λ j. mvLength) i left)
+moves-again (suc most) i left b = go (isMV left) refl (moves-again most (suc i) (drop mvLength left) (below-drop mvLength left b))
+  where
+    go : (good : Bool) → isMV left ≡ good
+        → mvRecords (moveNumbers (run (λ j. isMV) (λ j. mvLength) most (suc i) (drop mvLength left)) (drop mvLength left))
+        ++ drop (mvLength * run (λ j. isMV) (λ j. mvLength) most (suc i) (drop mvLength left)) (drop mvLength left) ≡ drop mvLength left
+        → mvRecords (moveNumbers (run (λ j. isMV) (λ j. mvLength) (suc most) i left) left) ++ drop (mvLength * run (λ j. isMV) (λ j. mvLength) (suc most) i left) left ≡ left
+    go false e later = rw (run-stops (λ j. isMV) (λ j. mvLength) (suc most) i left e)
+    go true e later =
+        let k = run (λ j. isMV) (λ j. mvLength) most (suc i) (drop mvLength left) in
+        let far : mvLength * suc k ≡ mvLength + mvLength * k = omega arith in
+        rw (
+          run-more (λ j. isMV) (λ j. mvLength) most i left e,
+          append-assoc (mvRecord (numberAt 2 2 left) (numberAt 2 4 left)) (mvRecords (moveNumbers k (drop mvLength left))) (drop (mvLength * suc k) left),
+          far,
+          ← drop-drop (mvLength * k) mvLength left,
+          later,
+        )
+        (move-again left b e)
 
 -- a day, and the days after it
 day-before : (d : ℕ) (left : List ℕ) (h : ℕ) (ms rs : List ℕ) → Below 256 left → isDYof d left ≡ true
@@ -157,8 +197,8 @@ events-again (suc most) i left b = go (isEV left) refl (events-again most (suc i
         )
         (event-again left b e)
 
-file-again : (file : List ℕ) → Below 256 file → isPF file ≡ true → pfRecord (numberAt 2 2 file) (numberAt 4 4 file) ++ drop (fileBase file) file ≡ file
-unfolding fileBase pfRecord isPF opensWith bytes
+file-again : (file : List ℕ) → Below 256 file → isPF file ≡ true → pfRecord (numberAt 2 2 file) (numberAt 4 4 file) ++ drop pfLength file ≡ file
+unfolding pfRecord isPF opensWith bytes
 file-again file b t =
     let k = both (leb pfLength (length file)) (opensWith (ascii "PF") file) t in
     let m = both (eqb (getD file 0 0) 80) (eqb (getD file 1 0) 70) (k .1) in
@@ -169,12 +209,22 @@ file-again file b t =
     let number : bytes 4 (numberAt 4 0 (drop 4 file)) ++ drop 4 (drop 4 file) ≡ drop 4 file = bytes-number 4 (drop 4 file) room (below-drop 4 file b) in
     let at : numberAt 4 0 (drop 4 file) ≡ numberAt 4 4 file = number-drop 4 4 0 file in
     let far : drop 4 (drop 4 file) ≡ drop pfLength file = drop-drop 4 4 file in
-    let day = two-low file b (numberAt 2 2 file) refl in
+    let day = two-low 2 file b (numberAt 2 2 file) refl in
     let low = day .0 in
     let high = day .1 in
     let one : getD file 0 0 ≡ 80 = eqb-true (getD file 0 0) 80 (m .0) in
     let two : getD file 1 0 ≡ 70 = eqb-true (getD file 1 0) 70 (m .1) in
     cc
+
+opening-again : (file : List ℕ) → Below 256 file → isPF file ≡ true
+    → pfRecord (numberAt 2 2 file) (numberAt 4 4 file) ++ mvRecords (listIn file) ++ drop (fileBase file) file ≡ file
+unfolding listIn movesIn movesFrom fileBase
+opening-again file b t =
+    let left = drop pfLength file in
+    append-assoc (pfRecord (numberAt 2 2 file) (numberAt 4 4 file)) (mvRecords (listIn file)) (drop (fileBase file) file)
+    ∙ ap (λ (l : List ℕ). pfRecord (numberAt 2 2 file) (numberAt 4 4 file) ++ l)
+    (rw (← drop-drop (mvLength * movesIn file) pfLength file) (moves-again 16 0 left (below-drop pfLength file b)))
+    ∙ file-again file b t
 
 -- an accepted file is the file of its contents
 pub written-again : (file : List ℕ) (shape : Shape) → Below 256 file → readFile file ≡ File shape → fileOf (contentsIn file) ≡ file
@@ -194,6 +244,7 @@ written-again file shape b r =
     let after : drop (dayStart 0 (firstIn file) (daysIn file)) (drop (fileBase file) file) ≡ left =
     drop-drop (dayStart 0 (firstIn file) (daysIn file)) (fileBase file) file
     ∙ ap (λ (n : ℕ). drop n file) (sym (day-start-from (fileBase file) (firstIn file) (daysIn file)) ∙ sym (event-start-first file)) in
-    append-assoc (pfRecord (numberAt 2 2 file) (numberAt 4 4 file)) dy ev
-    ∙ ap (λ (l : List ℕ). pfRecord (numberAt 2 2 file) (numberAt 4 4 file) ++ l) (ap (λ (l : List ℕ). dy ++ l) (ev-is ∙ sym after) ∙ dys)
-    ∙ file-again file b (q .opens)
+    let opening = pfRecord (numberAt 2 2 file) (numberAt 4 4 file) ++ mvRecords (listIn file) in
+    append-assoc opening dy ev
+    ∙ ap (λ (l : List ℕ). opening ++ l) (ap (λ (l : List ℕ). dy ++ l) (ev-is ∙ sym after) ∙ dys)
+    ∙ opening-again file b (q .opens)

@@ -1,16 +1,20 @@
--- The record file on bytes: the three records as 01 lays them down, and files on both sides of each line.
+-- The record file on bytes: the records as 01 and order 2 of 02 lay them down, and files on both sides of each line.
 use Prim.Native.Nat.{ℕ}
 use mathlib.Core.Path.{_≡_}
 use mathlib.Core.List.{List, [], _∷_, _++_}
 use lib.ListN.{take, replicate}
-use Rattle.file_record.specs.Layout.{pfRecord, dyRecord, evRecord, evRecords, Event}
-use Rattle.file_record.specs.Reader.{readFile}
+use Rattle.file_record.specs.Layout.{pfRecord, mvRecord, dyRecord, evRecord, mvRecords, evRecords, Event}
+use Rattle.file_record.specs.Reader.{readFile, listIn}
 use Rattle.file_record.specs.declared.Read.{Read}
 use Rattle.file_record.specs.declared.Read.the-variants.{File, Refused}
 
 -- P 6900, portfolio 77
 unfoldable pub pf : List ℕ
 pf = pfRecord 6900 77
+
+-- 1 May 2024 is moved to 7 May
+unfoldable pub mv : List ℕ
+mv = mvRecord 8887 8893
 
 -- 01's first event
 abbrev pub event : Event
@@ -23,13 +27,18 @@ ev = evRecord event
 unfoldable pub flat : ℕ → List ℕ
 flat day = dyRecord day 0 (replicate 96 1000)
 
+abbrev pub holding : ℕ → ℕ → ℕ → ℕ → Read
+holding moves first days events =
+    File (record { participation = 6900; portfolio = 77; moves = moves; first = first; days = days; events = events })
+
 abbrev pub holds : ℕ → ℕ → ℕ → Read
-holds first days events = File (record { participation = 6900; portfolio = 77; first = first; days = days; events = events })
+holds first days events = holding 0 first days events
 
 pub record Checks : Type 0 where
   pub pf-bytes : pf ≡ 80 ∷ 70 ∷ 244 ∷ 26 ∷ 77 ∷ 0 ∷ 0 ∷ 0 ∷ []
   pub ev-bytes : ev ≡ 69 ∷ 86 ∷ 60 ∷ 27 ∷ 152 ∷ 156 ∷ 148 ∷ 0 ∷ []
   pub dy-bytes : dyRecord 6951 2 (1000 ∷ 4294967295 ∷ []) ≡ 68 ∷ 89 ∷ 39 ∷ 27 ∷ 2 ∷ 0 ∷ 232 ∷ 3 ∷ 0 ∷ 0 ∷ 255 ∷ 255 ∷ 255 ∷ 255 ∷ []
+  pub mv-bytes : mv ≡ 77 ∷ 86 ∷ 183 ∷ 34 ∷ 189 ∷ 34 ∷ []
   -- an empty file, a cut PF, a foreign one, a PF alone
   pub empty : readFile [] ≡ Refused 0
   pub cut : readFile (take 7 pf) ≡ Refused 0
@@ -50,3 +59,15 @@ pub record Checks : Type 0 where
   pub late-day : readFile (pf ++ flat 6951 ++ ev ++ flat 6952) ≡ Refused 406
   pub last-day : readFile (pf ++ flat 65534 ++ flat 65535) ≡ holds 65534 2 0
   pub no-turn : readFile (pf ++ flat 65535 ++ flat 0) ≡ Refused 398
+  -- an MV, a cut one, 16 of them, a seventeenth; before the PF, after a DY, after an EV; and with all that may come after it
+  pub one-move : readFile (pf ++ mv) ≡ holding 1 0 0 0
+  pub cut-move : readFile (pf ++ mv ++ take 5 mv) ≡ Refused 14
+  pub all-moves : readFile (pf ++ mvRecords (replicate 32 65535) ++ ev) ≡ holding 16 0 0 1
+  pub move-17 : readFile (pf ++ mvRecords (replicate 34 0) ++ ev) ≡ Refused 104
+  pub move-first : readFile (mv ++ pf) ≡ Refused 0
+  pub move-after-day : readFile (pf ++ flat 6951 ++ mv ++ ev) ≡ Refused 398
+  pub move-after-event : readFile (pf ++ ev ++ mv) ≡ Refused 16
+  pub moves-and-day : readFile (pf ++ mv ++ mv ++ flat 6951 ++ ev) ≡ holding 2 6951 1 1
+  -- what it says: the list, in its order
+  pub list-said : listIn (pf ++ mv ++ mvRecord 65535 0 ++ ev) ≡ 8887 ∷ 8893 ∷ 65535 ∷ 0 ∷ []
+  pub no-list : listIn (pf ++ flat 6951 ++ ev) ≡ []

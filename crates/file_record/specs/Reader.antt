@@ -1,6 +1,6 @@
--- 01, "Record file, listing, host entry": which files are as laid down, and what they say. A test or a number of a record looks at the bytes
+-- 01, "Record file, listing, host entry": which files are as laid down, and what they say. MV is of document 02, order 2. A test or a number of a record looks at the bytes
 -- that are left from the record's start on; a byte past the end counts as 0.
-use Prim.Native.Nat.{ℕ, zero, suc, _+_, _*_}
+use Prim.Native.Nat.{ℕ, zero, suc, _+_, _*_, _/_}
 use mathlib.Core.Bool.{Bool, cond, _&&_}
 use mathlib.Core.List.{List, [], _∷_, _++_}
 use lib.ListN.{length, getD, drop}
@@ -12,6 +12,8 @@ use Rattle.base_lists.specs.Ascii.{ascii}
 use Rattle.file_record.specs.declared.Shape.{Shape}
 use Rattle.file_record.specs.declared.Read.{Read}
 use Rattle.file_record.specs.declared.Read.the-variants.{File, Refused}
+use Rattle.file_record.specs.declared.MoveAt.{MoveAt}
+use Rattle.file_record.specs.declared.MoveAt.the-variants.{Move, NoMove, Refused as RefusedMove}
 use Rattle.file_record.specs.declared.EventAt.{EventAt}
 use Rattle.file_record.specs.declared.EventAt.the-variants.{Event as AnEvent, NoEvent, Refused as RefusedEvent}
 
@@ -34,6 +36,13 @@ pfLength = 8
 
 unfoldable pub isPF : List ℕ → Bool
 isPF left = leb pfLength (length left) && opensWith (ascii "PF") left
+
+-- "MV records (6 bytes: mark, two days)"
+abbrev pub mvLength : ℕ
+mvLength = 6
+
+unfoldable pub isMV : List ℕ → Bool
+isMV left = leb mvLength (length left) && opensWith (ascii "MV") left
 
 -- "DY (390 bytes: mark, day 2, mark byte 1, zero 1, 96 readings of 4)", with so many readings
 abbrev pub dyBytes : ℕ → ℕ
@@ -61,6 +70,17 @@ module _ (good : ℕ → List ℕ → Bool) (recordLength : ℕ → ℕ) where
   run zero i left = 0
   run (suc most) i left = let more = run most (suc i) (drop (recordLength i) left) in cond (good i left) (suc more) 0
 
+-- "MV records .. between PF and DY"; "a seventeenth MV is 11 at its start"
+unfoldable pub movesFrom : List ℕ → ℕ
+movesFrom left = run (λ i. isMV) (λ i. mvLength) 16 0 left
+
+unfoldable pub movesIn : List ℕ → ℕ
+movesIn file = movesFrom (drop pfLength file)
+
+-- where the k-th MV starts, counted from 0; after the last of them, where the DY start
+abbrev pub moveStart : ℕ → ℕ
+moveStart k = pfLength + mvLength * k
+
 -- "up to 128 DY .., consecutive days": from day `first` on
 unfoldable pub isDYof : ℕ → List ℕ → Bool
 isDYof day left = isDY left && eqb (dyDay left) day
@@ -72,17 +92,17 @@ daysFrom first left = run isDYof dyLength 128 first left
 unfoldable pub eventsFrom : List ℕ → ℕ
 eventsFrom left = run (λ i. isEV) (λ i. evLength) 64 0 left
 
--- where the DY start: "One PF ..; then up to 128 DY"
+-- where the DY start
 unfoldable pub fileBase : List ℕ → ℕ
-fileBase file = pfLength
+fileBase file = moveStart (movesIn file)
 
 -- the same for a shape that is known
-unfoldable pub shapeBase : Shape → ℕ
-shapeBase shape = pfLength
+abbrev pub shapeBase : Shape → ℕ
+shapeBase shape = moveStart (shape .moves)
 
 -- the most that it is
 abbrev pub mostBase : ℕ
-mostBase = pfLength
+mostBase = moveStart 16
 
 -- the first day; "No DY ..: F counts as 0"
 unfoldable pub firstIn : List ℕ → ℕ
@@ -112,6 +132,7 @@ shapeIn file =
     record {
       participation = numberAt 2 2 file;
       portfolio = numberAt 4 4 file;
+      moves = movesIn file;
       first = firstIn file;
       days = daysIn file;
       events = eventsIn file;
@@ -121,6 +142,15 @@ shapeIn file =
 unfoldable pub readFile : List ℕ → Read
 readFile file =
     cond (isPF file) (cond (eqb (goodEnd file) (length file)) (File (shapeIn file)) (Refused (goodEnd file))) (Refused 0)
+
+-- the numbers of so many MV, two for each
+unfoldable pub moveNumbers : ℕ → List ℕ → List ℕ
+moveNumbers zero left = []
+moveNumbers (suc count) left = numberAt 2 2 left ∷ numberAt 2 4 left ∷ moveNumbers count (drop mvLength left)
+
+-- the list of moves that a file carries
+unfoldable pub listIn : List ℕ → List ℕ
+listIn file = moveNumbers (movesIn file) (drop pfLength file)
 
 -- the mark byte of each of `h` DY, from day `d` on
 unfoldable pub marksFrom : ℕ → ℕ → List ℕ → List ℕ
@@ -159,6 +189,7 @@ contentsIn file =
     record {
       participation = numberAt 2 2 file;
       portfolio = numberAt 4 4 file;
+      moves = listIn file;
       table = tableIn file;
       events = eventList (eventsIn file) (drop (eventStart file 0) file);
     }
@@ -169,6 +200,7 @@ shapeOf c =
     record {
       participation = c .participation;
       portfolio = c .portfolio;
+      moves = length (c .moves) / 2;
       first = c .table .first;
       days = heldDays (c .table);
       events = length (c .events);
@@ -186,3 +218,11 @@ requestAt file place = requestOf (numberAt 2 2 file) (eventOf (drop (eventStart 
 abbrev pub eventAtPlace : Read → List ℕ → ℕ → EventAt
 eventAtPlace (File shape) file place = cond (ltb place (shape .events)) (AnEvent (requestAt file place)) NoEvent
 eventAtPlace (Refused at) file place = RefusedEvent at
+
+-- the move at a place, counted from 0
+unfoldable pub moveAt : List ℕ → ℕ → MoveAt
+moveAt file place = let left = drop (moveStart place) file in Move (numberAt 2 2 left) (numberAt 2 4 left)
+
+abbrev pub moveAtPlace : Read → List ℕ → ℕ → MoveAt
+moveAtPlace (File shape) file place = cond (ltb place (shape .moves)) (moveAt file place) NoMove
+moveAtPlace (Refused at) file place = RefusedMove at

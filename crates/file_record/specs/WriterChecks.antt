@@ -1,4 +1,4 @@
--- The writer on both sides of each line of order 1.
+-- The writer on both sides of each line of order 1, and of what order 2 adds.
 use Prim.Native.Nat.{ℕ}
 use mathlib.Core.Path.{_≡_}
 use mathlib.Core.List.{List, [], _∷_, _++_}
@@ -6,13 +6,17 @@ use lib.ListN.{replicate}
 use Rattle.method.specs.declared.Refusal.the-variants.{BadTable, NoRoom, Unwritable}
 use Rattle.file_record.specs.Layout.{fileOf}
 use Rattle.file_record.specs.Writer.{Lent, lent, said, writing, leaving}
-use Rattle.file_record.specs.Checks.{pf, ev, flat}
+use Rattle.file_record.specs.Checks.{pf, mv, ev, flat}
 use Rattle.file_record.specs.declared.Written.{Written}
 use Rattle.file_record.specs.declared.Written.the-variants.{Length, Refused}
 
 -- P 6900 and portfolio 77, so many days from `first` on with so many readings, all 1000, and these events
 abbrev pub given : ℕ → ℕ → ℕ → List ℕ → Lent
-given first days readings numbers = lent 6900 77 first (replicate days 0) (replicate readings 1000) numbers
+given first days readings numbers = lent 6900 77 first (replicate days 0) (replicate readings 1000) [] numbers
+
+-- no days, and these moves
+abbrev pub moves : List ℕ → Lent
+moves numbers = lent 6900 77 0 [] [] numbers []
 
 -- no days, and these events
 abbrev pub events : List ℕ → Lent
@@ -43,8 +47,8 @@ pub record WriterChecks : Type 0 where
   -- what two bytes hold: the days up to 65535, past the calendar too, P and D; what one holds: s, e and n
   pub day-65535 : writing (given 65535 1 96 []) 398 ≡ Length 398
   pub day-65536 : writing (given 65535 2 192 []) 788 ≡ Refused Unwritable
-  pub participation-65535 : writing (lent 65535 77 0 [] [] []) 8 ≡ Length 8
-  pub participation-65536 : writing (lent 65536 77 0 [] [] []) 8 ≡ Refused Unwritable
+  pub participation-65535 : writing (lent 65535 77 0 [] [] [] []) 8 ≡ Length 8
+  pub participation-65536 : writing (lent 65536 77 0 [] [] [] []) 8 ≡ Refused Unwritable
   pub all-fields : fields 65535 255 255 255 ≡ Length 16
   pub event-65536 : fields 65536 255 255 255 ≡ Refused Unwritable
   pub start-256 : fields 65535 256 255 255 ≡ Refused Unwritable
@@ -54,6 +58,14 @@ pub record WriterChecks : Type 0 where
   pub events-64 : writing (events (replicate 256 0)) 520 ≡ Length 520
   pub events-65 : writing (events (replicate 260 0)) 528 ≡ Refused Unwritable
   pub five-numbers : writing (events (replicate 5 0)) 520 ≡ Refused Unwritable
+  -- 16 moves and 17; half a move; what its two bytes hold
+  pub moves-16 : writing (moves (replicate 32 0)) 104 ≡ Length 104
+  pub moves-17 : writing (moves (replicate 34 0)) 110 ≡ Refused Unwritable
+  pub half-a-move : writing (moves (replicate 3 0)) 110 ≡ Refused Unwritable
+  pub move-65535 : writing (moves (65535 ∷ 65535 ∷ [])) 14 ≡ Length 14
+  pub old-65536 : writing (moves (65536 ∷ 0 ∷ [])) 14 ≡ Refused Unwritable
+  pub new-65536 : writing (moves (0 ∷ 65536 ∷ [])) 14 ≡ Refused Unwritable
   -- what stands in the buffer: the records in their order, and the rest kept; refused, all of it
   pub stands : left (given 6951 1 96 (6972 ∷ 152 ∷ 156 ∷ 148 ∷ [])) 408 ≡ pf ++ flat 6951 ++ ev ++ (170 ∷ 170 ∷ [])
+  pub moves-stand : left (lent 6900 77 0 [] [] (8887 ∷ 8893 ∷ []) (6972 ∷ 152 ∷ 156 ∷ 148 ∷ [])) 23 ≡ pf ++ mv ++ ev ++ (170 ∷ [])
   pub keeps : left (events []) 7 ≡ replicate 7 170

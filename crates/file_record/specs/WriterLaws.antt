@@ -26,7 +26,14 @@ numbersOf [] = []
 numbersOf (v ∷ events) = v .day ∷ v .s ∷ v .e ∷ v .n ∷ numbersOf events
 
 abbrev pub toSay : Contents → Lent
-toSay c = record { participation = c .participation; portfolio = c .portfolio; table = c .table; numbers = numbersOf (c .events) }
+toSay c =
+    record {
+      participation = c .participation;
+      portfolio = c .portfolio;
+      table = c .table;
+      moves = c .moves;
+      numbers = numbersOf (c .events);
+    }
 
 -- a file that some call wrote: it stands first in the buffer, and its length was reported
 pub record Wrote (w : Lent) (file : List ℕ) : Type 0 where
@@ -37,7 +44,8 @@ pub record Wrote (w : Lent) (file : List ℕ) : Type 0 where
 
 pub record WriterLaws : Type 0 where
   -- "report its length"
-  pub long : (w : Lent) (file : List ℕ) → Wrote w file → length file ≡ 8 + 390 * heldDays (w .table) + 8 * (length (w .numbers) / 4)
+  pub long : (w : Lent) (file : List ℕ) → Wrote w file
+      → length file ≡ 8 + 6 * (length (w .moves) / 2) + 390 * heldDays (w .table) + 8 * (length (w .numbers) / 4)
   -- "What is written reads back as the same values"
   pub reads-back : (w : Lent) (file : List ℕ) → Wide w → Wrote w file → (readFile file ≡ File (shapeOf (said w))) × (toSay (contentsIn file) ≡ w)
   -- no two that are accepted give the same file

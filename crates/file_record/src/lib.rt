@@ -2,10 +2,12 @@
 use method::Refusal;
 use method::Request;
 
-// What a whole file holds: P, the portfolio number, the first day, and how many days and events.
+// What a whole file holds: P, the portfolio number, how many moves, the first day, and how many days and events. Whatever number a byte holds, so many moves
+// end within 32 bits.
 pub struct Shape {
     pub participation: u32,
     pub portfolio: u32,
+    pub moves: u8,
     pub first: u32,
     pub days: u32,
     pub events: u32,
@@ -20,6 +22,13 @@ pub struct Span {
 // A file, or refusal 11 with the start of the record that is not as laid down.
 pub enum Read {
     File(Shape),
+    Refused(u32),
+}
+
+// The move at a place: the holiday that is moved, and the day that replaces it; none; or refusal 11.
+pub enum MoveAt {
+    Move { old: u32, new: u32 },
+    NoMove,
     Refused(u32),
 }
 

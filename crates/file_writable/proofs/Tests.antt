@@ -1,16 +1,17 @@
 -- The tests of what a file can say: one law for each way out of the code.
 use Prim.Native.Nat.{ℕ, _+_, _*_, _/_, _^_, _≤_, _<_}
 use mathlib.Core.Path.{_≡_, refl, sym, _∙_}
-use mathlib.Core.Bool.{Bool, true, false, and-false}
+use mathlib.Core.Bool.{Bool, true, false, _&&_, and-false, true≢false}
 use mathlib.Core.List.{List}
 use native.Mathlib.Omega.{arith}
 use borrow.Author.Tests.{le-leb, lt-leb}
 use lib.ListN.{length, drop}
 use lib.Dec.{ltb, eqb}
 use Rattle.base_lists.specs.Lists.{all}
+use Rattle.base_lists.proofs.Bools.{both}
 use Rattle.method.specs.Table.{offset}
-use Rattle.file_record.specs.Layout.{fitsEvent}
-use Rattle.file_record.specs.Writer.{eventsOf, matching, inBounds, sayable}
+use Rattle.file_record.specs.Layout.{fitsDay, fitsEvent}
+use Rattle.file_record.specs.Writer.{eventsOf, matching, daysInBounds, fewOf, sayable}
 use Rattle.file_record.proofs.Writing.{event-at, events-more, events-none}
 
 -- refusal 1
@@ -38,17 +39,35 @@ module _ (numbers : List ℕ) (i : ℕ) {whole : Bool} (left : all fitsEvent (ev
   none-left h = sym (rw (events-none numbers i h) refl) ∙ left
 
 -- refusal 13
-module _ (participation first days numbers : ℕ) where
-  pub days-over : 256 ^ 2 < days → false ≡ inBounds participation first days numbers
-  unfolding inBounds
+module _ (participation first days : ℕ) where
+  pub days-over : 256 ^ 2 < days → false ≡ daysInBounds participation first days
+  unfolding daysInBounds
   days-over h = let over : 256 ^ 2 < first + days = omega arith in rw (lt-leb (first + days) (256 ^ 2) over, and-false (ltb participation (256 ^ 2))) refl
 
-module _ (participation first days : ℕ) (numbers : List ℕ) where
-  pub say-events : {b fit : Bool} → b ≡ inBounds participation first days (length numbers) → b ≡ true → fit ≡ all fitsEvent (eventsOf numbers)
-      → fit ≡ sayable participation first days numbers
-  unfolding sayable
-  say-events e t f = rw (sym e ∙ t) f
+  module _ (moves numbers : List ℕ) {b m e : Bool} (bounds : b ≡ daysInBounds participation first days) (few : m ≡ fewOf 2 16 (length moves))
+      (events : e ≡ fewOf 4 64 (length numbers)) where
+    abbrev moved : Bool
+    moved = all fitsDay moves
 
-  pub say-early : {b : Bool} → b ≡ inBounds participation first days (length numbers) → b ≡ false → false ≡ sayable participation first days numbers
-  unfolding sayable
-  say-early e t = rw (sym e ∙ t)
+    abbrev fields : Bool
+    fields = all fitsEvent (eventsOf numbers)
+
+    tests : ((((b && m) && moved) && e) && fields) ≡ sayable participation first days moves numbers
+    unfolding sayable
+    tests = rw (bounds, few, events) refl
+
+    pub say-events : (b && m && e) ≡ true → {fit all-fit : Bool} → fit ≡ moved → fit ≡ true → all-fit ≡ fields → all-fit ≡ sayable participation first days moves numbers
+    say-events t f y a =
+        let k = both (b && m) e t in
+        a ∙ sym (rw (k .0, sym f ∙ y, k .1) refl) ∙ tests
+
+    pub say-moves : {fit : Bool} → fit ≡ moved → fit ≡ false → false ≡ sayable participation first days moves numbers
+    say-moves f n = sym (rw (sym f ∙ n, and-false (b && m)) refl) ∙ tests
+
+    pub say-early : (b && m && e) ≡ false → false ≡ sayable participation first days moves numbers
+    say-early n = go (b && m) e refl n ∙ tests
+      where
+        go : (x y : Bool) → (b && m) ≡ x → (x && y) ≡ false → false ≡ (((x && moved) && y) && fields)
+        go true true s n = absurd (true≢false n)
+        go true false s n = rw (and-false moved) refl
+        go false y s n = refl

@@ -1,10 +1,12 @@
-// What a record file can say (document 02, order 1): the tests of refusals 1 and 13.
+// What a record file can say (document 02, orders 1 and 2): the tests of refusals 1 and 13.
 ghost use mathlib.Core.Path.{_≡_};
+ghost use Prim.Native.Nat.{_<_};
 ghost use Rattle.base_lists.specs.Lists.{all};
-ghost use Rattle.file_record.specs.Layout.{fitsEvent};
-ghost use Rattle.file_record.specs.Writer.{eventsOf, matching, inBounds, sayable};
+ghost use Rattle.file_record.specs.Layout.{fitsDay, fitsEvent};
+ghost use Rattle.file_record.specs.Writer.{eventsOf, matching, daysInBounds, fewOf, sayable};
 use file_starts::MOST_DAYS;
 use file_starts::MOST_EVENTS;
+use file_starts::MOST_MOVES;
 
 // What two bytes hold, and what one holds, is below these.
 const TWO_BYTES: u32 = 65536;
@@ -45,26 +47,53 @@ fn all_fit(events: &[u32]) -> bool
     true
 }
 
-// Whether P and the days fit their bytes, and whether there are four numbers for each of at most 64 events.
-fn in_bounds(participation: u32, first: u32, days: usize, numbers: usize) -> bool
-    ensures { λ r. ⌜ r ≡ inBounds participation first days numbers ⌝ }
+// Whether every day of a list of moves fits its bytes.
+fn moves_fit(moves: &[u32]) -> bool
+    ensures { λ r. ⌜ r ≡ all fitsDay (now (moves .entry)) ⌝ }
+{
+    let mut fit = true;
+    for i in 0..moves.len() {
+        fit = fit & (moves[i] < TWO_BYTES);
+    }
+    fit
+}
+
+// Whether so many numbers are `each` for every one of at most so many.
+fn few_of(each: usize, most: usize, numbers: usize) -> bool
+    requires { ⌜ 0 < each ⌝ }
+    ensures { λ r. ⌜ r ≡ fewOf each most numbers ⌝ }
+{
+    (numbers % each == 0) & (numbers / each <= most)
+}
+
+// Whether P and the days fit their bytes.
+fn in_bounds(participation: u32, first: u32, days: usize) -> bool
+    ensures { λ r. ⌜ r ≡ daysInBounds participation first days ⌝ }
 {
     if (TWO_BYTES as usize) < days {
         return false;
     }
     let end = (first as usize) + days;
-    ((((participation < TWO_BYTES) & (end <= TWO_BYTES as usize)) & ((0 < days) | (first == 0)))
-        & (numbers % 4 == 0))
-        & (numbers / 4 <= MOST_EVENTS as usize)
+    ((participation < TWO_BYTES) & (end <= TWO_BYTES as usize)) & ((0 < days) | (first == 0))
 }
 
-// Whether refusal 13 lets P, so many days from the first on and these events pass.
-pub fn is_sayable(participation: u32, first: u32, days: usize, events: &[u32]) -> bool
-    ensures { λ r. ⌜ r ≡ sayable participation first days (now (events .entry)) ⌝ }
+// Whether refusal 13 lets P, so many days from the first on, these moves and these events pass.
+pub fn is_sayable(
+    participation: u32,
+    first: u32,
+    days: usize,
+    moves: &[u32],
+    events: &[u32],
+) -> bool
+    ensures { λ r. ⌜ r ≡ sayable participation first days (now (moves .entry)) (now (events .entry)) ⌝ }
 {
-    if in_bounds(participation, first, days, events.len()) {
-        all_fit(events)
-    } else {
-        false
+    let in_bounds = in_bounds(participation, first, days);
+    let few_moves = few_of(2, MOST_MOVES as usize, moves.len());
+    let few_events = few_of(4, MOST_EVENTS as usize, events.len());
+    if (in_bounds & few_moves) & few_events {
+        if moves_fit(moves) {
+            return all_fit(events);
+        }
     }
+    false
 }

@@ -2,7 +2,7 @@
 use Prim.Native.Nat.{ℕ, suc, _+_, _-_, _*_, _/_, _^_, _≤_, _<_}
 use mathlib.Core.Path.{_≡_, refl, sym, ap, _∙_}
 use mathlib.Core.Bool.{true, _&&_}
-use mathlib.Core.List.{List, [], _++_, append-nil, append-assoc}
+use mathlib.Core.List.{List, [], _∷_, _++_, append-nil, append-assoc}
 use native.Mathlib.Omega.{arith}
 use native.Mathlib.Nat.{add-zero}
 use native.Mathlib.Numerals.{add-one}
@@ -19,11 +19,11 @@ use Rattle.base_bytes.proofs.Filling.{Filling, filling-none, filling-part, fill
 use Rattle.method.specs.Table.{size, offset}
 use Rattle.method.proofs.Tables.{offset-add, offset-suc}
 use Rattle.file_record.specs.declared.Shape.{Shape}
-use Rattle.file_record.specs.Layout.{pfRecord, fileOf, dyRecord, dyRecords, evRecord, evRecords, fitsEvent}
-use Rattle.file_record.specs.Reader.{dyLength, evLength, shapeBase, dayStart}
+use Rattle.file_record.specs.Layout.{pfRecord, mvRecord, mvRecords, fileOf, dyRecord, dyRecords, evRecord, evRecords, fitsEvent}
+use Rattle.file_record.specs.Reader.{pfLength, mvLength, dyLength, evLength, shapeBase, dayStart}
 use Rattle.file_record.specs.Writer.{eventsOf, said}
 use Rattle.file_record.proofs.Starts.{day-start-none, day-start-more, day-start-within, day-start-from}
-use Rattle.file_record.proofs.Back.{day-length, days-length, events-length}
+use Rattle.file_record.proofs.Back.{moves-length, day-length, days-length, events-length}
 use Rattle.file_record.proofs.Writing.{event-at, events-more, events-none, events-count}
 use Rattle.file_putting.proofs.Putting.{put-exactly}
 use Rattle.file_writing.specs.Steps.{lentBy, Shaped}
@@ -42,6 +42,40 @@ pub record Bounds (first h k start end since to : ℕ) : Type 0 where
   pub days : end ≤ dayStart 0 first h
   pub part : to ≡ since + size (first + k)
   pub parts : to ≤ offset first h
+
+-- the moves: `i` are put
+module _ (moves : List ℕ) (i : ℕ) where
+  abbrev pub movesLeft : List ℕ
+  movesLeft = mvRecords (drop (2 * i) moves)
+
+  left-moves : 2 * i + 2 ≤ length moves → movesLeft ≡ mvRecord (getD moves (2 * i) 0) (getD moves (2 * i + 1) 0) ++ mvRecords (drop (2 * (i + 1)) moves)
+  unfolding mvRecords
+  left-moves h =
+      let next : 2 * (i + 1) ≡ suc (suc (2 * i)) = omega arith in
+      rw (drop-cons moves (2 * i) 0 (omega arith), drop-cons moves (suc (2 * i)) 0 (omega arith), next, add-one (2 * i)) refl
+
+  pub move-put : {before whole now part : List ℕ} → Filling before whole now movesLeft (mvLength * i) → i < length moves / 2
+      → mvLength * (length moves / 2) ≤ length now
+      → part ≡ putFirst (mvRecord (getD moves (2 * i) 0) (getD moves (2 * i + 1) 0)) (midOf (mvLength * i) (mvLength * i + mvLength - mvLength * i) now)
+      → Filling before whole (putMid (mvLength * i) (mvLength * i + mvLength - mvLength * i) now part) (mvRecords (drop (2 * (i + 1)) moves)) (mvLength * (i + 1))
+  unfolding mvRecord bytes
+  move-put q more room p =
+      let next : mvLength * (i + 1) ≡ mvLength * i + mvLength = omega arith in
+      rw next
+      (record-put q (mvRecord (getD moves (2 * i) 0) (getD moves (2 * i + 1) 0)) (mvRecords (drop (2 * (i + 1)) moves)) (mvLength * i + mvLength) (omega arith)
+      (omega arith) (omega arith) (left-moves (omega arith)) p)
+
+-- none is left
+pub moves-put : {before now : List ℕ} (moves : List ℕ) (i : ℕ) → Filling before (mvRecords moves) now (movesLeft moves i) (mvLength * i)
+    → i ≡ length moves / 2 → length before ≡ mvLength * (length moves / 2) → now ≡ mvRecords moves
+moves-put {before} moves i q e long =
+    let all : length before ≤ mvLength * i = omega arith in
+    filled q (none (drop (2 * i) moves) (omega (arith, length-drop (2 * i) moves))) ∙ rw (drop-of-length-le before all) (append-nil (mvRecords moves))
+  where
+    none : (l : List ℕ) → length l ≤ 1 → mvRecords l ≡ []
+    none [] h = unfold mvRecords in refl
+    none (old ∷ []) h = unfold mvRecords in refl
+    none (old ∷ new ∷ more) h = absurd (omega arith)
 
 -- the days: `k` are put
 module _ (first : ℕ) (marks readings : List ℕ) (k : ℕ) where
@@ -148,10 +182,34 @@ events-put {before} numbers i q e long =
     let all : length before ≤ evLength * i = omega arith in
     filled q (rw (events-none numbers i none) refl) ∙ rw (drop-of-length-le before all) (append-nil (evRecords (eventsOf numbers)))
 
+-- the PF, and then the MV
+module _ (participation portfolio : ℕ) (moves out : List ℕ) (long : length out ≡ pfLength + mvLength * (length moves / 2)) where
+  abbrev pf : List ℕ
+  pf = pfRecord participation portfolio
+
+  with-pf : {part : List ℕ} → part ≡ putFirst pf (midOf 0 (pfLength - 0) out) → Filling out (pf ++ mvRecords moves) (putMid 0 (pfLength - 0) out part) (mvRecords moves) pfLength
+  unfolding pfRecord bytes
+  with-pf p = record-put (filling-none out (pf ++ mvRecords moves)) pf (mvRecords moves) pfLength (omega arith) (omega arith) refl refl p
+
+  module _ {first-part : List ℕ} (p : first-part ≡ putFirst pf (midOf 0 (pfLength - 0) out)) where
+    abbrev opened-pf : List ℕ
+    opened-pf = putMid 0 (pfLength - 0) out first-part
+
+    pub moves-room : length (midOf pfLength (length out - pfLength) opened-pf) ≡ mvLength * (length moves / 2)
+    moves-room = mid-len pfLength (length out) opened-pf (omega (arith, with-pf p .long)) ∙ omega arith
+
+    pub opening-put : {part : List ℕ} → part ≡ mvRecords moves → putMid pfLength (length out - pfLength) opened-pf part ≡ pf ++ mvRecords moves
+    opening-put {part} m =
+        let size : length part ≡ length out - pfLength = ap length m ∙ moves-length moves ∙ omega arith in
+        let all : length out ≤ length out = omega arith in
+        filled (filling-part (with-pf p) part [] (length out) (omega arith) (omega (arith, with-pf p .long)) size (rw m (sym (append-nil (mvRecords moves))))) refl
+        ∙ rw (drop-of-length-le out all) (append-nil (pf ++ mvRecords moves))
+
 -- the whole file: opening, days and events
-module _ {shape : Shape} {start : ℕ} {marks readings numbers out : List ℕ} (q : Shaped shape start marks readings numbers out) {base : ℕ} (b : base ≡ shapeBase shape) where
+module _ {shape : Shape} {start : ℕ} {marks readings moves numbers out : List ℕ} (q : Shaped shape start marks readings moves numbers out) {base : ℕ}
+    (b : base ≡ shapeBase shape) where
   abbrev opening : List ℕ
-  opening = pfRecord (shape .participation) (shape .portfolio)
+  opening = pfRecord (shape .participation) (shape .portfolio) ++ mvRecords moves
 
   abbrev days : List ℕ
   days = dyRecords (shape .first) marks readings
@@ -160,11 +218,11 @@ module _ {shape : Shape} {start : ℕ} {marks readings numbers out : List ℕ} (
   events = evRecords (eventsOf numbers)
 
   abbrev file : List ℕ
-  file = fileOf (said (lentBy shape marks readings numbers))
+  file = fileOf (said (lentBy shape marks readings moves numbers))
 
   opening-long : length opening ≡ base
-  unfolding pfRecord bytes shapeBase
-  opening-long = sym b
+  unfolding pfRecord bytes
+  opening-long = omega (arith, q .pairs, moves-length moves)
 
   pub record Places : Type 0 where
     pub opens : base ≤ start
@@ -177,12 +235,16 @@ module _ {shape : Shape} {start : ℕ} {marks readings numbers out : List ℕ} (
       let d = day-start-from (shapeBase shape) (shape .first) (length marks) in
       record { opens = omega arith; ends = omega (arith, q .whole); wide = omega arith }
 
-  opened : {part : List ℕ} → part ≡ putFirst opening (midOf 0 (base - 0) out) → Filling out file (putMid 0 (base - 0) out part) (days ++ events) base
+  opened : {part : List ℕ} → part ≡ opening → Filling out file (putMid 0 (base - 0) out part) (days ++ events) base
   unfolding fileOf
-  opened p =
-      record-put (filling-none out file) opening (days ++ events) base (omega arith) (omega (arith, places)) (opening-long ∙ omega arith) (append-assoc opening days events) p
+  opened {part} p =
+      filling-part (filling-none out file) part (days ++ events) base (omega arith) (omega (arith, places)) (ap length p ∙ opening-long ∙ omega arith)
+      (rw p (append-assoc opening days events))
 
-  module _ {first-part : List ℕ} (p : first-part ≡ putFirst opening (midOf 0 (base - 0) out)) where
+  pub opening-room : length (midOf 0 (base - 0) out) ≡ shapeBase shape
+  opening-room = mid-len 0 base out (omega (arith, places)) ∙ omega arith
+
+  module _ {first-part : List ℕ} (p : first-part ≡ opening) where
     abbrev now : List ℕ
     now = putMid 0 (base - 0) out first-part
 

@@ -12,11 +12,12 @@ use Rattle.file_record.specs.Reader.{evLength, shapeBase, dayStart}
 use Rattle.file_record.specs.Writer.{Lent, lent, eventsOf}
 
 -- what is lent, by the shape of its file
-abbrev pub lentBy : Shape → List ℕ → List ℕ → List ℕ → Lent
-lentBy shape marks readings numbers = lent (shape .participation) (shape .portfolio) (shape .first) marks readings numbers
+abbrev pub lentBy : Shape → List ℕ → List ℕ → List ℕ → List ℕ → Lent
+lentBy shape marks readings moves numbers = lent (shape .participation) (shape .portfolio) (shape .first) marks readings moves numbers
 
 -- the lists are of this shape, and the buffer has as many bytes as the file
-pub record Shaped (shape : Shape) (start : ℕ) (marks readings numbers out : List ℕ) : Type 0 where
+pub record Shaped (shape : Shape) (start : ℕ) (marks readings moves numbers out : List ℕ) : Type 0 where
+  pub pairs : shape .moves ≡ length moves / 2
   pub few : length marks ≤ 128
   pub last : shape .first + length marks ≤ 256 ^ 2
   pub size : length readings ≡ offset (shape .first) (length marks)

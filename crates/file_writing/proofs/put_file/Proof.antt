@@ -1,6 +1,6 @@
 -- `file_writing::put_file` meets its contract: its records are put one after the other.
 use native.Mathlib.Omega.{arith}
-use Rattle.file_writing.proofs.Records.{places, days-room, file-put}
+use Rattle.file_writing.proofs.Records.{places, opening-room, days-room, file-put}
 use borrow.Author.Needs.{needs}
 use Rattle.file_writing.proofs.put_file.Statement.{statement}
 use Rattle.file_writing.proofs.put_file.Tie as tie
@@ -18,23 +18,25 @@ part-put-opening-start : tie.Need-part-put-opening-start
 part-put-opening-start c = search needs
 
 part-put-opening-end : tie.Need-part-put-opening-end
-part-put-opening-end c = omega (arith, places (c .before .before .before .before .before .pre) (c .base .ensures))
+part-put-opening-end c = omega (arith, places (c .before .before .before .before .before .before .pre) (c .base .ensures))
 
 put-opening-requires : tie.Need-put-opening-requires
-put-opening-requires c κs = search needs
+put-opening-requires c κs =
+    let pre = c .before .before .before .before .before .before .before .pre in
+    (opening-room pre (c .before .base .ensures), pre .pairs)
 
 sub-put-days : tie.Need-sub-put-days
-sub-put-days c = omega (arith, places (c .before .before .before .before .before .before .before .before .before .pre) (c .before .before .before .before .base .ensures))
+sub-put-days c = omega (arith, places (c .before .before .before .before .before .before .before .before .before .before .pre) (c .before .before .before .before .base .ensures))
 
 part-put-days-start : tie.Need-part-put-days-start
-part-put-days-start c = omega (arith, places (c .before .before .before .before .before .before .before .before .before .pre) (c .before .before .before .before .base .ensures))
+part-put-days-start c = omega (arith, places (c .before .before .before .before .before .before .before .before .before .before .pre) (c .before .before .before .before .base .ensures))
 
 part-put-days-end : tie.Need-part-put-days-end
 part-put-days-end c = search needs
 
 put-days-requires : tie.Need-put-days-requires
 put-days-requires c κs =
-    let pre = c .before .before .before .before .before .before .before .before .before .before .pre in
+    let pre = c .before .before .before .before .before .before .before .before .before .before .before .pre in
     (pre .few, pre .last, pre .size, days-room pre (c .before .before .before .before .before .base .ensures) (c .before .before .before .put-opening .ensures))
 
 sub-put-events : tie.Need-sub-put-events
@@ -54,7 +56,7 @@ same-length c = search needs
 
 returns : tie.Need-returns
 returns c =
-    file-put (c .before .before .before .before .before .before .before .before .before .before .before .before .before .before .before .before .before .pre) (c .before .before .before .before .before .before .before .before .before .before .before .before .base .ensures) (c .before .before .before .before .before .before .before .before .before .before .put-opening .ensures) (c .before .before .before .before .before .before .put-days .ensures) (c .before .before .put-events .ensures)
+    file-put (c .before .before .before .before .before .before .before .before .before .before .before .before .before .before .before .before .before .before .pre) (c .before .before .before .before .before .before .before .before .before .before .before .before .base .ensures) (c .before .before .before .before .before .before .before .before .before .before .put-opening .ensures) (c .before .before .before .before .before .before .put-days .ensures) (c .before .before .put-events .ensures)
 
 pub put-file-spec : {M : Type 1} → statement M
 put-file-spec =
