@@ -25,8 +25,16 @@
  * that can be seen: the baseline is then adjusted by the three hours before 14:00 of the day before, and is another number. (Where n is below 12, or
  * a reading of the twelve quarters before it is missing, the latest twelve in a row that are all present and end at or before s are taken.)
  *
+ * Eight holidays have a fixed date: 1 and 6 January, 25 March, 1 May, 15 August, 28 October, 25 and 26 December. A decree can move one: in 2024 the
+ * day off for 1 May was 7 May. No rule of the calendar tells which were moved, so a call over a table is lent a list of moves, up to 16, two numbers
+ * for each: the fixed-date holiday, and the day that replaces it, any day up to 36524, which is then a holiday. The fixed-date holiday is then none,
+ * unless it is also one of Easter's or some move's second day; and a Sunday stays in the holiday group, moved or not. A record file has its list in
+ * it. Whoever sends the readings has to send the list: a move with a day among the event day and the 45 days before it can change which days are
+ * chosen, and without it the answer is a plausible number over the wrong days. Where none was moved, NULL and 0 are lent.
+ *
  * A record file holds these records in this order and nothing else; numbers have the low byte first:
  *   one PF       8 bytes: the letters PF, P (2 bytes), the portfolio's number (4)
+ *   up to 16 MV  6 bytes each: the letters MV, a fixed-date holiday (2), the day that replaces it (2)
  *   up to 128 DY 390 bytes each, consecutive days: the letters DY, the day (2), its mark (1), a zero byte, 96 readings (4 each)
  *   up to 64 EV  8 bytes each: the letters EV, D (2), s, e, n (1 each), a zero byte
  *
@@ -42,19 +50,19 @@
 #include <stdint.h>
 
 #define HP_VERSION_MAJOR 0
-#define HP_VERSION_MINOR 4
+#define HP_VERSION_MINOR 5
 #define HP_VERSION_PATCH 0
-#define HP_VERSION "0.4.0"
+#define HP_VERSION "0.5.0"
 /* What hp_version() gives where the library is of this header. Before 1.0.0 another second number may break callers: the soname has both. */
 #define HP_VERSION_NUMBER (10000 * HP_VERSION_MAJOR + 100 * HP_VERSION_MINOR + HP_VERSION_PATCH)
 
-/* Stack, in bytes, that is enough for any entry but hp_listing: the entries over a file hold there its marks, and the readings of the event
- * day and the 45 days before it (17,800 bytes). hp_listing, whatever out_len is, has room there for all days of a file and for any listing. */
+/* Stack, in bytes, that is enough for any entry but hp_listing: the entries over a file hold there its marks, its moves, and the readings of the event
+ * day and the 45 days before it (17,928 bytes). hp_listing, whatever out_len is, has room there for all days of a file and for any listing. */
 #define HP_STACK 28672
 #define HP_STACK_LISTING 327680
 
-/* What an entry gives back. The refusals are tested in this order: 11, 12, then 1 to 10; hp_write has an order of its own. After the colon: what it
- * carries (HP_CARRIED, HP_CARRIED_SECOND). */
+/* What an entry gives back. The refusals are tested in this order: 11, 12, then 1, 2, 3, 14 and 4 to 10; hp_write has an order of its own. After the
+ * colon: what it carries (HP_CARRIED, HP_CARRIED_SECOND). */
 #define HP_ANSWERED 0
 #define HP_BAD_FILE 11              /* the file is not as laid down: byte offset of the first record that is not */
 #define HP_NO_EVENT 12              /* the file has no event at that place: nothing */
@@ -69,6 +77,8 @@
 #define HP_TOO_FEW 9                /* too few days to choose from: how many there are; the reach */
 #define HP_NO_ADJUSTMENT_WINDOW 10  /* no twelve quarters in a row are present: the reach */
 #define HP_UNWRITABLE 13            /* hp_write alone: no record file says this: nothing */
+#define HP_BAD_MOVES 14             /* after 3 and before 4: more than 16 moves, or not two numbers for each; a day after 36524; a first day that is
+                                       no fixed-date holiday; or the same first day twice: nothing */
 
 /* Days, and how many of what there are. */
 #define HP_QUARTERS 96     /* quarters of a day, and so readings of a day */
@@ -76,6 +86,7 @@
 #define HP_LOOK_BACK 45    /* days before the event that are looked at: with so many held before it, HP_MARGIN_TOO_SHORT never comes */
 #define HP_MOST_DAYS 128   /* days of a table or a file, at most */
 #define HP_MOST_EVENTS 64  /* events of a file, at most */
+#define HP_MOST_MOVES 16   /* moves of a list or a file, at most */
 
 /* Readings and marks. */
 #define HP_HIGHEST 10000000u    /* the highest reading, in kW */
@@ -84,7 +95,7 @@
 #define HP_MARK_OUTAGE 2        /* outage or force majeure */
 
 /* The names of what can be asked, one number a call. No two names are the same number, and what an entry does not tell is HP_NOTHING: a name
- * that does not exist, a name of another entry, a day past the last one chosen, what a refusal does not carry. */
+ * that does not exist, a name of another entry, a day past the last one chosen, a move past the last one, what a refusal does not carry. */
 #define HP_NOTHING INT64_MIN
 /* Of every entry that is asked by a name: */
 #define HP_RESULT 0          /* HP_ANSWERED, or the number of the refusal */
@@ -106,11 +117,15 @@
 #define HP_FILE_FIRST 14          /* F, the first day held; 0 where none is */
 #define HP_FILE_DAYS 15           /* h, how many days are held */
 #define HP_FILE_EVENTS 16         /* how many events there are */
+#define HP_FILE_MOVES 21          /* how many moves there are */
 /* Of an event of a file (hp_event): */
 #define HP_EVENT_DAY 17     /* D */
 #define HP_EVENT_START 18   /* s */
 #define HP_EVENT_END 19     /* e */
 #define HP_EVENT_NOTICE 20  /* n */
+/* Of a move of a file (hp_move): */
+#define HP_MOVE_FROM 22  /* the fixed-date holiday that is moved */
+#define HP_MOVE_TO 23    /* the day that replaces it */
 
 /* An event has at most 96 quarters: so many bytes of `out` are enough for the numerators of any. */
 #define HP_MOST_BYTES 384
@@ -120,7 +135,7 @@
 
 /* No record file has more bytes: so many of `out` are enough for hp_write. One byte more is enough to read of any input: a longer one is refused all the
  * same. */
-#define HP_MOST_FILE 50440
+#define HP_MOST_FILE 50536
 
 #ifdef __cplusplus
 extern "C" {
@@ -137,17 +152,20 @@ uint32_t hp_baseline(const uint8_t *file, size_t file_len, size_t event_place, u
 int64_t hp_told(const uint8_t *file, size_t file_len, size_t event_place, uint32_t name);
 
 /* The baseline over a table in memory, with no file: `marks` has one byte a day, `readings` 96 a day.
+ *   moves                                     has two numbers for each moved holiday: the fixed-date holiday, and the day that replaces it; moves_len
+ *                                             is how many numbers there are; NULL and 0 where none was moved
  *   first_day, participation_day, event_day   are days: F, P and D
  *   event_start, event_end, notice            are places on the ruler of two days: s, e and n; 96 is where the event day starts
- * Gives HP_ANSWERED or a refusal from 1 to 10. Answered: the first e-s elements of `out` are the numerators, and the rest is kept. Refused:
+ * Gives HP_ANSWERED or a refusal, 1 to 10 or 14. Answered: the first e-s elements of `out` are the numerators, and the rest is kept. Refused:
  * `out` is kept. HP_NO_ROOM means that out_len is below e-s. */
 uint32_t hp_baseline_table(uint32_t first_day, const uint8_t *marks, size_t marks_len, const uint32_t *readings, size_t readings_len,
-                           uint32_t participation_day, uint32_t event_day, uint32_t event_start, uint32_t event_end, uint32_t notice,
-                           uint32_t *out, size_t out_len);
+                           const uint32_t *moves, size_t moves_len, uint32_t participation_day, uint32_t event_day,
+                           uint32_t event_start, uint32_t event_end, uint32_t notice, uint32_t *out, size_t out_len);
 
 /* What that result tells, with room for any event, as hp_told does. */
 int64_t hp_told_table(uint32_t first_day, const uint8_t *marks, size_t marks_len, const uint32_t *readings, size_t readings_len,
-                      uint32_t participation_day, uint32_t event_day, uint32_t event_start, uint32_t event_end, uint32_t notice, uint32_t name);
+                      const uint32_t *moves, size_t moves_len, uint32_t participation_day, uint32_t event_day, uint32_t event_start,
+                      uint32_t event_end, uint32_t notice, uint32_t name);
 
 /* Where the 96 readings of a day stand in a table in memory: the place of its first in `readings`, from 0. HP_NOTHING where the day is not
  * held, or the table is one that HP_BAD_TABLE refuses. */
@@ -160,6 +178,10 @@ int64_t hp_file(const uint8_t *file, size_t file_len, uint32_t name);
  * HP_CARRIED, or HP_EVENT_.. */
 int64_t hp_event(const uint8_t *file, size_t file_len, size_t event_place, uint32_t name);
 
+/* The move at `move_place` of a record file, 0 for its first: the number of this name, HP_RESULT (HP_ANSWERED or HP_BAD_FILE), HP_CARRIED, or
+ * HP_MOVE_.., which is HP_NOTHING where the file has no move at that place. How many there are hp_file tells (HP_FILE_MOVES). */
+int64_t hp_move(const uint8_t *file, size_t file_len, size_t move_place, uint32_t name);
+
 /* The listing of a record file, as honeyplank-list prints it: its length in bytes, with the text at the start of `out` and the rest kept. Where
  * out_len is below that length: -HP_NO_ROOM, and `out` is kept. A file that is refused has a listing too (`file refused OFFSET`). */
 int64_t hp_listing(const uint8_t *file, size_t file_len, uint8_t *out, size_t out_len);
@@ -168,19 +190,23 @@ int64_t hp_listing(const uint8_t *file, size_t file_len, uint8_t *out, size_t ou
  * `out` is kept.
  *   participation_day, first_day   are days: P and F
  *   marks, readings                are those of a table in memory, one byte and 96 readings a day; marks_len is the number of days, and may be 0
+ *   moves                          has two numbers for each moved holiday, as above; moves_len is how many numbers there are
  *   events                         has four numbers for each event: D, s, e and n; events_len is how many numbers there are
  * The refusals, tested in this order:
  *   -HP_BAD_TABLE    there are more than 128 days, or not 96 readings a day
- *   -HP_UNWRITABLE   there are more than 64 events, or not four numbers for each; P, a day that is held or D is above 65535; s, e or n is above 255;
- *                    or there are no days, and first_day is not 0
- *   -HP_NO_ROOM      out_len is below the file's length, which is 8 + 390 for each day + 8 for each event; HP_MOST_FILE bytes are enough for any
- * Nothing else is asked: marks and readings that mean nothing, days after HP_LAST_DAY and events out of range are written as they are, and the entries
- * above refuse them when they read the file. What is written reads back as the same values, and a file that was read is written again byte for byte.
+ *   -HP_UNWRITABLE   there are more than 64 events, or not four numbers for each; more than 16 moves, or not two numbers for each; P, a day that is
+ *                    held, a day of a move or D is above 65535; s, e or n is above 255; or there are no days, and first_day is not 0
+ *   -HP_NO_ROOM      out_len is below the file's length, which is 8 + 6 for each move + 390 for each day + 8 for each event; HP_MOST_FILE bytes are
+ *                    enough for any
+ * Nothing else is asked: marks and readings that mean nothing, days after HP_LAST_DAY, moves that mean nothing and events out of range are written as
+ * they are, and the entries above refuse them when they read the file. What is written reads back as the same values, and a file that was read is
+ * written again byte for byte.
  *
  *   uint32_t events[] = {6972, 152, 156, 148, 6966, 152, 156, 148};
- *   int64_t length = hp_write(6900, 77, 6951, marks, 22, readings, 22 * HP_QUARTERS, events, 8, out, sizeof out);   8604, or below 0 */
+ *   int64_t length = hp_write(6900, 77, 6951, marks, 22, readings, 22 * HP_QUARTERS, NULL, 0, events, 8, out, sizeof out);   8604, or below 0 */
 int64_t hp_write(uint32_t participation_day, uint32_t portfolio, uint32_t first_day, const uint8_t *marks, size_t marks_len,
-                 const uint32_t *readings, size_t readings_len, const uint32_t *events, size_t events_len, uint8_t *out, size_t out_len);
+                 const uint32_t *readings, size_t readings_len, const uint32_t *moves, size_t moves_len, const uint32_t *events,
+                 size_t events_len, uint8_t *out, size_t out_len);
 
 /* The day number of a date, month and day counted from 1: hp_day(2024, 8, 28) is 9006. HP_NOTHING where there is no such date from 2000 to 2099. */
 int64_t hp_day(uint32_t year, uint32_t month, uint32_t day);
@@ -227,7 +253,11 @@ static inline const char *hp_refusal_text(uint32_t number)
     case HP_NO_EVENT:
         return "The file has no event at that place.";
     case HP_UNWRITABLE:
-        return "No record file can say this: over 64 events or not four numbers for each, a number that its bytes can't hold, or a first day with no days.";
+        return "No record file can say this: over 64 events or not four numbers for each, over 16 moves or not two numbers for each, a number that its "
+               "bytes can't hold, or a first day with no days.";
+    case HP_BAD_MOVES:
+        return "The list of moves has over 16 moves or not two numbers for each, a day after 2099, a first day that is no fixed-date holiday, or the "
+               "same first day twice.";
     default:
         return "No result has this number.";
     }

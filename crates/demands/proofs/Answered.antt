@@ -20,7 +20,7 @@ use Rattle.method.specs.Rules.{methodBy}
 use Rattle.method.specs.Requested.{rulesOf, methodOf}
 use Rattle.method_laws.proofs.Sort.{length-sorted}
 use Rattle.base_lists.proofs.Places.{length-places}
-use Rattle.demands.specs.Calls.{Call, overTable, ofFile, extract, request, perQuarter, room}
+use Rattle.demands.specs.Calls.{Call, overTable, ofFile, moves, extract, request, perQuarter, room}
 use Rattle.demands.specs.Rows.{windowOf, chosenOf, NOf, numeratorsOf, dayRows, earlier, rows, applies}
 use Rattle.demands.proofs.Passing.{none-after}
 
@@ -29,26 +29,27 @@ unfolding any
 second-row p q rest e = or-none-left (q .0) (any applies rest) (or-none-right (p .0) (q .0 || any applies rest) e)
 
 -- where none of 8 to 10 applies, the window has N days; so where no row does
-window-least : (t : Table) (r : Request) → any applies (dayRows t r) ≡ false → NOf r ≤ length (windowOf t r)
+window-least : (moves : List ℕ) (t : Table) (r : Request) → any applies (dayRows moves t r) ≡ false → NOf moves r ≤ length (windowOf moves t r)
 unfolding dayRows
-window-least t r e = ltb-false (length (windowOf t r)) (NOf r) (second-row _ _ _ e)
+window-least moves t r e = ltb-false (length (windowOf moves t r)) (NOf moves r) (second-row _ _ _ e)
 
-window-enough : (c : Call) (size : ℕ) → any applies (rows c size) ≡ false → NOf (request c) ≤ length (windowOf (extract c) (request c))
+window-enough : (c : Call) (size : ℕ) → any applies (rows c size) ≡ false → NOf (moves c) (request c) ≤ length (windowOf (moves c) (extract c) (request c))
 unfolding rows
-window-enough c size e = window-least (extract c) (request c) (none-after (earlier c size) (dayRows (extract c) (request c)) e)
+window-enough c size e =
+    window-least (moves c) (extract c) (request c) (none-after (earlier c size) (dayRows (moves c) (extract c) (request c)) e)
 
 -- and N days are chosen
-count-chosen : (t : Table) (r : Request) → NOf r ≤ length (windowOf t r) → length (daysOf (chosenOf t r)) ≡ NOf r
+count-chosen : (moves : List ℕ) (t : Table) (r : Request) → NOf moves r ≤ length (windowOf moves t r) → length (daysOf (chosenOf moves t r)) ≡ NOf moves r
 unfolding chosen methodOf methodBy rulesOf highXofY
-count-chosen t r e =
-    rw (length-map, length-take, length-sorted (higher r) (windowOf t r), le-ltb (length (windowOf t r)) (NOf r) e) (omega arith)
+count-chosen moves t r e =
+    rw (length-map, length-take, length-sorted (higher r) (windowOf moves t r), le-ltb (length (windowOf moves t r)) (NOf moves r) e) (omega arith)
 
-pub chosen-count : (c : Call) (size : ℕ) → any applies (rows c size) ≡ false → length (daysOf (chosenOf (extract c) (request c))) ≡ NOf (request c)
-chosen-count c size e = count-chosen (extract c) (request c) (window-enough c size e)
+pub chosen-count : (c : Call) (size : ℕ) → any applies (rows c size) ≡ false → length (daysOf (chosenOf (moves c) (extract c) (request c))) ≡ NOf (moves c) (request c)
+chosen-count c size e = count-chosen (moves c) (extract c) (request c) (window-enough c size e)
 
-pub numerators-count : (t : Table) (r : Request) → length (numeratorsOf t r) ≡ r .e - r .s
+pub numerators-count : (moves : List ℕ) (t : Table) (r : Request) → length (numeratorsOf moves t r) ≡ r .e - r .s
 unfolding numeratorsOf
-numerators-count t r = simp (length-map, length-places)
+numerators-count moves t r = simp (length-map, length-places)
 
 pub over-60-or-24 : (g : Group) → member (12 * N g) (60 ∷ 24 ∷ []) ≡ true
 unfolding member
@@ -58,5 +59,5 @@ over-60-or-24 HolidayGroup = refl
 
 -- room for the quarters as numerators is room for them as they stand
 pub quarters-fit : (c : Call) (out : List ℕ) → request c .e - request c .s ≤ room c out → perQuarter c * (request c .e - request c .s) ≤ length out
-quarters-fit (overTable t r) out e = omega arith
+quarters-fit (overTable list t r) out e = omega arith
 quarters-fit (ofFile file place) out e = omega arith

@@ -16,7 +16,7 @@ use Rattle.method.specs.declared.Refusal.the-variants.{MarginTooShort}
 use Rattle.method.specs.Table.{Table, history}
 use Rattle.method.specs.Method.{wholeReach}
 use Rattle.method.specs.Requested.{methodOf}
-use Rattle.method.specs.Verdict.{Reply, Answer as Numbers, refused, answered, methodology, verdict}
+use Rattle.method.specs.Verdict.{Reply, Answer as Numbers, refused, answered, byList, verdict}
 use Rattle.method.specs.CutTables.{LongerFormed, heldBefore, cutTo, Undecided, Parted, isMargin, isSettled, reported as reportedIn}
 use Rattle.method_laws.proofs.Replies.{none-early}
 use Rattle.method_laws.proofs.Settled.{settled-margin}
@@ -27,7 +27,7 @@ use Rattle.engine_answer.specs.declared.Answer.{Answer}
 use Rattle.engine_answer.specs.Answer.{answerOf}
 use Rattle.engine_refusals.proofs.Replies.{one-outcome}
 use Rattle.table_baseline.proofs.Laws.{sound, never-above}
-use Rattle.demands.specs.Calls.{Call, extract, request, stand, room, Gets, result, reported}
+use Rattle.demands.specs.Calls.{Call, moves, extract, request, stand, room, Gets, result, reported}
 use Rattle.demands.specs.Rows.{earlier, rows, applies, answerOver, numeratorsOf}
 use Rattle.demands.specs.Demands.{quarters, Demand1, Demand2, Settled, Demand3, NoPart, Demands}
 use Rattle.demands.proofs.Rows.{table-rows}
@@ -43,6 +43,9 @@ module _ (c : Call) (a : Answer) (out after : List ℕ) (gives : Gives c a out a
 
   abbrev r : Request
   r = request c
+
+  abbrev ms : List ℕ
+  ms = moves c
 
   gets : Gets c (replyOf c out) a out after
   gets = gives-gets c a out after gives
@@ -63,36 +66,36 @@ module _ (c : Call) (a : Answer) (out after : List ℕ) (gives : Gives c a out a
   none-applies : a .given ≡ Answered → any applies (rows c (length out)) ≡ false
   none-applies e =
       let n = is-answered (replyOf c out) (sym (given-is refl) ∙ e) in
-      none-first (rows c (length out)) (answerOver t r) (n .0) (n .1)
+      none-first (rows c (length out)) (answerOver ms t r) (n .0) (n .1)
 
-  to-answered : any applies (rows c (length out)) ≡ false → replyOf c out ≡ answered (answerOver t r)
-  to-answered n = none-early (rows c (length out)) (answered (answerOver t r)) n
+  to-answered : any applies (rows c (length out)) ≡ false → replyOf c out ≡ answered (answerOver ms t r)
+  to-answered n = none-early (rows c (length out)) (answered (answerOver ms t r)) n
 
   module _ (e : a .given ≡ Answered) where
-    answers : replyOf c out ≡ answered (answerOver t r)
+    answers : replyOf c out ≡ answered (answerOver ms t r)
     answers = to-answered (none-applies e)
 
-    is-verdict : verdict group t r (room c out) ≡ answered (answerOver t r)
+    is-verdict : verdict ms t r (room c out) ≡ answered (answerOver ms t r)
     is-verdict = sym (late c out (none-earlier c out (rw answers (unfold member in refl))) .over .its) ∙ answers
 
-    output : after ≡ stand c (numeratorsOf t r) ++ drop (quarters c) out
+    output : after ≡ stand c (numeratorsOf ms t r) ++ drop (quarters c) out
     unfolding answerOver
-    output = gets-output c a out after (answerOver t r) (gets-same c a out after answers gets) ∙ rw (numerators-count t r)
+    output = gets-output c a out after (answerOver ms t r) (gets-same c a out after answers gets) ∙ rw (numerators-count ms t r)
 
-    stands : length (stand c (numeratorsOf t r)) ≡ quarters c
-    stands = stand-length c (numeratorsOf t r) ∙ rw (numerators-count t r)
+    stands : length (stand c (numeratorsOf ms t r)) ≡ quarters c
+    stands = stand-length c (numeratorsOf ms t r) ∙ rw (numerators-count ms t r)
 
     fits : quarters c ≤ length out
-    fits = quarters-fit c out (sound group t r (room c out) is-verdict .enough)
+    fits = quarters-fit c out (sound ms t r (room c out) is-verdict .enough)
 
     answered-long : length after ≡ length out
     answered-long = rw (output, length-append, stands, length-drop) (omega (arith, fits))
 
     rest : drop (quarters c) after ≡ drop (quarters c) out
-    rest = rw output (drop-at (stand c (numeratorsOf t r)) (drop (quarters c) out) (quarters c) stands)
+    rest = rw output (drop-at (stand c (numeratorsOf ms t r)) (drop (quarters c) out) (quarters c) stands)
 
-    stands-first : take (quarters c) after ≡ stand c (numeratorsOf t r)
-    stands-first = rw output (take-at (stand c (numeratorsOf t r)) (drop (quarters c) out) (quarters c) stands)
+    stands-first : take (quarters c) after ≡ stand c (numeratorsOf ms t r)
+    stands-first = rw output (take-at (stand c (numeratorsOf ms t r)) (drop (quarters c) out) (quarters c) stands)
 
   long : length after ≡ length out
   long =
@@ -105,10 +108,10 @@ module _ (c : Call) (a : Answer) (out after : List ℕ) (gives : Gives c a out a
       record {
         one = gets;
         refused-when = λ w. (
-          λ e. first-in (rows c (length out)) (answerOver t r) w (to-refused w e),
-          λ f. given-is (first-of (rows c (length out)) (answered (answerOver t r)) w f) ∙ given-refused w,
+          λ e. first-in (rows c (length out)) (answerOver ms t r) w (to-refused w e),
+          λ f. given-is (first-of (rows c (length out)) (answered (answerOver ms t r)) w f) ∙ given-refused w,
         );
-        answered-when = (none-applies, λ n. given-is (to-answered n) ∙ given-answered (answerOver t r));
+        answered-when = (none-applies, λ n. given-is (to-answered n) ∙ given-answered (answerOver ms t r));
         kept = λ w e. gets-kept c a out after w (gets-same c a out after (to-refused w e) gets);
         long = long;
         rest = rest;
@@ -125,11 +128,11 @@ module _ (c : Call) (a : Answer) (out after : List ℕ) (gives : Gives c a out a
         denominator = ap (λ (x : Answer). x .denominator) its;
         adjusted = ap (λ (x : Answer). x .adjustment) its;
         numerators = stands-first e;
-        never-above = never-above group t r (room c out) (answerOver t r) (is-verdict e);
-        over = ap (λ (n : ℕ). member n (60 ∷ 24 ∷ [])) (ap (λ (x : Answer). x .denominator) its) ∙ over-60-or-24 (group (r .event));
+        never-above = never-above ms t r (room c out) (answerOver ms t r) (is-verdict e);
+        over = ap (λ (n : ℕ). member n (60 ∷ 24 ∷ [])) (ap (λ (x : Answer). x .denominator) its) ∙ over-60-or-24 (group ms (r .event));
       }
     where
-      its : a ≡ answerOf (answered (answerOver t r))
+      its : a ≡ answerOf (answered (answerOver ms t r))
       its = is ∙ ap answerOf (answers e)
 
   -- ---- demand 3
@@ -140,50 +143,50 @@ module _ (c : Call) (a : Answer) (out after : List ℕ) (gives : Gives c a out a
     l : Late c out
     l = is-late (settled-late (result a) s)
 
-    its : replyOf c out ≡ verdict group t r (room c out)
+    its : replyOf c out ≡ verdict ms t r (room c out)
     its = l .over .its
 
-    settled : isSettled (verdict group t r (room c out)) ≡ true
+    settled : isSettled (verdict ms t r (room c out)) ≡ true
     settled = sym (ap isSettled its) ∙ sym (settled-is (replyOf c out)) ∙ (rw number-is at s)
 
-    reported-as : reported a ≡ reportedIn (verdict group t r (room c out))
+    reported-as : reported a ≡ reportedIn (verdict ms t r (room c out))
     reported-as = ap reported is ∙ reported-is (replyOf c out) ∙ ap reportedIn its
 
-    clear : isMargin (verdict group t r (room c out)) ≡ false
-    clear = settled-margin (verdict group t r (room c out)) settled
+    clear : isMargin (verdict ms t r (room c out)) ≡ false
+    clear = settled-margin (verdict ms t r (room c out)) settled
 
-    stable : (m : Table) → LongerFormed m t → Gets c (methodology group (history m) r (room c out)) a out after
+    stable : (m : Table) → LongerFormed m t → Gets c (byList ms (history m) r (room c out)) a out after
     stable m x =
         gets-same c a out after
         (its ∙
-        sym (verdict-stable group t r (room c out) (l .over .isOne) (l .over .well) (l .holds) clear m x))
+        sym (verdict-stable ms t r (room c out) (l .over .isOne) (l .over .well) (l .holds) clear m x))
         gets
 
     within : reported a ≤ heldBefore t r
-    within = omega (arith, reported-as, reach-within group t r (room c out) (l .over .isOne) (l .over .well) (l .holds) settled)
+    within = omega (arith, reported-as, reach-within ms t r (room c out) (l .over .isOne) (l .over .well) (l .holds) settled)
 
-    same : Gets c (verdict group (cutTo t r (reported a)) r (room c out)) a out after
+    same : Gets c (verdict ms (cutTo t r (reported a)) r (room c out)) a out after
     same =
         gets-same c a out after
-        (its ∙ sym (reach-same group t r (room c out) (l .over .isOne) (l .over .well) (l .holds) settled) ∙
-        sym (ap (λ (k : ℕ). verdict group (cutTo t r k) r (room c out)) reported-as))
+        (its ∙ sym (reach-same ms t r (room c out) (l .over .isOne) (l .over .well) (l .holds) settled) ∙
+        sym (ap (λ (k : ℕ). verdict ms (cutTo t r k) r (room c out)) reported-as))
         gets
 
     fewest : (k : ℕ) → k < reported a
-        → verdict group (cutTo t r k) r (room c out) ≡ refused (MarginTooShort (wholeReach (methodOf group r)))
+        → verdict ms (cutTo t r k) r (room c out) ≡ refused (MarginTooShort (wholeReach (methodOf (group ms) r)))
     fewest k less =
-        reach-fewest group t r (room c out) (l .over .isOne) (l .over .well) (l .holds) settled k (omega (arith, less, reported-as))
+        reach-fewest ms t r (room c out) (l .over .isOne) (l .over .well) (l .holds) settled k (omega (arith, less, reported-as))
 
-  given-when : any applies (earlier c (length out)) ≡ false → Undecided group t r → result a ≡ 8
+  given-when : any applies (earlier c (length out)) ≡ false → Undecided (group ms) t r → result a ≡ 8
   given-when n u =
       let x = late c out n in
-      let margin = verdict-margin group t r (room c out) (x .over .isOne) (x .over .well) (x .holds) (x .none) .1 u in
+      let margin = verdict-margin ms t r (room c out) (x .over .isOne) (x .over .well) (x .holds) (x .good) (x .none) .1 u in
       number-is ∙ eqb-true (numberIn (replyOf c out)) 8 (sym (margin-is (replyOf c out)) ∙ ap isMargin (x .over .its) ∙ margin)
 
-  shown : result a ≡ 8 → Parted group t r
+  shown : result a ≡ 8 → Parted (group ms) t r
   shown e =
       let x = is-late (rw e (unfold member in refl)) in
-      verdict-margin group t r (room c out) (x .over .isOne) (x .over .well) (x .holds) (x .none) .0
+      verdict-margin ms t r (room c out) (x .over .isOne) (x .over .well) (x .holds) (x .good) (x .none) .0
       (sym (ap isMargin (x .over .its)) ∙ margin-is (replyOf c out) ∙ eq-eqb (numberIn (replyOf c out)) 8 (sym number-is ∙ e))
 
   demand3 : Demand3 c a out after
@@ -204,7 +207,7 @@ module _ (c : Call) (a : Answer) (out after : List ℕ) (gives : Gives c a out a
       let other = none-of-table u (rw table-rows at n) in
       gets-same c a out after
       (f .its ∙
-      sym (no-part group t u r (room c out) (f .isOne) (f .well) (other .0) (other .1) (x .first) (x .event) (λ d h b. x .days d b h) (x .readings)))
+      sym (no-part ms t u r (room c out) (f .isOne) (f .well) (other .0) (other .1) (x .first) (x .event) (λ d h b. x .days d b h) (x .readings)))
       gets
 
 pub demands : (c : Call) (a : Answer) (out after : List ℕ) → Gives c a out after → Demands c a out after

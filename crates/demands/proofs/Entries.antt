@@ -14,11 +14,11 @@ use Rattle.calendar_groups.specs.Holidays.{group}
 use Rattle.method.specs.declared.Request.{Request}
 use Rattle.method.specs.declared.Refusal.{Refusal}
 use Rattle.method.specs.declared.Refusal.the-variants.{BadFile, NoEvent, BadTable, BadMark, BadReading, BadRequest, NotHeld}
-use Rattle.method.specs.declared.Refusal.the-variants.{NotYetParticipating, NoRoom, MarginTooShort, TooFew, NoAdjustmentWindow, Unwritable}
+use Rattle.method.specs.declared.Refusal.the-variants.{NotYetParticipating, NoRoom, MarginTooShort, TooFew, NoAdjustmentWindow, Unwritable, BadMoves}
 use Rattle.method.specs.Table.{Table, mostQuarters, held, history}
 use Rattle.method.specs.Method.{outcome}
 use Rattle.method.specs.Requested.{methodOf}
-use Rattle.method.specs.Verdict.{Reply, refused, answered, number, goodRequest, tableRefusals, requestRefusals, closing, firstOf, methodology, verdict}
+use Rattle.method.specs.Verdict.{Reply, refused, answered, number, goodRequest, tableRefusals, requestRefusals, closing, firstOf, methodology, listRefusals, byList, verdict}
 use Rattle.method.specs.Verdict.{written}
 use Rattle.method_laws.proofs.Replies.{other, none-early}
 use Rattle.engine_answer.specs.declared.Answer.{Answer}
@@ -31,7 +31,7 @@ use Rattle.file_baseline.specs.Reply.{fileReply}
 use Rattle.host_answer.specs.Names.{byName, refusalRow, rowFrom}
 use Rattle.host_answer.specs.Telling.{answerRow, toldBy}
 use Rattle.host_entries.specs.Host.{mostBytes, FileCall, TableCall}
-use Rattle.demands.specs.Calls.{Call, overTable, ofFile, extract, request, room, result}
+use Rattle.demands.specs.Calls.{Call, overTable, ofFile, moves, extract, request, room, result}
 use Rattle.demands.specs.Rows.{fileRows}
 use Rattle.demands.specs.Demands.{Demands}
 use Rattle.demands.specs.Entries.{EntryDemands, Tells}
@@ -41,11 +41,11 @@ use Rattle.demands.proofs.Passing.{passes}
 use Rattle.demands.proofs.Demands.{demands}
 
 module _ {r : ℕ} {out after : List ℕ} where
-  pub table-entry : (t : Table) (q : Request) → TableCall (verdict group t q (length out)) r out after → EntryDemands (overTable t q) r out after
-  table-entry t q e =
+  pub table-entry : (list : List ℕ) (t : Table) (q : Request) → TableCall (verdict list t q (length out)) r out after → EntryDemands (overTable list t q) r out after
+  table-entry list t q e =
       record {
-        answer = answerOf (verdict group t q (length out));
-        meets = demands (overTable t q) _ out after (record { answer = refl; output = e .output });
+        answer = answerOf (verdict list t q (length out));
+        meets = demands (overTable list t q) _ out after (record { answer = refl; output = e .output });
         number = e .result;
       }
 
@@ -64,7 +64,7 @@ isSeven x = eqb (numberIn x) 7
 
 file-other : (c : Call) → all (other isSeven) (fileRows c) ≡ true
 unfolding fileRows all
-file-other (overTable t r) = refl
+file-other (overTable list t r) = refl
 file-other (ofFile file place) = refl
 
 -- 7 is the number of one refusal alone
@@ -82,6 +82,7 @@ seven-is (MarginTooShort k) e = absurd (omega arith)
 seven-is (TooFew n k) e = absurd (omega arith)
 seven-is (NoAdjustmentWindow k) e = absurd (omega arith)
 seven-is Unwritable e = absurd (omega arith)
+seven-is BadMoves e = absurd (omega arith)
 
 seven : (x : Reply) → numberIn x ≡ 7 → x ≡ refused NoRoom
 seven (refused w) e = ap refused (seven-is w e)
@@ -111,45 +112,46 @@ but-seven true x n = absurd (n refl)
 but-seven false x n = refl
 
 -- a verdict other than 7 is that of the other rows, whatever the room
-module _ (t : Table) (r : Request) where
+module _ (list : List ℕ) (t : Table) (r : Request) where
   asked : List (Bool × Refusal)
   asked =
       (not (goodRequest r), BadRequest) ∷ (not (held (history t) (r .event)), NotHeld) ∷
       (ltb (r .event) (r .participation), NotYetParticipating) ∷ []
 
   last : Reply
-  last = closing (outcome (methodOf group r) (history t))
+  last = closing (outcome (methodOf (group list) r) (history t))
 
-  any-room : (n : ℕ) → (numberIn (verdict group t r n) ≡ 7 → ⊥) → verdict group t r n ≡ firstOf (tableRefusals t) (firstOf asked last)
-  unfolding verdict methodology requestRefusals asked last firstOf
+  any-room : (n : ℕ) → (numberIn (verdict list t r n) ≡ 7 → ⊥) → verdict list t r n ≡ firstOf (tableRefusals t) (firstOf (listRefusals list) (firstOf asked last))
+  unfolding verdict byList methodology requestRefusals asked last firstOf
   any-room n differs =
-      same-after (tableRefusals t) (methodology group (history t) r n) (firstOf asked last)
-      (same-after asked (cond (ltb n (r .e - r .s)) (refused NoRoom) last) last (but-seven (ltb n (r .e - r .s)) last)) differs
+      same-after (tableRefusals t) (byList list (history t) r n) (firstOf (listRefusals list) (firstOf asked last))
+      (same-after (listRefusals list) (methodology (group list) (history t) r n) (firstOf asked last)
+      (same-after asked (cond (ltb n (r .e - r .s)) (refused NoRoom) last) last (but-seven (ltb n (r .e - r .s)) last))) differs
 
-  not-seven : numberIn (verdict group t r mostQuarters) ≡ 7 → ⊥
-  not-seven e = room-enough r group t (seven (verdict group t r mostQuarters) e)
+  not-seven : numberIn (verdict list t r mostQuarters) ≡ 7 → ⊥
+  not-seven e = room-enough r list t (seven (verdict list t r mostQuarters) e)
 
   -- and so with room for a day's quarters
-  room-for-any : (n : ℕ) → (numberIn (verdict group t r n) ≡ 7 → ⊥) → verdict group t r n ≡ verdict group t r mostQuarters
+  room-for-any : (n : ℕ) → (numberIn (verdict list t r n) ≡ 7 → ⊥) → verdict list t r n ≡ verdict list t r mostQuarters
   room-for-any n differs = any-room n differs ∙ sym (any-room mostQuarters not-seven)
 
 -- the reply of a call with room for any event
 module _ (c : Call) where
   roomy : Reply
-  roomy = firstOf (fileRows c) (verdict group (extract c) (request c) mostQuarters)
+  roomy = firstOf (fileRows c) (verdict (moves c) (extract c) (request c) mostQuarters)
 
   same-reply : (out : List ℕ) → (numberIn (replyOf c out) ≡ 7 → ⊥) → replyOf c out ≡ roomy
   unfolding roomy
   same-reply out differs =
       over-extract c out ∙
-      same-after (fileRows c) (verdict group (extract c) (request c) (room c out)) (verdict group (extract c) (request c) mostQuarters)
-      (room-for-any (extract c) (request c) (room c out)) (rw (over-extract c out) at differs)
+      same-after (fileRows c) (verdict (moves c) (extract c) (request c) (room c out)) (verdict (moves c) (extract c) (request c) mostQuarters)
+      (room-for-any (moves c) (extract c) (request c) (room c out)) (rw (over-extract c out) at differs)
 
   never : numberIn roomy ≡ 7 → ⊥
   unfolding roomy
   never e =
-      let n = passes isSeven (fileRows c) (verdict group (extract c) (request c) mostQuarters) (file-other c) (eq-eqb (numberIn roomy) 7 e) in
-      not-seven (extract c) (request c) (rw (none-early (fileRows c) (verdict group (extract c) (request c) mostQuarters) n) at e)
+      let n = passes isSeven (fileRows c) (verdict (moves c) (extract c) (request c) mostQuarters) (file-other c) (eq-eqb (numberIn roomy) 7 e) in
+      not-seven (moves c) (extract c) (request c) (rw (none-early (fileRows c) (verdict (moves c) (extract c) (request c) mostQuarters) n) at e)
 
   tells : (name : ℕ) {told : ℤ} → told ≡ toldBy (answerOf roomy) name → Tells c name told
   tells name e =
@@ -160,9 +162,9 @@ module _ (c : Call) where
         never-seven = λ z k. never (told-number roomy (sym (rw z at e) ∙ k));
       }
 
-pub table-tells : (t : Table) (r : Request) (name : ℕ) {told : ℤ} → told ≡ toldBy (answerOf (verdict group t r mostQuarters)) name → Tells (overTable t r) name told
+pub table-tells : (list : List ℕ) (t : Table) (r : Request) (name : ℕ) {told : ℤ} → told ≡ toldBy (answerOf (verdict list t r mostQuarters)) name → Tells (overTable list t r) name told
 unfolding roomy fileRows firstOf
-table-tells t r name e = tells (overTable t r) name e
+table-tells list t r name e = tells (overTable list t r) name e
 
 pub file-tells : (file : List ℕ) (place name : ℕ) {told : ℤ} → told ≡ toldBy (answerOf (fileReply file place mostBytes)) name
     → Tells (ofFile file place) name told
@@ -172,7 +174,7 @@ file-tells file place name e = tells (ofFile file place) name (e ∙ ap (λ (x :
 -- ---- one result: no two differing results meet a contract
 pub demands-unique : (c : Call) {a a′ : Answer} {out after after′ : List ℕ} → Demands c a out after → Demands c a′ out after′
     → (a ≡ a′) × (after ≡ after′)
-demands-unique (overTable t r) p q = answers-unique (p .first .one) (q .first .one)
+demands-unique (overTable list t r) p q = answers-unique (p .first .one) (q .first .one)
 demands-unique (ofFile file place) p q = answers-in-bytes-unique (p .first .one) (q .first .one)
 
 pub entry-unique : (c : Call) {r r′ : ℕ} {out after after′ : List ℕ} → EntryDemands c r out after → EntryDemands c r′ out after′
@@ -191,13 +193,13 @@ pub record Roomy (c : Call) : Type 0 where
 
 roomy-call : (c : Call) → Roomy c
 unfolding roomy fileRows firstOf
-roomy-call (overTable t r) =
+roomy-call (overTable list t r) =
     record {
-      answer = answerOf (verdict group t r mostQuarters);
+      answer = answerOf (verdict list t r mostQuarters);
       out = replicate mostQuarters 0;
-      after = written (verdict group t r mostQuarters) (replicate mostQuarters 0);
-      meets = demands (overTable t r) _ _ _ (record { answer = refl; output = refl });
-      differs = λ e. never (overTable t r) (sym (result-is (verdict group t r mostQuarters)) ∙ e);
+      after = written (verdict list t r mostQuarters) (replicate mostQuarters 0);
+      meets = demands (overTable list t r) _ _ _ (record { answer = refl; output = refl });
+      differs = λ e. never (overTable list t r) (sym (result-is (verdict list t r mostQuarters)) ∙ e);
     }
 roomy-call (ofFile file place) =
     record {

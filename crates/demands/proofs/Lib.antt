@@ -1,4 +1,5 @@
 pub mod Tests
+pub mod Moves
 pub mod Rows
 pub mod First
 pub mod Results

@@ -8,17 +8,19 @@ use lib.Dec.{eqb}
 use lib.ListN.{length}
 use Rattle.base_lists.specs.Lists.{all, any, member}
 use Rattle.base_lists.proofs.Bools.{bool-cases, clash, or-none-left, or-none-right}
-use Rattle.calendar_groups.specs.Holidays.{group}
+use Rattle.calendar_groups.specs.Holidays.{goodMoves}
 use Rattle.method.specs.declared.Refusal.{Refusal}
 use Rattle.method.specs.Table.{Table, held, history, isExtract}
 use Rattle.method.specs.Verdict.{Reply, answered, firstOf, verdict, wellFormed}
 use Rattle.method.specs.CutTables.{NoneEarlier}
+use Rattle.method_laws.proofs.ByList.{none-of-list}
 use Rattle.method_laws.proofs.Replies.{test, other, none-early, early-other}
 use Rattle.method_laws.proofs.Extract.{none-of-table}
 use Rattle.method_laws.proofs.NoPart.{known}
 use Rattle.engine_refusals.proofs.FirstRefusal.{first-append}
-use Rattle.demands.specs.Calls.{Call, overTable, ofFile, extract, request, perQuarter, room}
-use Rattle.demands.specs.Rows.{fileRows, tableRows, requestRows, dayRows, earlier, rows, applies, answerOver}
+use Rattle.demands.specs.Calls.{Call, overTable, ofFile, moves, extract, request, perQuarter, room}
+use Rattle.demands.specs.Rows.{fileRows, tableRows, listRows, requestRows, dayRows, earlier, rows, applies, answerOver}
+use Rattle.demands.proofs.Moves.{list-rows}
 use Rattle.demands.proofs.Rows.{table-rows, request-rows}
 use Rattle.demands.proofs.Results.{replyOf, room-test, over-extract, numberIn}
 
@@ -41,7 +43,7 @@ passes q rs x o e = ⊎-elim (λ y. absurd (clash e (early-other q rs x o y))) (
 
 -- the reply is the verdict over a well-formed extract
 pub record OverFormed (c : Call) (out : List ℕ) : Type 0 where
-  pub its : replyOf c out ≡ verdict group (extract c) (request c) (room c out)
+  pub its : replyOf c out ≡ verdict (moves c) (extract c) (request c) (room c out)
   pub isOne : isExtract (extract c) ≡ true
   pub well : wellFormed (extract c) ≡ true
 
@@ -51,9 +53,10 @@ over-formed c out n m =
     let is = none-of-table (extract c) (rw table-rows at m) in
     record { its = over-extract c out ∙ none-early (fileRows c) _ n; isOne = is .0; well = is .1 }
 
--- and no refusal before 8 applies: the event is held
+-- and no refusal before 8 applies: the list is good, and the event is held
 pub record Late (c : Call) (out : List ℕ) : Type 0 where
   pub over : OverFormed c out
+  pub good : goodMoves (moves c) ≡ true
   pub none : NoneEarlier (extract c) (request c) (room c out)
   pub holds : held (history (extract c)) (request c .event) ≡ true
 
@@ -61,7 +64,8 @@ pub late : (c : Call) (out : List ℕ) → any applies (earlier c (length out)) 
 unfolding earlier
 late c out n =
     record {
-      over = over-formed c out (none-before (fileRows c) _ n) (none-before (tableRows t) asked (none-after (fileRows c) _ n));
+      over = over-formed c out (none-before (fileRows c) _ n) (none-before (tableRows t) (listRows (moves c) ++ asked) (none-after (fileRows c) _ n));
+      good = none-of-list (moves c) (rw list-rows at (none-before (listRows (moves c)) asked later));
       none = none;
       holds = known t (request c) (room c out) none .1;
     }
@@ -72,28 +76,31 @@ late c out n =
     asked : List (Bool × Refusal)
     asked = requestRows t (request c) (perQuarter c) (length out)
 
+    later : any applies (listRows (moves c) ++ asked) ≡ false
+    later = none-after (tableRows t) (listRows (moves c) ++ asked) (none-after (fileRows c) _ n)
+
     none : NoneEarlier t (request c) (room c out)
     none =
         rw (request-rows t (request c) (perQuarter c) (length out) (room c out) (room-test c out)) at
-        (none-after (tableRows t) asked (none-after (fileRows c) _ n))
+        (none-after (listRows (moves c)) asked later)
 
 -- so it is where the result is 0 or 8 to 10
 abbrev pub isLate : Reply → Bool
 isLate x = member (numberIn x) (0 ∷ 8 ∷ 9 ∷ 10 ∷ [])
 
 late-other : (c : Call) (size : ℕ) → all (other isLate) (earlier c size) ≡ true
-unfolding earlier fileRows tableRows requestRows all member
-late-other (overTable t r) size = refl
+unfolding earlier fileRows tableRows listRows requestRows all member
+late-other (overTable list t r) size = refl
 late-other (ofFile file place) size = refl
 
 pub none-earlier : (c : Call) (out : List ℕ) → isLate (replyOf c out) ≡ true → any applies (earlier c (length out)) ≡ false
 unfolding rows
 none-earlier c out e =
-    passes isLate (earlier c (length out)) (firstOf (dayRows (extract c) (request c)) last) (late-other c (length out))
-    (rw (first-append (earlier c (length out)) (dayRows (extract c) (request c)) last) at e)
+    passes isLate (earlier c (length out)) (firstOf (dayRows (moves c) (extract c) (request c)) last) (late-other c (length out))
+    (rw (first-append (earlier c (length out)) (dayRows (moves c) (extract c) (request c)) last) at e)
   where
     last : Reply
-    last = answered (answerOver (extract c) (request c))
+    last = answered (answerOver (moves c) (extract c) (request c))
 
 -- a settled reply is one of these
 pub settled-late : (n : ℕ) → member n (0 ∷ 9 ∷ 10 ∷ []) ≡ true → member n (0 ∷ 8 ∷ 9 ∷ 10 ∷ []) ≡ true

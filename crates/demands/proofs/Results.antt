@@ -8,11 +8,10 @@ use native.Mathlib.Nat.{one-mul}
 use lib.ListN.{length, drop}
 use lib.Dec.{ltb, eqb}
 use Rattle.base_lists.specs.Lists.{member}
-use Rattle.calendar_groups.specs.Holidays.{group}
 use Rattle.method.specs.declared.Request.{Request}
 use Rattle.method.specs.declared.Refusal.{Refusal}
 use Rattle.method.specs.declared.Refusal.the-variants.{BadFile, NoEvent, BadTable, BadMark, BadReading, BadRequest, NotHeld}
-use Rattle.method.specs.declared.Refusal.the-variants.{NotYetParticipating, NoRoom, MarginTooShort, TooFew, NoAdjustmentWindow, Unwritable}
+use Rattle.method.specs.declared.Refusal.the-variants.{NotYetParticipating, NoRoom, MarginTooShort, TooFew, NoAdjustmentWindow, Unwritable, BadMoves}
 use Rattle.method.specs.Table.{Table}
 use Rattle.method.specs.Verdict.{Reply, Answer as Numbers, refused, answered, number, firstOf, verdict, written}
 use Rattle.method.specs.CutTables.{isMargin, isSettled, reported as reportedIn}
@@ -24,30 +23,31 @@ use Rattle.engine_answer.specs.Answer.{answerOf, Answers}
 use Rattle.table_bytes.specs.Output.{AnswersInBytes, bytesWritten}
 use Rattle.table_bytes.proofs.Laws.{below-four}
 use Rattle.file_baseline.specs.Reply.{fileReply}
-use Rattle.demands.specs.Calls.{Call, overTable, ofFile, extract, request, perQuarter, stand, room, Gets, result, reported}
-use Rattle.demands.specs.Rows.{fileRows, tableRows, requestRows, dayRows, earlier, rows, answerOver}
+use Rattle.demands.specs.Calls.{Call, overTable, ofFile, moves, extract, request, perQuarter, stand, room, Gets, result, reported}
+use Rattle.demands.specs.Rows.{fileRows, tableRows, listRows, requestRows, dayRows, earlier, rows, answerOver}
 use Rattle.demands.proofs.Rows.{verdict-rows, file-rows}
 use Rattle.base_bytes.proofs.Bytes.{reading-length}
 
 -- the reply of a call by its rows
 abbrev pub replyOf : Call → List ℕ → Reply
-replyOf c out = firstOf (rows c (length out)) (answered (answerOver (extract c) (request c)))
+replyOf c out = firstOf (rows c (length out)) (answered (answerOver (moves c) (extract c) (request c)))
 
 -- the test of 7 in numerators
 pub room-test : (c : Call) (out : List ℕ)
     → ltb (length out) (perQuarter c * (request c .e - request c .s)) ≡ ltb (room c out) (request c .e - request c .s)
-room-test (overTable t r) out = rw one-mul
+room-test (overTable list t r) out = rw one-mul
 room-test (ofFile file place) out = sym (below-four (length out) (requestAt file place .e - requestAt file place .s))
 
 -- it is that of 11 and 12, and then the verdict over its extract
-pub over-extract : (c : Call) (out : List ℕ) → replyOf c out ≡ firstOf (fileRows c) (verdict group (extract c) (request c) (room c out))
+pub over-extract : (c : Call) (out : List ℕ) → replyOf c out ≡ firstOf (fileRows c) (verdict (moves c) (extract c) (request c) (room c out))
 unfolding rows earlier
 over-extract c out =
     rw (
-      first-append (fileRows c ++ (tableRows t ++ asked)) (dayRows t r) (answered (answerOver t r)),
-      first-append (fileRows c) (tableRows t ++ asked) (firstOf (dayRows t r) (answered (answerOver t r))),
-      first-append (tableRows t) asked (firstOf (dayRows t r) (answered (answerOver t r))),
-      verdict-rows t r (perQuarter c) (length out) (room c out) (room-test c out),
+      first-append (fileRows c ++ (tableRows t ++ (listRows (moves c) ++ asked))) (dayRows (moves c) t r) (answered (answerOver (moves c) t r)),
+      first-append (fileRows c) (tableRows t ++ (listRows (moves c) ++ asked)) last,
+      first-append (tableRows t) (listRows (moves c) ++ asked) last,
+      first-append (listRows (moves c)) asked last,
+      verdict-rows (moves c) t r (perQuarter c) (length out) (room c out) (room-test c out),
     )
   where
     t : Table
@@ -59,23 +59,26 @@ over-extract c out =
     asked : List (Bool × Refusal)
     asked = requestRows t r (perQuarter c) (length out)
 
+    last : Reply
+    last = firstOf (dayRows (moves c) t r) (answered (answerOver (moves c) t r))
+
 pub gets-same : (c : Call) (a : Answer) (out after : List ℕ) {x y : Reply} → x ≡ y → Gets c x a out after → Gets c y a out after
 gets-same c a out after e g = subst (λ (z : Reply). Gets c z a out after) e g
 
 -- what the contract of a call says
 abbrev pub Gives : Call → Answer → List ℕ → List ℕ → Type 0
-Gives (overTable t r) a out after = Answers (verdict group t r (length out)) a out after
+Gives (overTable list t r) a out after = Answers (verdict list t r (length out)) a out after
 Gives (ofFile file place) a out after = AnswersInBytes (fileReply file place (length out)) a out after
 
 pub gives-gets : (c : Call) (a : Answer) (out after : List ℕ) → Gives c a out after → Gets c (replyOf c out) a out after
 unfolding fileRows firstOf
-gives-gets (overTable t r) a out after g = gets-same (overTable t r) a out after (sym (over-extract (overTable t r) out)) g
+gives-gets (overTable list t r) a out after g = gets-same (overTable list t r) a out after (sym (over-extract (overTable list t r) out)) g
 gives-gets (ofFile file place) a out after g =
     gets-same (ofFile file place) a out after (file-rows file place (length out) ∙ sym (over-extract (ofFile file place) out)) g
 
 -- ---- the result
 pub gets-answer : (c : Call) (a : Answer) (out after : List ℕ) (x : Reply) → Gets c x a out after → a ≡ answerOf x
-gets-answer (overTable t r) a out after x g = g .answer
+gets-answer (overTable list t r) a out after x g = g .answer
 gets-answer (ofFile file place) a out after x g = g .answer
 
 pub is-refused : (x : Reply) (w : Refusal) → answerOf x .given ≡ Refused w → x ≡ refused w
@@ -127,6 +130,7 @@ settled-is (refused (MarginTooShort k)) = refl
 settled-is (refused (TooFew n k)) = refl
 settled-is (refused (NoAdjustmentWindow k)) = refl
 settled-is (refused Unwritable) = refl
+settled-is (refused BadMoves) = refl
 
 pub margin-is : (x : Reply) → isMargin x ≡ eqb (numberIn x) 8
 margin-is (refused w) = refl
@@ -135,15 +139,15 @@ margin-is (answered n) = refl
 -- ---- the output
 pub gets-kept : (c : Call) (a : Answer) (out after : List ℕ) (w : Refusal) → Gets c (refused w) a out after → after ≡ out
 unfolding written bytesWritten
-gets-kept (overTable t r) a out after w g = g .output
+gets-kept (overTable list t r) a out after w g = g .output
 gets-kept (ofFile file place) a out after w g = g .output
 
 pub gets-output : (c : Call) (a : Answer) (out after : List ℕ) (n : Numbers) → Gets c (answered n) a out after
     → after ≡ stand c (n .numerators) ++ drop (perQuarter c * length (n .numerators)) out
 unfolding written bytesWritten
-gets-output (overTable t r) a out after n g = rw one-mul (g .output)
+gets-output (overTable list t r) a out after n g = rw one-mul (g .output)
 gets-output (ofFile file place) a out after n g = g .output
 
 pub stand-length : (c : Call) (ns : List ℕ) → length (stand c ns) ≡ perQuarter c * length ns
-stand-length (overTable t r) ns = sym (one-mul (length ns))
+stand-length (overTable list t r) ns = sym (one-mul (length ns))
 stand-length (ofFile file place) ns = reading-length ns

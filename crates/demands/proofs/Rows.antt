@@ -17,15 +17,16 @@ use Rattle.method.specs.Adjustment.{Baseline, floored, adjustment, baselineAt, 
 use Rattle.method.specs.Rules.{methodBy}
 use Rattle.method.specs.HighXofY.{highXofY}
 use Rattle.method.specs.Requested.{rulesOf, methodOf}
-use Rattle.method.specs.Verdict.{Reply, refused, answered, tableRefusals, goodRequest, requestRefusals, closing, firstOf, methodology, verdict}
+use Rattle.method.specs.Verdict.{Reply, refused, answered, tableRefusals, goodRequest, requestRefusals, closing, firstOf, methodology, byList, verdict}
 use Rattle.engine_baseline.proofs.Laws.{numerators-are}
 use Rattle.file_record.specs.declared.EventAt.the-variants.{Event, NoEvent as NoneThere}
 use Rattle.file_record.specs.declared.Read.the-variants.{File, Refused}
-use Rattle.file_record.specs.Reader.{isPF, goodEnd, eventsIn, shapeIn, readFile, tableIn, requestAt, eventAtPlace}
+use Rattle.file_record.specs.Reader.{isPF, goodEnd, eventsIn, shapeIn, readFile, listIn, tableIn, requestAt, eventAtPlace}
 use Rattle.file_baseline.specs.Reply.{replyTo, fileReply}
 use Rattle.demands.specs.Calls.{ofFile}
 use Rattle.demands.specs.Rows.{chosenOf, windowOf, reachOf, endOf, AOf, BOf, NOf, numeratorsOf, answerOver}
-use Rattle.demands.specs.Rows.{fileRows, tableRows, requestRows, dayRows}
+use Rattle.demands.specs.Rows.{fileRows, tableRows, listRows, requestRows, dayRows}
+use Rattle.demands.proofs.Moves.{list-rows}
 use Rattle.demands.proofs.Tests.{below-not, from-not, and-not, or-not, none-of-four, any-not, none-chosen}
 
 -- 1
@@ -85,50 +86,52 @@ closing-rows false true z k p q n days b = refl
 closing-rows false false true k p q n days b = refl
 closing-rows false false false k p q n days b = refl
 
-worked : (t : Table) (r : Request) → Baseline
-worked t r = baselineAt r (NOf r) (chosenOf t r) (adjustment (NOf r) (AOf t r) (BOf t r))
+module _ (moves : List ℕ) (t : Table) (r : Request) where
+  worked : Baseline
+  worked = baselineAt r (NOf moves r) (chosenOf moves t r) (adjustment (NOf moves r) (AOf moves t r) (BOf moves t r))
 
-worked-is : (t : Table) (r : Request)
-    → record {
-      days = daysOf (chosenOf t r);
-      reach = reachOf t r;
-      denominator = worked t r .denominator;
-      adjusted = worked t r .adjusted;
-      numerators = map floored (worked t r .numerators);
-    } ≡ answerOver t r
-unfolding worked answerOver numeratorsOf baselineAt
-worked-is t r = rw (numerators-are r (NOf r) (chosenOf t r) (AOf t r) (BOf t r))
+  worked-is : record {
+    days = daysOf (chosenOf moves t r);
+    reach = reachOf moves t r;
+    denominator = worked .denominator;
+    adjusted = worked .adjusted;
+    numerators = map floored (worked .numerators);
+  } ≡ answerOver moves t r
+  unfolding worked answerOver numeratorsOf baselineAt
+  worked-is = rw (numerators-are r (NOf moves r) (chosenOf moves t r) (AOf moves t r) (BOf moves t r))
 
-day-rows : (t : Table) (r : Request) → closing (outcome (methodOf group r) (history t)) ≡ firstOf (dayRows t r) (answered (answerOver t r))
-unfolding outcome methodOf methodBy rulesOf highXofY baseline isShort wholeReach dayRows worked
-day-rows t r =
-    closing-rows (isShort (methodOf group r) (history t)) (eqb (cond (ltb (length (windowOf t r)) (NOf r)) 0 (NOf r)) 0) (eqb (endOf t r) 0)
-    (wholeReach (methodOf group r)) (length (windowOf t r)) (reachOf t r) (reachOf t r) (daysOf (chosenOf t r)) (worked t r) ∙
-    rw (none-chosen (group (r .event)) (length (windowOf t r)), worked-is t r)
+  day-rows : closing (outcome (methodOf (group moves) r) (history t)) ≡ firstOf (dayRows moves t r) (answered (answerOver moves t r))
+  unfolding outcome methodOf methodBy rulesOf highXofY baseline isShort wholeReach dayRows worked
+  day-rows =
+      closing-rows (isShort (methodOf (group moves) r) (history t)) (eqb (cond (ltb (length (windowOf moves t r)) (NOf moves r)) 0 (NOf moves r)) 0)
+      (eqb (endOf moves t r) 0) (wholeReach (methodOf (group moves) r)) (length (windowOf moves t r)) (reachOf moves t r) (reachOf moves t r)
+      (daysOf (chosenOf moves t r)) worked ∙
+      rw (none-chosen (group moves (r .event)) (length (windowOf moves t r)), worked-is)
 
-pub verdict-rows : (t : Table) (r : Request) (w size room : ℕ) → ltb size (w * (r .e - r .s)) ≡ ltb room (r .e - r .s)
-    → verdict group t r room ≡ firstOf (tableRows t) (firstOf (requestRows t r w size) (firstOf (dayRows t r) (answered (answerOver t r))))
-unfolding verdict methodology
-verdict-rows t r w size room e = rw (table-rows t, request-rows t r w size room e, day-rows t r)
+  pub verdict-rows : (w size room : ℕ) → ltb size (w * (r .e - r .s)) ≡ ltb room (r .e - r .s)
+      → verdict moves t r room
+      ≡ firstOf (tableRows t) (firstOf (listRows moves) (firstOf (requestRows t r w size) (firstOf (dayRows moves t r) (answered (answerOver moves t r)))))
+  unfolding verdict byList methodology
+  verdict-rows w size room e = rw (table-rows t, list-rows moves, request-rows t r w size room e, day-rows)
 
 -- 11 and 12
 module _ (file : List ℕ) (place room : ℕ) where
   its : Reply
-  its = verdict group (tableIn file) (requestAt file place) (room / 4)
+  its = verdict (listIn file) (tableIn file) (requestAt file place) (room / 4)
 
-  at-place : (b : Bool) → replyTo (cond b (Event (requestAt file place)) NoneThere) (tableIn file) room ≡ cond (not b) (refused NoEvent) its
+  at-place : (b : Bool) → replyTo (cond b (Event (requestAt file place)) NoneThere) (listIn file) (tableIn file) room ≡ cond (not b) (refused NoEvent) its
   unfolding its
   at-place true = refl
   at-place false = refl
 
   in-file : (p g : Bool)
-      → replyTo (eventAtPlace (cond p (cond g (File (shapeIn file)) (Refused (goodEnd file))) (Refused 0)) file place) (tableIn file) room
+      → replyTo (eventAtPlace (cond p (cond g (File (shapeIn file)) (Refused (goodEnd file))) (Refused 0)) file place) (listIn file) (tableIn file) room
       ≡ cond (not (p && g)) (refused (BadFile (cond p (goodEnd file) 0))) (cond (leb (eventsIn file) place) (refused NoEvent) its)
   unfolding shapeIn
   in-file true true = at-place (ltb place (eventsIn file)) ∙ rw (from-not (eventsIn file) place)
   in-file true false = refl
   in-file false g = refl
 
-  pub file-rows : fileReply file place room ≡ firstOf (fileRows (ofFile file place)) (verdict group (tableIn file) (requestAt file place) (room / 4))
+  pub file-rows : fileReply file place room ≡ firstOf (fileRows (ofFile file place)) (verdict (listIn file) (tableIn file) (requestAt file place) (room / 4))
   unfolding fileReply readFile fileRows firstOf its
   file-rows = in-file (isPF file) (eqb (goodEnd file) (length file))

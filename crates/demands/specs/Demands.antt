@@ -17,12 +17,12 @@ use Rattle.method.specs.Method.{daysOf, wholeReach}
 use Rattle.method.specs.Adjustment.{adjustment}
 use Rattle.method.specs.Ruler.{rulerStart}
 use Rattle.method.specs.Requested.{methodOf}
-use Rattle.method.specs.Verdict.{answered, refused, firstOf, methodology, verdict}
+use Rattle.method.specs.Verdict.{answered, refused, firstOf, byList, verdict}
 use Rattle.method.specs.CutTables.{LongerFormed, heldBefore, cutTo, Undecided, Parted}
 use Rattle.engine_answer.specs.Answer.{inFive}
 use Rattle.engine_answer.specs.declared.Given.the-variants.{Answered, Refused}
 use Rattle.engine_answer.specs.declared.Answer.{Answer}
-use Rattle.demands.specs.Calls.{Call, extract, request, perQuarter, stand, room, Gets, result, reported}
+use Rattle.demands.specs.Calls.{Call, moves, extract, request, perQuarter, stand, room, Gets, result, reported}
 use Rattle.demands.specs.Rows.{fileRows, tableRows, earlier, rows, applies, FirstIn, answerOver, numeratorsOf, chosenOf, reachOf, AOf, BOf, NOf}
 
 -- a number is one of these
@@ -41,7 +41,7 @@ module _ (c : Call) (a : Answer) (out after : List ℕ) where
   pub record Demand1 : Type 0 where
     -- "For every table, file and request the call ends in an answer or in one refusal from the list in document 01, in its order.": the first of
     -- the rows of which the test holds; where none does, the answer
-    pub one : Gets c (firstOf (rows c (length out)) (answered (answerOver (extract c) (request c)))) a out after
+    pub one : Gets c (firstOf (rows c (length out)) (answered (answerOver (moves c) (extract c) (request c)))) a out after
     -- "When, and only when"
     pub refused-when : (w : Refusal) → (a .given ≡ Refused w) ↔ FirstIn (rows c (length out)) w
     pub answered-when : (a .given ≡ Answered) ↔ (any applies (rows c (length out)) ≡ false)
@@ -54,30 +54,31 @@ module _ (c : Call) (a : Answer) (out after : List ℕ) where
   -- "The window, the ranked days, the adjustment and the baseline are those of the operator's methodology, version 1.0, as document 01 fixes
   -- it, exact to the last fraction of a kilowatt.": numerators over 12N
   pub record Demand2 : Type 0 where
-    pub days : a .chosen .days ≡ inFive (daysOf (chosenOf (extract c) (request c)))
-    pub count : a .chosen .count ≡ NOf (request c)
-    pub reach : a .chosen .reach ≡ reachOf (extract c) (request c)
-    pub denominator : a .denominator ≡ 12 * NOf (request c)
-    pub adjusted : a .adjustment ≡ adjustment (NOf (request c)) (AOf (extract c) (request c)) (BOf (extract c) (request c))
-    pub numerators : take (quarters c) after ≡ stand c (numeratorsOf (extract c) (request c))
+    pub days : a .chosen .days ≡ inFive (daysOf (chosenOf (moves c) (extract c) (request c)))
+    pub count : a .chosen .count ≡ NOf (moves c) (request c)
+    pub reach : a .chosen .reach ≡ reachOf (moves c) (extract c) (request c)
+    pub denominator : a .denominator ≡ 12 * NOf (moves c) (request c)
+    pub adjusted : a .adjustment ≡ adjustment (NOf (moves c) (request c)) (AOf (moves c) (extract c) (request c)) (BOf (moves c) (extract c) (request c))
+    pub numerators : take (quarters c) after ≡ stand c (numeratorsOf (moves c) (extract c) (request c))
     -- "The answer holds the numerators, never above 1,200,000,000, over 60 or 24."
-    pub never-above : all (λ x. leb x 1200000000) (numeratorsOf (extract c) (request c)) ≡ true
+    pub never-above : all (λ x. leb x 1200000000) (numeratorsOf (moves c) (extract c) (request c)) ≡ true
     pub over : OneOf (a .denominator) (60 ∷ 24 ∷ [])
 
   pub record Demand3 : Type 0 where
     -- "Where an event over a well-formed extract gets an answer, 'too few days' or 'no adjustment window', every longer well-formed history
-    -- that agrees with the extract, for the same portfolio and request, gets the same by the methodology, all numbers included."
-    pub stable : Settled a → (l : Table) → LongerFormed l (extract c) → Gets c (methodology group (history l) (request c) (room c out)) a out after
+    -- that agrees with the extract, for the same portfolio and request, gets the same by the methodology, all numbers included.": 02, order 2, reads
+    -- this "for the same list", and demand 2 too
+    pub stable : Settled a → (l : Table) → LongerFormed l (extract c) → Gets c (byList (moves c) (history l) (request c) (room c out)) a out after
     -- "'Margin too short' is given, once no earlier refusal applies, exactly when two longer well-formed histories agree with the extract and
     -- have different baseline windows for that request.": and two strictly longer ones, with a day in one window alone, are shown
-    pub exactly : any applies (earlier c (length out)) ≡ false → (result a ≡ 8) ↔ Undecided group (extract c) (request c)
-    pub shown : result a ≡ 8 → Parted group (extract c) (request c)
+    pub exactly : any applies (earlier c (length out)) ≡ false → (result a ≡ 8) ↔ Undecided (group (moves c)) (extract c) (request c)
+    pub shown : result a ≡ 8 → Parted (group (moves c)) (extract c) (request c)
     -- "The reported reach is the fewest days before the event that give this result.": so many are held; the extract cut to so many gets the same
     -- result, and cut to fewer it gets "margin too short"
     pub reach-held : Settled a → reported a ≤ heldBefore (extract c) (request c)
-    pub reach-same : Settled a → Gets c (verdict group (cutTo (extract c) (request c) (reported a)) (request c) (room c out)) a out after
+    pub reach-same : Settled a → Gets c (verdict (moves c) (cutTo (extract c) (request c) (reported a)) (request c) (room c out)) a out after
     pub reach-fewest : Settled a → (k : ℕ) → k < reported a
-        → verdict group (cutTo (extract c) (request c) k) (request c) (room c out) ≡ refused (MarginTooShort (wholeReach (methodOf group (request c))))
+        → verdict (moves c) (cutTo (extract c) (request c) k) (request c) (room c out) ≡ refused (MarginTooShort (wholeReach (methodOf (group (moves c)) (request c))))
 
 -- `u` is `t` but for day D's mark, its readings from s on, and all later days; it may end on another day
 pub record SameBefore (t u : Table) (r : Request) : Type 0 where
@@ -92,7 +93,7 @@ abbrev pub NoPart : Call → Answer → List ℕ → List ℕ → Type 0
 NoPart c a out after =
     any applies (fileRows c) ≡ false → any applies (tableRows (extract c)) ≡ false
     → (u : Table) → SameBefore (extract c) u (request c) → any applies (tableRows u) ≡ false
-    → Gets c (verdict group u (request c) (room c out)) a out after
+    → Gets c (verdict (moves c) u (request c) (room c out)) a out after
 
 pub record Demands (c : Call) (a : Answer) (out after : List ℕ) : Type 0 where
   pub first : Demand1 c a out after

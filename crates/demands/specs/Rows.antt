@@ -1,5 +1,5 @@
--- 01's table of refusals, row by row, and what is answered where none applies.
-use Prim.Native.Nat.{ℕ, _+_, _-_, _*_}
+-- 01's table of refusals, row by row, with the row that order 2 of 02 puts into it, and what is answered where none applies.
+use Prim.Native.Nat.{ℕ, _+_, _-_, _*_, _/_, _%_}
 use mathlib.Core.Path.{_≡_}
 use mathlib.Core.Bool.{Bool, true, false, not, cond, _&&_, _||_}
 use mathlib.Core.List.{List, [], _∷_, _++_, map}
@@ -7,11 +7,11 @@ use lib.ListN.{length, getD, take}
 use lib.Dec.{leb, ltb, eqb}
 use Rattle.base_lists.specs.Lists.{any, leading, leastOf, places}
 use Rattle.calendar_dates.specs.Days.{lastDay}
-use Rattle.calendar_groups.specs.Holidays.{group}
+use Rattle.calendar_groups.specs.Holidays.{isFixedHoliday, firstDays, repeated, group}
 use Rattle.method.specs.declared.Request.{Request}
 use Rattle.method.specs.declared.Refusal.{Refusal}
 use Rattle.method.specs.declared.Refusal.the-variants.{BadFile, NoEvent, BadTable, BadMark, BadReading, BadRequest, NotHeld}
-use Rattle.method.specs.declared.Refusal.the-variants.{NotYetParticipating, NoRoom, MarginTooShort, TooFew, NoAdjustmentWindow}
+use Rattle.method.specs.declared.Refusal.the-variants.{NotYetParticipating, NoRoom, MarginTooShort, TooFew, NoAdjustmentWindow, BadMoves}
 use Rattle.method.specs.Table.{Table, Day, heldDays, offset, dayOf, held, history, goodMark, goodReading, missing}
 use Rattle.method.specs.Ruler.{rulerStart, rulerEnd}
 use Rattle.method.specs.Relevant.{relevantDays}
@@ -21,18 +21,25 @@ use Rattle.method.specs.HighXofY.{Y, N}
 use Rattle.method.specs.Requested.{methodOf}
 use Rattle.method.specs.Verdict.{Answer}
 use Rattle.file_record.specs.Reader.{isPF, goodEnd, eventsIn}
-use Rattle.demands.specs.Calls.{Call, overTable, ofFile, extract, request, perQuarter}
+use Rattle.demands.specs.Calls.{Call, overTable, ofFile, moves, extract, request, perQuarter}
 
--- the methodology of an extract and a request: window, chosen days and reach; the ruler, where the adjustment window ends, A and B
-module _ (t : Table) (r : Request) where
+-- Y and N of a request, by a list of moves
+abbrev pub YOf : List ℕ → Request → ℕ
+YOf moves r = Y (group moves (r .event))
+
+abbrev pub NOf : List ℕ → Request → ℕ
+NOf moves r = N (group moves (r .event))
+
+-- the methodology of an extract and a request by a list of moves: window, chosen days and reach; the ruler, where the adjustment window ends, A and B
+module _ (moves : List ℕ) (t : Table) (r : Request) where
   abbrev pub windowOf : List (ℕ × Day)
-  windowOf = window (methodOf group r) (history t)
+  windowOf = window (methodOf (group moves) r) (history t)
 
   abbrev pub chosenOf : List (ℕ × Day)
-  chosenOf = chosen (methodOf group r) (history t)
+  chosenOf = chosen (methodOf (group moves) r) (history t)
 
   abbrev pub reachOf : ℕ
-  reachOf = reach (methodOf group r) (history t)
+  reachOf = reach (methodOf (group moves) r) (history t)
 
   abbrev pub rulerOf : List ℕ
   rulerOf = ruler (dayOf t (r .event - 1)) (dayOf t (r .event))
@@ -46,31 +53,24 @@ module _ (t : Table) (r : Request) where
   abbrev pub BOf : ℕ
   BOf = B (r .event) chosenOf endOf
 
--- Y and N of a request
-abbrev pub YOf : Request → ℕ
-YOf r = Y (group (r .event))
+  -- "The baseline at event quarter t is max(0, 12·S(t) + N·A - B)/(12N)": the numerators, where `-` stops at 0
+  unfoldable pub numeratorsOf : List ℕ
+  numeratorsOf = map (λ q. 12 * S (r .event) chosenOf q + NOf moves r * AOf - BOf) (places (r .e - r .s) (r .s))
 
-abbrev pub NOf : Request → ℕ
-NOf r = N (group (r .event))
-
--- "The baseline at event quarter t is max(0, 12·S(t) + N·A - B)/(12N)": the numerators, where `-` stops at 0
-unfoldable pub numeratorsOf : Table → Request → List ℕ
-numeratorsOf t r = map (λ q. 12 * S (r .event) (chosenOf t r) q + NOf r * AOf t r - BOf t r) (places (r .e - r .s) (r .s))
-
--- what is answered
-unfoldable pub answerOver : Table → Request → Answer
-answerOver t r =
-    record {
-      days = daysOf (chosenOf t r);
-      reach = reachOf t r;
-      denominator = 12 * NOf r;
-      adjusted = adjustment (NOf r) (AOf t r) (BOf t r);
-      numerators = numeratorsOf t r;
-    }
+  -- what is answered
+  unfoldable pub answerOver : Answer
+  answerOver =
+      record {
+        days = daysOf chosenOf;
+        reach = reachOf;
+        denominator = 12 * NOf moves r;
+        adjusted = adjustment (NOf moves r) AOf BOf;
+        numerators = numeratorsOf;
+      }
 
 -- "Refusal numbers, tested in this order": "When, and only when", and what it carries
 unfoldable pub fileRows : Call → List (Bool × Refusal)
-fileRows (overTable t r) = []
+fileRows (overTable list t r) = []
 fileRows (ofFile file place) =
     -- 11: "file not as laid down (file callers only)", "byte offset of that record"
     (not (isPF file && eqb (goodEnd file) (length file)), BadFile (cond (isPF file) (goodEnd file) 0)) ∷
@@ -90,6 +90,16 @@ tableRows t =
     -- 3: "a reading above 10,000,000 that is not the missing mark", "place of the first"
     (any (λ x. ltb 10000000 x && not (eqb x missing)) (t .readings), BadReading (leading goodReading (t .readings))) ∷ []
 
+-- order 2: "after 3, before 4"
+unfoldable pub listRows : List ℕ → List (Bool × Refusal)
+listRows moves =
+    -- 14: "a pair whose first day is no fixed-date holiday, a repeated first day, more than 16 pairs or a day past 36,524"; or half a pair
+    (
+      any (λ d. not (isFixedHoliday d)) (firstDays moves) || repeated (firstDays moves) || ltb 16 (length moves / 2) || any (λ d. ltb lastDay d) moves ||
+          eqb (length moves % 2) 1,
+      BadMoves,
+    ) ∷ []
+
 -- where `size` is the output's length, and `w` the places of it that a numerator takes
 unfoldable pub requestRows : Table → Request → ℕ → ℕ → List (Bool × Refusal)
 requestRows t r w size =
@@ -106,24 +116,24 @@ requestRows t r w size =
     -- 7: "output shorter than e-s quarters"; of a file "below 4(e-s) bytes"
     (ltb size (w * (r .e - r .s)), NoRoom) ∷ []
 
-unfoldable pub dayRows : Table → Request → List (Bool × Refusal)
-dayRows t r =
+unfoldable pub dayRows : List ℕ → Table → Request → List (Bool × Refusal)
+dayRows moves t r =
     -- 8: "margin too short: eligible held days below Y and a relevant day before F", "D minus the oldest relevant day"
     (
-      ltb (length (eligibles (methodOf group r) (history t))) (YOf r) && any (λ d. ltb d (t .first)) (relevantDays group r),
-      MarginTooShort (r .event - leastOf (r .event) (relevantDays group r)),
+      ltb (length (eligibles (methodOf (group moves) r) (history t))) (YOf moves r) && any (λ d. ltb d (t .first)) (relevantDays (group moves) r),
+      MarginTooShort (r .event - leastOf (r .event) (relevantDays (group moves) r)),
     ) ∷
     -- 9: "too few: window below N", "its size, reach"
-    (ltb (length (windowOf t r)) (NOf r), TooFew (length (windowOf t r)) (reachOf t r)) ∷
+    (ltb (length (windowOf moves t r)) (NOf moves r), TooFew (length (windowOf moves t r)) (reachOf moves t r)) ∷
     -- 10: "no adjustment window", "reach"
-    (eqb (endOf t r) 0, NoAdjustmentWindow (reachOf t r)) ∷ []
+    (eqb (endOf moves t r) 0, NoAdjustmentWindow (reachOf moves t r)) ∷ []
 
--- 11, 12, 1 to 7: those earlier than 8; and all
+-- 11, 12, 1 to 3, 14, 4 to 7: those earlier than 8; and all
 unfoldable pub earlier : Call → ℕ → List (Bool × Refusal)
-earlier c size = fileRows c ++ (tableRows (extract c) ++ requestRows (extract c) (request c) (perQuarter c) size)
+earlier c size = fileRows c ++ (tableRows (extract c) ++ (listRows (moves c) ++ requestRows (extract c) (request c) (perQuarter c) size))
 
 unfoldable pub rows : Call → ℕ → List (Bool × Refusal)
-rows c size = earlier c size ++ dayRows (extract c) (request c)
+rows c size = earlier c size ++ dayRows (moves c) (extract c) (request c)
 
 -- the test of a row
 abbrev pub applies : Bool × Refusal → Bool

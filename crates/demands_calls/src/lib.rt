@@ -8,17 +8,18 @@ ghost use Rattle.demands.specs.Entries.{EntryDemands, Tells};
 use engine_answer::Answer;
 use method::Request;
 
-// A request over a lent table.
+// A request by a list of moves over a lent table.
 pub fn over_table(
     first: u32,
     marks: &[u8],
     readings: &[u32],
+    moves: &[u32],
     request: Request,
     out: &mut [u32],
 ) -> Answer
-    ensures { λ r. ⌜ Demands (overTable (tableOf first (now (marks .entry)) (now (readings .entry))) request) r (now (out .entry)) (now (out .exit)) ⌝ }
+    ensures { λ r. ⌜ Demands (overTable (now (moves .entry)) (tableOf first (now (marks .entry)) (now (readings .entry))) request) r (now (out .entry)) (now (out .exit)) ⌝ }
 {
-    table_baseline::baseline(first, marks, readings, request, out)
+    table_baseline::baseline(first, marks, readings, moves, request, out)
 }
 
 // The event at a place of a record file.
@@ -33,6 +34,7 @@ pub fn entry_over_table(
     first: u32,
     marks: &[u8],
     readings: &[u32],
+    moves: &[u32],
     participation: u32,
     event: u32,
     s: u32,
@@ -40,9 +42,20 @@ pub fn entry_over_table(
     n: u32,
     out: &mut [u32],
 ) -> u32
-    ensures { λ r. ⌜ EntryDemands (overTable (tableOf first (now (marks .entry)) (now (readings .entry))) (requestOf participation event s e n)) r (now (out .entry)) (now (out .exit)) ⌝ }
+    ensures { λ r. ⌜ EntryDemands (overTable (now (moves .entry)) (tableOf first (now (marks .entry)) (now (readings .entry))) (requestOf participation event s e n)) r (now (out .entry)) (now (out .exit)) ⌝ }
 {
-    host_entries::hp_baseline_table(first, marks, readings, participation, event, s, e, n, out)
+    host_entries::hp_baseline_table(
+        first,
+        marks,
+        readings,
+        moves,
+        participation,
+        event,
+        s,
+        e,
+        n,
+        out,
+    )
 }
 
 // That event, from C.
@@ -57,6 +70,7 @@ pub fn told_over_table(
     first: u32,
     marks: &[u8],
     readings: &[u32],
+    moves: &[u32],
     participation: u32,
     event: u32,
     s: u32,
@@ -64,9 +78,20 @@ pub fn told_over_table(
     n: u32,
     name: u32,
 ) -> i64
-    ensures { λ r. ⌜ Tells (overTable (tableOf first (now (marks .entry)) (now (readings .entry))) (requestOf participation event s e n)) name r ⌝ }
+    ensures { λ r. ⌜ Tells (overTable (now (moves .entry)) (tableOf first (now (marks .entry)) (now (readings .entry))) (requestOf participation event s e n)) name r ⌝ }
 {
-    host_entries::hp_told_table(first, marks, readings, participation, event, s, e, n, name)
+    host_entries::hp_told_table(
+        first,
+        marks,
+        readings,
+        moves,
+        participation,
+        event,
+        s,
+        e,
+        n,
+        name,
+    )
 }
 
 // What C is told of that event, by name.

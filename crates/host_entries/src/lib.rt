@@ -1,17 +1,16 @@
 // The entries for C. Each is total: any bytes, any numbers, any lengths.
 ghost use mathlib.Core.Path.{_≡_};
 ghost use lib.ListN.{length};
-ghost use Rattle.calendar_groups.specs.Holidays.{group};
 ghost use Rattle.method.specs.Table.{mostQuarters};
 ghost use Rattle.method.specs.Verdict.{verdict};
 ghost use Rattle.table_days.specs.Lent.{tableOf};
 ghost use Rattle.table_days.specs.Part.{partPlace};
-ghost use Rattle.file_record.specs.Reader.{readFile, eventAtPlace};
+ghost use Rattle.file_record.specs.Reader.{readFile, eventAtPlace, moveAtPlace};
 ghost use Rattle.file_record.specs.Writer.{lent};
 ghost use Rattle.engine_answer.specs.Answer.{answerOf};
 ghost use Rattle.file_baseline.specs.Reply.{fileReply};
 ghost use Rattle.host_answer.specs.Telling.{toldBy};
-ghost use Rattle.host_file.specs.OfFile.{fileTold, eventTold, placeTold};
+ghost use Rattle.host_file.specs.OfFile.{fileTold, moveTold, eventTold, placeTold};
 ghost use Rattle.calendar_dates.specs.Days.{numbered, dated};
 ghost use Rattle.host_plain.specs.Plain.{dateWritten, dayTold, dateTold, version};
 ghost use Rattle.host_entries.specs.Host.{mostBytes, requestOf, TableCall, FileCall, WriteCall, ListingCall};
@@ -52,12 +51,13 @@ fn request_of(participation: u32, event: u32, s: u32, e: u32, n: u32) -> Request
     }
 }
 
-// The baseline over a table in memory: 0 or the refusal number, and the numerators into `out`.
+// The baseline by a list of moves over a table in memory: 0 or the refusal number, and the numerators into `out`.
 #[no_mangle]
 pub extern "C" fn hp_baseline_table(
     first: u32,
     marks: &[u8],
     readings: &[u32],
+    moves: &[u32],
     participation: u32,
     event: u32,
     s: u32,
@@ -65,10 +65,10 @@ pub extern "C" fn hp_baseline_table(
     n: u32,
     out: &mut [u32],
 ) -> u32
-    ensures { λ r. ⌜ TableCall (verdict group (tableOf first (now (marks .entry)) (now (readings .entry))) (requestOf participation event s e n) (length (now (out .entry)))) r (now (out .entry)) (now (out .exit)) ⌝ }
+    ensures { λ r. ⌜ TableCall (verdict (now (moves .entry)) (tableOf first (now (marks .entry)) (now (readings .entry))) (requestOf participation event s e n) (length (now (out .entry)))) r (now (out .entry)) (now (out .exit)) ⌝ }
 {
     let request = request_of(participation, event, s, e, n);
-    let table_answer = table_baseline::baseline(first, marks, readings, request, out);
+    let table_answer = table_baseline::baseline(first, marks, readings, moves, request, out);
     let given = table_answer.given;
     host_answer::number_of(given)
 }
@@ -79,6 +79,7 @@ pub extern "C" fn hp_told_table(
     first: u32,
     marks: &[u8],
     readings: &[u32],
+    moves: &[u32],
     participation: u32,
     event: u32,
     s: u32,
@@ -86,11 +87,11 @@ pub extern "C" fn hp_told_table(
     n: u32,
     name: u32,
 ) -> i64
-    ensures { λ r. ⌜ r ≡ toldBy (answerOf (verdict group (tableOf first (now (marks .entry)) (now (readings .entry))) (requestOf participation event s e n) mostQuarters)) name ⌝ }
+    ensures { λ r. ⌜ r ≡ toldBy (answerOf (verdict (now (moves .entry)) (tableOf first (now (marks .entry)) (now (readings .entry))) (requestOf participation event s e n) mostQuarters)) name ⌝ }
 {
     let request = request_of(participation, event, s, e, n);
     let mut out = [0u32; method::QUARTERS];
-    let answer = table_baseline::baseline(first, marks, readings, request, &mut out);
+    let answer = table_baseline::baseline(first, marks, readings, moves, request, &mut out);
     host_answer::tell(answer, name)
 }
 
@@ -110,6 +111,15 @@ pub extern "C" fn hp_file(file: &[u8], name: u32) -> i64
 {
     let read = file_reading::read_file(file);
     host_file::tell_file(read, name)
+}
+
+// What the move at a place of a record file tells by name: its two days, nothing where there is none, or refusal 11.
+#[no_mangle]
+pub extern "C" fn hp_move(file: &[u8], place: usize, name: u32) -> i64
+    ensures { λ r. ⌜ r ≡ moveTold (moveAtPlace (readFile (now (file .entry))) (now (file .entry)) place) name ⌝ }
+{
+    let at = file_moves::move_at(file, place);
+    host_file::tell_move(at, name)
 }
 
 // What the event at a place of a record file tells by name: the event, or refusal 11 or 12.
@@ -138,10 +148,11 @@ pub extern "C" fn hp_write(
     first: u32,
     marks: &[u8],
     readings: &[u32],
+    moves: &[u32],
     events: &[u32],
     out: &mut [u8],
 ) -> i64
-    ensures { λ r. ⌜ WriteCall (lent participation portfolio first (now (marks .entry)) (now (readings .entry)) (now (events .entry))) r (now (out .entry)) (now (out .exit)) ⌝ }
+    ensures { λ r. ⌜ WriteCall (lent participation portfolio first (now (marks .entry)) (now (readings .entry)) (now (moves .entry)) (now (events .entry))) r (now (out .entry)) (now (out .exit)) ⌝ }
 {
     let written = file_writing::write(
         participation,
@@ -149,6 +160,7 @@ pub extern "C" fn hp_write(
         first,
         marks,
         readings,
+        moves,
         events,
         out,
     );

@@ -1,9 +1,11 @@
-// What a caller written in C is told by include/honeyplank.h: of a record file, of an event in it, of the part of a day, of a file that was to be
+// What a caller written in C is told by include/honeyplank.h: of a record file, of a move and an event in it, of the part of a day, of a file that was to be
 // written, and of a listing.
 ghost use mathlib.Core.Path.{_≡_};
+ghost use Rattle.file_record.specs.declared.MoveAt.the-variants.{NoMove};
 ghost use Rattle.host_answer.specs.Names.{byName};
-ghost use Rattle.host_file.specs.OfFile.{shapeRow, fileTold, requestRow, eventTold, placeTold, writtenTold, listedTold};
+ghost use Rattle.host_file.specs.OfFile.{shapeRow, fileTold, daysRow, moveTold, requestRow, eventTold, placeTold, writtenTold, listedTold};
 use file_record::EventAt;
+use file_record::MoveAt;
 use file_record::Read;
 use file_record::Shape;
 use file_record::Written;
@@ -23,6 +25,7 @@ fn tell_shape(shape: Shape, name: u32) -> i64
         14 => shape.first as i64,
         15 => shape.days as i64,
         16 => shape.events as i64,
+        21 => shape.moves as i64,
         _ => host_answer::NOTHING,
     }
 }
@@ -34,6 +37,39 @@ pub fn tell_file(read: Read, name: u32) -> i64
     match read {
         Read::Refused(at) => host_answer::tell_refusal(Refusal::BadFile(at), name),
         Read::File(shape) => tell_shape(shape, name),
+    }
+}
+
+// Of the two days of a move.
+fn tell_days(old: u32, new: u32, name: u32) -> i64
+    ensures { λ r. ⌜ r ≡ byName (daysRow old new) name ⌝ }
+{
+    match name {
+        0 => 0,
+        22 => old as i64,
+        23 => new as i64,
+        _ => host_answer::NOTHING,
+    }
+}
+
+// Where there is no move at a place: no number but the result.
+fn tell_no_move(name: u32) -> i64
+    ensures { λ r. ⌜ r ≡ moveTold NoMove name ⌝ }
+{
+    match name {
+        0 => 0,
+        _ => host_answer::NOTHING,
+    }
+}
+
+// Of the move at a place: its two days; none; or refusal 11.
+pub fn tell_move(at: MoveAt, name: u32) -> i64
+    ensures { λ r. ⌜ r ≡ moveTold at name ⌝ }
+{
+    match at {
+        MoveAt::Refused(start) => host_answer::tell_refusal(Refusal::BadFile(start), name),
+        MoveAt::NoMove => tell_no_move(name),
+        MoveAt::Move { old, new } => tell_days(old, new, name),
     }
 }
 

@@ -5,7 +5,6 @@ use mathlib.Core.List.{List, _++_, append-nil}
 use native.Mathlib.Omega.{arith}
 use lib.ListN.{length, take, drop, replicate}
 use lib.Seq.{take-at, take-take}
-use Rattle.calendar_groups.specs.Holidays.{group}
 use Rattle.method.specs.declared.Request.{Request}
 use Rattle.method.specs.declared.Refusal.{Refusal}
 use Rattle.method.specs.Table.{Table, mostQuarters}
@@ -27,10 +26,10 @@ refusal-lines r (refused v) {answer} {w} e g =
     let same : w ≡ v = cc in rw (same, append-nil (lineText (refusalLine r v)))
 refusal-lines r (answered a) e g = let z : _≡_ {A = ℕ} 0 1 = cc in absurd (omega arith)
 
-pub refusal-text : (t : Table) (r : Request) {answer : Answer} {w : Refusal} {out after : List ℕ} → Answers (verdict group t r mostQuarters) answer out after
-    → answer .given ≡ Refused w → lineText (refusalLine r w) ≡ eventText t r
+pub refusal-text : (moves : List ℕ) (t : Table) (r : Request) {answer : Answer} {w : Refusal} {out after : List ℕ} → Answers (verdict moves t r mostQuarters) answer out after
+    → answer .given ≡ Refused w → lineText (refusalLine r w) ≡ eventText moves t r
 unfolding eventText repliedLines
-refusal-text t r q g = refusal-lines r (verdict group t r mostQuarters) (q .answer) g
+refusal-text moves t r q g = refusal-lines r (verdict moves t r mostQuarters) (q .answer) g
 
 -- ---- answered
 first-days : (days : List ℕ) → length days ≤ 5 → take (length days) (inFive days) ≡ days
@@ -40,18 +39,18 @@ first-written : (r : Request) (a : Numbers) (out : List ℕ) → Sound r mostQua
 unfolding written
 first-written r a out s = take-at (a .numerators) (drop (length (a .numerators)) out) (min (r .e - r .s) mostQuarters) (omega (arith, s .quarters, s .enough))
 
-listed-as : (t : Table) (r : Request) (a : Numbers) (out : List ℕ) → verdict group t r mostQuarters ≡ answered a → Sound r mostQuarters a
-    → linesText (answerLines r (answerOf (answered a)) (written (answered a) out)) ≡ eventText t r
+listed-as : (moves : List ℕ) (t : Table) (r : Request) (a : Numbers) (out : List ℕ) → verdict moves t r mostQuarters ≡ answered a → Sound r mostQuarters a
+    → linesText (answerLines r (answerOf (answered a)) (written (answered a) out)) ≡ eventText moves t r
 unfolding answerOf eventText repliedLines eventLines
-listed-as t r a out e s = rw (e, first-days (a .days) (s .few), first-written r a out s)
+listed-as moves t r a out e s = rw (e, first-days (a .days) (s .few), first-written r a out s)
 
 -- the lines that are written of an answer are those of the event
-pub listed : (t : Table) (r : Request) {answer : Answer} {out after : List ℕ} → Answers (verdict group t r mostQuarters) answer out after
-    → answer .given ≡ Answered → linesText (answerLines r answer after) ≡ eventText t r
+pub listed : (moves : List ℕ) (t : Table) (r : Request) {answer : Answer} {out after : List ℕ} → Answers (verdict moves t r mostQuarters) answer out after
+    → answer .given ≡ Answered → linesText (answerLines r answer after) ≡ eventText moves t r
 unfolding answerOf
-listed t r {answer} {out} {after} q g = go (verdict group t r mostQuarters) refl (q .answer) (q .output)
+listed moves t r {answer} {out} {after} q g = go (verdict moves t r mostQuarters) refl (q .answer) (q .output)
   where
-    go : (reply : Reply) → verdict group t r mostQuarters ≡ reply → answer ≡ answerOf reply → after ≡ written reply out
-        → linesText (answerLines r answer after) ≡ eventText t r
+    go : (reply : Reply) → verdict moves t r mostQuarters ≡ reply → answer ≡ answerOf reply → after ≡ written reply out
+        → linesText (answerLines r answer after) ≡ eventText moves t r
     go (refused w) e x y = let z : _≡_ {A = ℕ} 0 1 = cc in absurd (omega arith)
-    go (answered a) e x y = rw (x, y) (listed-as t r a out e (sound group t r mostQuarters e))
+    go (answered a) e x y = rw (x, y) (listed-as moves t r a out e (sound moves t r mostQuarters e))

@@ -30,15 +30,22 @@ fn put_answer(out: &mut [u8], request: Request, answer: Answer, numerators: &[u3
     listing_quarter_lines::put_quarters(out, next, request, answer.denominator, numerators)
 }
 
-// The lines of an event, at the start of the buffer: what the verdict over a table comes to, with room for a day's quarters.
-pub fn event(first: u32, marks: &[u8], readings: &[u32], request: Request, out: &mut [u8]) -> usize
-    ensures { λ r. ⌜ PutsWithin linesRoom (now (out .entry)) 0 (eventText (tableOf first (now (marks .entry)) (now (readings .entry))) request) r (now (out .exit)) ⌝ }
+// The lines of an event, at the start of the buffer: what the verdict by a list of moves over a table comes to, with room for a day's quarters.
+pub fn event(
+    first: u32,
+    marks: &[u8],
+    readings: &[u32],
+    moves: &[u32],
+    request: Request,
+    out: &mut [u8],
+) -> usize
+    ensures { λ r. ⌜ PutsWithin linesRoom (now (out .entry)) 0 (eventText (now (moves .entry)) (tableOf first (now (marks .entry)) (now (readings .entry))) request) r (now (out .exit)) ⌝ }
 {
     if out.len() < ROOM {
         return 0;
     }
     let mut numerators = [0u32; method::QUARTERS];
-    let answer = table_baseline::baseline(first, marks, readings, request, &mut numerators);
+    let answer = table_baseline::baseline(first, marks, readings, moves, request, &mut numerators);
     let given = answer.given;
     match given {
         Given::Refused(refusal) => listing_event_line::put_refusal(out, request, refusal),

@@ -8,7 +8,6 @@ use native.Mathlib.Omega.{arith}
 use lib.ListN.{length, drop, length-append}
 use borrow.Author.Tests.{le-leb}
 use Rattle.base_lists.specs.Lists.{all}
-use Rattle.calendar_groups.specs.Holidays.{group}
 use Rattle.method.specs.Verdict.{verdict}
 use Rattle.method.specs.Table.{mostQuarters}
 use Rattle.method.proofs.Tables.{offset-most}
@@ -20,7 +19,7 @@ use Rattle.file_record.specs.Laws.{StopsAt}
 use Rattle.file_record.specs.declared.Shape.{Shape}
 use Rattle.file_record.specs.declared.Read.{Read}
 use Rattle.file_record.specs.declared.Read.the-variants.{File, Refused}
-use Rattle.file_record.specs.Reader.{isPF, fileBase, firstIn, daysIn, eventStart, eventsIn, shapeIn, readFile, tableIn, eventOf, requestAt, contentsIn}
+use Rattle.file_record.specs.Reader.{isPF, fileBase, firstIn, daysIn, eventStart, eventsIn, shapeIn, readFile, listIn, tableIn, eventOf, requestAt, contentsIn}
 use Rattle.file_record.proofs.Bytes.{below-drop, number-below}
 use Rattle.file_record.proofs.Files.{shape-fits, event-start-is}
 use Rattle.file_record.proofs.Limits.{says-what-fits}
@@ -46,9 +45,10 @@ module _ (file : List ℕ) (bytes : Below 256 file) where
     fits : Fits (contentsIn file)
     fits = says-what-fits file shape bytes accepted
 
-    event-most : (place : ℕ) → length (eventText (tableIn file) (requestAt file place)) ≤ linesRoom
+    event-most : (place : ℕ) → length (eventText (listIn file) (tableIn file) (requestAt file place)) ≤ linesRoom
     unfolding eventText repliedLines requestAt eventOf contentsIn
     event-most place =
+        let moves = listIn file in
         let t = tableIn file in
         let r = requestAt file place in
         let left = below-drop (eventStart file place) file bytes in
@@ -56,9 +56,9 @@ module _ (file : List ℕ) (bytes : Below 256 file) where
         let from-quarter : r .s ≤ 255 = omega (arith, left 4) in
         let to-quarter : r .e ≤ 255 = omega (arith, left 5) in
         let long : length (t .readings) ≤ mostQuarters * 128 = omega (arith, fits .size, offset-most (t .first) (length (t .marks)) 128 (fits .days)) in
-        let reply = verdict group t r mostQuarters in
-        reply-most r reply event from-quarter to-quarter (verdict-near group t r (fits .days) long (all-below (t .readings) (fits .readings)) event mostQuarters)
-        (λ a e. (sound group t r mostQuarters e, never-above group t r mostQuarters a e))
+        let reply = verdict moves t r mostQuarters in
+        reply-most r reply event from-quarter to-quarter (verdict-near moves t r (fits .days) long (all-below (t .readings) (fits .readings)) event mostQuarters)
+        (λ a e. (sound moves t r mostQuarters e, never-above moves t r mostQuarters a e))
 
     events-most : (count place : ℕ) → length (eventTexts file count place) ≤ linesRoom * count
     unfolding eventTexts
@@ -66,7 +66,7 @@ module _ (file : List ℕ) (bytes : Below 256 file) where
     events-most (suc count) place =
         omega (
           arith,
-          length-append (eventText (tableIn file) (requestAt file place)) (eventTexts file count (suc place)),
+          length-append (eventText (listIn file) (tableIn file) (requestAt file place)) (eventTexts file count (suc place)),
           event-most place,
           events-most count (suc place),
         )

@@ -15,6 +15,7 @@ use Rattle.base_lists.proofs.Bools.{both}
 use Rattle.base_lists.proofs.All.{all-append, all-take, all-drop, all-at}
 use Rattle.base_lists.proofs.Keep.{all-keep, all-mapped, kept-member}
 use Rattle.base_lists.proofs.Leading.{leading-most}
+use Rattle.calendar_groups.specs.Holidays.{group}
 use Rattle.calendar_groups.specs.declared.Group.{Group}
 use Rattle.calendar_groups.specs.declared.Group.the-variants.{Weekday, Saturday, HolidayGroup}
 use Rattle.method.specs.declared.Request.{Request}
@@ -28,7 +29,7 @@ use Rattle.method.specs.Eligible.{eligible, spare, higher, sortBy}
 use Rattle.method.specs.HighXofY.{Y, N, highXofY}
 use Rattle.method.specs.Rules.{methodBy}
 use Rattle.method.specs.Requested.{rulesOf, methodOf}
-use Rattle.method.specs.Verdict.{Answer, Reply, refused, answered, carries, tableRefusals, requestRefusals, closing, firstOf, methodology, verdict}
+use Rattle.method.specs.Verdict.{Answer, Reply, refused, answered, carries, tableRefusals, requestRefusals, listRefusals, closing, firstOf, methodology, byList, verdict}
 use Rattle.method_laws.proofs.LookBack.{lookBack-is}
 use Rattle.method_laws.proofs.Requested.{relevant-lookBack}
 use Rattle.method_laws.proofs.Sort.{all-sorted}
@@ -119,16 +120,16 @@ two-small : (m n : ℕ) → m ≤ 4294967295 → n ≤ 4294967295 → all small 
 unfolding all
 two-small m n h k = rw (le-leb m 4294967295 h, le-leb n 4294967295 k)
 
-module _ (group : ℕ → Group) (t : Table) (r : Request) (few-marks : length (t .marks) ≤ 128) (few-readings : length (t .readings) ≤ mostQuarters * 128)
+module _ (moves : List ℕ) (t : Table) (r : Request) (few-marks : length (t .marks) ≤ 128) (few-readings : length (t .readings) ≤ mostQuarters * 128)
     (good : all small (t .readings) ≡ true) (early : r .event ≤ 65535) where
   abbrev how : Method Day (Option Baseline)
-  how = methodOf group r
+  how = methodOf (group moves) r
 
   abbrev h : History Day
   h = history t
 
   abbrev g : Group
-  g = group (r .event)
+  g = group moves (r .event)
 
   day-small : (d : ℕ) → all small (dayOf t d .readings) ≡ true
   unfolding dayOf
@@ -136,11 +137,11 @@ module _ (group : ℕ → Group) (t : Table) (r : Request) (few-marks : length (
 
   seen-near : all (near (r .event)) (seen how h) ≡ true
   unfolding seen methodOf methodBy
-  seen-near = all-mapped (near (r .event)) (λ d. (d, dayOf t d)) (keep (held h) (relevantDays group r)) each
+  seen-near = all-mapped (near (r .event)) (λ d. (d, dayOf t d)) (keep (held h) (relevantDays (group moves) r)) each
     where
-      each : (d : ℕ) → member d (keep (held h) (relevantDays group r)) ≡ true → near (r .event) (d, dayOf t d) ≡ true
+      each : (d : ℕ) → member d (keep (held h) (relevantDays (group moves) r)) ≡ true → near (r .event) (d, dayOf t d) ≡ true
       each d m =
-          let before = lookBack-is (r .event) d .0 (relevant-lookBack group r d (kept-member (held h) (relevantDays group r) d m)) .0 in
+          let before = lookBack-is (r .event) d .0 (relevant-lookBack (group moves) r d (kept-member (held h) (relevantDays (group moves) r) d m)) .0 in
           rw (lt-ltb d (r .event) before, day-small d)
 
   window-near : all (near (r .event)) (window how h) ≡ true
@@ -179,7 +180,7 @@ module _ (group : ℕ → Group) (t : Table) (r : Request) (few-marks : length (
       omega (
         arith,
         either-less (eqb (length (window how h)) (Y g)) (r .event) (leastOf (r .event) (daysOf (window how h)))
-            (leastOf (r .event) (relevantDays group r)),
+            (leastOf (r .event) (relevantDays (group moves) r)),
       )
 
   abbrev yesterday : Day
@@ -230,6 +231,14 @@ module _ (group : ℕ → Group) (t : Table) (r : Request) (few-marks : length (
   unfolding requestRefusals all carry-small
   request-small room = refl
 
-  pub verdict-near : (room : ℕ) → Near (verdict group t r room)
-  unfolding verdict methodology
-  verdict-near room = first-near (tableRefusals t) _ table-small (first-near (requestRefusals (history t) r room) _ (request-small room) closing-near)
+  list-small : all carry-small (listRefusals moves) ≡ true
+  unfolding listRefusals all carry-small
+  list-small = refl
+
+  by-near : (room : ℕ) → Near (byList moves (history t) r room)
+  unfolding byList methodology
+  by-near room = first-near (listRefusals moves) _ list-small (first-near (requestRefusals (history t) r room) _ (request-small room) closing-near)
+
+  pub verdict-near : (room : ℕ) → Near (verdict moves t r room)
+  unfolding verdict
+  verdict-near room = first-near (tableRefusals t) _ table-small (by-near room)

@@ -18,7 +18,7 @@ use Rattle.method.specs.declared.Request.{Request}
 use Rattle.method.specs.declared.Refusal.{Refusal}
 use Rattle.method.specs.Table.{mostQuarters}
 use Rattle.method.specs.declared.Refusal.the-variants.{BadFile, NoEvent, BadTable, BadMark, BadReading, BadRequest, NotHeld}
-use Rattle.method.specs.declared.Refusal.the-variants.{NotYetParticipating, NoRoom, MarginTooShort, TooFew, NoAdjustmentWindow, Unwritable}
+use Rattle.method.specs.declared.Refusal.the-variants.{NotYetParticipating, NoRoom, MarginTooShort, TooFew, NoAdjustmentWindow, Unwritable, BadMoves}
 use Rattle.method.specs.Adjustment.{rounded}
 use Rattle.method.specs.Verdict.{Answer, Reply, refused, answered, number, carries}
 use Rattle.engine_numerators.proofs.Windows.{small}
@@ -60,7 +60,7 @@ brief-numbers (n ∷ ns) e =
     rw (brief-number n (leb-true n 4294967295 (k .0))) (brief-numbers ns (k .1))
 
 -- ---- the lines of an event
-carries-few : (w : Refusal) → (length (carries w) ≤ 2) × (number w ≤ 13)
+carries-few : (w : Refusal) → (length (carries w) ≤ 2) × (number w ≤ 14)
 carries-few (BadFile n) = (omega arith, omega arith)
 carries-few NoEvent = (omega arith, omega arith)
 carries-few BadTable = (omega arith, omega arith)
@@ -74,6 +74,7 @@ carries-few (MarginTooShort n) = (omega arith, omega arith)
 carries-few (TooFew m n) = (omega arith, omega arith)
 carries-few (NoAdjustmentWindow n) = (omega arith, omega arith)
 carries-few Unwritable = (omega arith, omega arith)
+carries-few BadMoves = (omega arith, omega arith)
 
 module _ (r : Request) (d : r .event ≤ 4294967295) (s : r .s ≤ 4294967295) (e : r .e ≤ 4294967295) where
   refusal-most : (w : Refusal) → all small (carries w) ≡ true → length (lineText (refusalLine r w)) ≤ 148

@@ -1,4 +1,4 @@
--- The longest file that is as laid down has 50,440 bytes, and no byte past them is looked at: of a longer file its first 50,441 bytes read as
+-- The longest file that is as laid down has 50,536 bytes, and no byte past them is looked at: of a longer file its first 50,537 bytes read as
 -- the whole does.
 use Prim.Native.Nat.{ℕ, zero, suc, _+_, _-_, _*_, _≤_, _<_}
 use mathlib.Core.Path.{_≡_, refl, sym, _∙_}
@@ -14,10 +14,10 @@ use borrow.Author.Tests.{le-leb, lt-leb, ne-eqb}
 use Rattle.base_lists.proofs.Bools.{lt-or-le}
 use Rattle.base_lists.specs.Ascii.{ascii}
 use Rattle.method.specs.Table.{mostQuarters}
-use Rattle.file_record.specs.Reader.{numberAt, opensWith, isRecord, isPF, pfLength, isDY, dyBytes, dyLength, dyDay, isEV, evLength, run, isDYof}
+use Rattle.file_record.specs.Reader.{numberAt, opensWith, isRecord, isPF, pfLength, isMV, mvLength, isDY, dyBytes, dyLength, dyDay, isEV, evLength, run, isDYof}
 use Rattle.file_record.specs.declared.Shape.{Shape}
 use Rattle.file_record.specs.declared.Read.the-variants.{File}
-use Rattle.file_record.specs.Reader.{daysFrom, eventsFrom, fileBase, mostBase, firstIn, daysIn, eventStart, eventsIn, goodEnd, readFile}
+use Rattle.file_record.specs.Reader.{movesFrom, movesIn, daysFrom, eventsFrom, fileBase, mostBase, firstIn, daysIn, eventStart, eventsIn, goodEnd, readFile}
 use Rattle.listing_lines.specs.Listing.{longest}
 use Rattle.method.proofs.Tables.{size-most}
 use Rattle.file_record.proofs.Starts.{day-start-most, base-most}
@@ -61,6 +61,10 @@ day-of-cut : (day n : ℕ) (l : List ℕ) → dyBytes mostQuarters ≤ n → isD
 unfolding isDYof
 day-of-cut day n l h = rw (day-cut n l h, number-cut 2 2 n l (omega arith))
 
+move-cut : (n : ℕ) (l : List ℕ) → mvLength ≤ n → isMV (take n l) ≡ isMV l
+unfolding isMV
+move-cut n l h = rw (leb-cut mvLength n l h, opens-cut (ascii "MV") n l (omega arith))
+
 event-cut : (n : ℕ) (l : List ℕ) → evLength ≤ n → isEV (take n l) ≡ isEV l
 event-cut n l h = rw (event-record (take n l), event-record l) (record-cut evLength (ascii "EV") 7 n l (omega arith) h (omega arith))
 
@@ -100,9 +104,15 @@ file-most file shape r = omega (arith, end-is-length file shape r, end-most file
 
 -- ---- nor does the file
 module _ (n : ℕ) (file : List ℕ) (enough : longest < n) where
+  moves-cut : movesIn (take n file) ≡ movesIn file
+  unfolding movesIn movesFrom
+  moves-cut =
+      rw (drop-take pfLength n file)
+      (run-cut (λ i. isMV) (λ i. mvLength) mvLength (λ i. omega arith) (λ i. move-cut) 16 0 (n - pfLength) (drop pfLength file) (omega arith))
+
   base-cut : fileBase (take n file) ≡ fileBase file
   unfolding fileBase
-  base-cut = refl
+  base-cut = rw moves-cut
 
   left-cut : drop (fileBase (take n file)) (take n file) ≡ take (n - fileBase file) (drop (fileBase file) file)
   left-cut = rw base-cut (drop-take (fileBase file) n file)

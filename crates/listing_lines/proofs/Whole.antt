@@ -6,7 +6,7 @@ use native.Mathlib.Omega.{arith}
 use lib.ListN.{length, take}
 use Rattle.file_record.specs.declared.Read.{Read}
 use Rattle.file_record.specs.declared.Read.the-variants.{File, Refused}
-use Rattle.file_record.specs.Reader.{readFile, tableIn, requestAt}
+use Rattle.file_record.specs.Reader.{readFile, listIn, tableIn, requestAt}
 use Rattle.listing_lines.specs.Lines.{Line, lineText, linesText}
 use Rattle.listing_lines.specs.Listing.{repliedLines, eventText, linesFrom, listingLines, listing, longest}
 use Rattle.listing_lines.specs.WriteSteps.{openingLine, eventsOf, eventTexts}
@@ -21,8 +21,8 @@ events-are : (file : List ℕ) (count place : ℕ) → linesText (linesFrom file
 unfolding linesText linesFrom eventTexts eventText
 events-are file zero place = refl
 events-are file (suc count) place =
-    lines-both (repliedLines (tableIn file) (requestAt file place)) (linesFrom file count (suc place))
-    ∙ ap (λ (t : List ℕ). linesText (repliedLines (tableIn file) (requestAt file place)) ++ t) (events-are file count (suc place))
+    lines-both (repliedLines (listIn file) (tableIn file) (requestAt file place)) (linesFrom file count (suc place))
+    ∙ ap (λ (t : List ℕ). linesText (repliedLines (listIn file) (tableIn file) (requestAt file place)) ++ t) (events-are file count (suc place))
 
 printed : (read : Read) (file : List ℕ)
     → linesText (listingLines read file) ≡ lineText (openingLine read) ++ eventTexts file (eventsOf read) 0

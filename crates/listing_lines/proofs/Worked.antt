@@ -3,7 +3,8 @@ use Prim.Native.Nat.{ℕ}
 use mathlib.Core.Path.{_≡_, refl}
 use Rattle.base_lists.specs.Lists.{keep, all, any, leading, member, sumOf, leastOf, places}
 use Rattle.calendar_dates.specs.Days.{leap, months, newYear, dayNumber, yearOf}
-use Rattle.calendar_groups.specs.Holidays.{easter, fixedHolidays, easterHolidays, holidays, isHoliday, group}
+use Rattle.calendar_groups.specs.Holidays.{easter, fixedHolidays, easterHolidays, isFixedHoliday, isEasterHoliday, firstDays, secondDays, isHoliday}
+use Rattle.calendar_groups.specs.Holidays.{goodPairs, repeated, goodMoves, group}
 use Rattle.base_digits.specs.Digits.{digits, dec, decimal}
 use Rattle.method.specs.Table.{size, offset, dayOf, held, shaped, isExtract}
 use Rattle.method.specs.Relevant.{daysBefore, relevant, relevantDays}
@@ -14,10 +15,12 @@ use Rattle.method.specs.HighXofY.{highXofY}
 use Rattle.method.specs.Requested.{rulesOf, methodOf}
 use Rattle.method.specs.Rules.{methodBy}
 use Rattle.method.specs.Ruler.{rulerStart, rulerEnd, quarterOf, against}
-use Rattle.method.specs.Verdict.{tableRefusals, goodRequest, requestRefusals, closing, firstOf, methodology, verdict}
-use Rattle.file_record.specs.Layout.{pfRecord, dyRecord, evRecord, dyRecords, evRecords, fileOf}
-use Rattle.file_record.specs.Reader.{numberAt, opensWith, isRecord, isPF, isDY, isEV, run, isDYof, daysFrom, eventsFrom, fileBase, firstIn, daysIn, dayStart}
+use Rattle.method.specs.Verdict.{tableRefusals, goodRequest, requestRefusals, closing, firstOf, methodology, listRefusals, byList, verdict}
+use Rattle.file_record.specs.Layout.{pfRecord, mvRecord, dyRecord, evRecord, mvRecords, dyRecords, evRecords, fileOf}
+use Rattle.file_record.specs.Reader.{numberAt, opensWith, isRecord, isPF, isMV, isDY, isEV, run, isDYof, movesFrom, movesIn}
+use Rattle.file_record.specs.Reader.{daysFrom, eventsFrom, fileBase, firstIn, daysIn, dayStart, moveNumbers, listIn}
 use Rattle.file_record.specs.Reader.{eventStart, eventsIn, goodEnd, shapeIn, readFile, marksFrom, numbers, readingsFrom, tableIn, eventOf, requestAt}
+use Rattle.file_record.specs.Checks.{pf, mv, flat, ev}
 use Rattle.listing_lines.specs.Lines.{spaced, lineText, linesText}
 use Rattle.listing_lines.specs.Listing.{refusedLine, headerLine, eventLine, quarterLine, quarterLines, refusalLine, eventLines, repliedLines, linesFrom}
 use Rattle.listing_lines.specs.Listing.{listingLines, listing}
@@ -27,13 +30,15 @@ use Rattle.base_bytes.specs.Bytes.{bytes, readingBytes}
 
 -- unfolding this unfolds every definition that the case computes with
 definitions : ℕ
-unfolding keep all any leading member sumOf leastOf leap months newYear dayNumber yearOf easter fixedHolidays easterHolidays holidays
-    isHoliday group digits dec decimal size offset dayOf held shaped isExtract daysBefore relevant relevantDays wholeReach seen eligibles spares
+unfolding keep all any leading member sumOf leastOf leap months newYear dayNumber yearOf easter fixedHolidays easterHolidays isFixedHoliday isEasterHoliday firstDays secondDays
+    isHoliday goodPairs repeated goodMoves group digits dec decimal size offset dayOf held shaped isExtract daysBefore relevant relevantDays wholeReach seen eligibles spares
     window chosen reach isShort outcome windowEnds latestEnd adjustmentEnd places S A B baselineAt baseline complete eligible spare eventSum
-    higher insertBy sortBy methodOf methodBy rulesOf highXofY rulerStart rulerEnd quarterOf against tableRefusals goodRequest requestRefusals closing firstOf methodology verdict bytes pfRecord readingBytes
-    dyRecord evRecord dyRecords evRecords fileOf numberAt opensWith isRecord isPF isDY isEV run isDYof daysFrom eventsFrom fileBase firstIn daysIn dayStart
+    higher insertBy sortBy methodOf methodBy rulesOf highXofY rulerStart rulerEnd quarterOf against tableRefusals goodRequest requestRefusals closing firstOf methodology listRefusals byList verdict bytes pfRecord readingBytes
+    mvRecord dyRecord evRecord mvRecords dyRecords evRecords fileOf numberAt opensWith isRecord isPF isMV isDY isEV run isDYof movesFrom movesIn moveNumbers
+    listIn daysFrom eventsFrom fileBase firstIn daysIn dayStart
     eventStart eventsIn goodEnd shapeIn readFile marksFrom numbers readingsFrom tableIn eventOf requestAt spaced lineText linesText refusedLine
     headerLine eventLine quarterLine quarterLines refusalLine eventLines repliedLines linesFrom listingLines listing
+    pf mv flat ev
 definitions = 0
 
 pub worked-listing : listing (fileOf workedContents) ≡ workedListing
@@ -42,4 +47,4 @@ worked-listing = refl
 
 pub edges : Edges
 unfolding definitions
-edges = record { whole-day = refl; negative = refl; two-carried = refl; file-refused = refl; longest-file = refl }
+edges = record { whole-day = refl; negative = refl; two-carried = refl; file-refused = refl; moves-held = refl; moves-refused = refl; longest-file = refl }

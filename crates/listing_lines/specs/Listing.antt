@@ -3,7 +3,6 @@ use Prim.Native.Nat.{ℕ, zero, suc, _+_, _*_}
 use mathlib.Core.List.{List, [], _∷_, _++_, map}
 use lib.ListN.{length}
 use lib.IntN.{ℤ}
-use Rattle.calendar_groups.specs.Holidays.{group}
 use Rattle.base_digits.specs.Digits.{dec, decimal}
 use Rattle.base_lists.specs.Ascii.{ascii}
 use Rattle.method.specs.declared.Request.{Request}
@@ -14,7 +13,7 @@ use Rattle.method.specs.Verdict.{Reply, refused, answered, number, carries, ver
 use Rattle.file_record.specs.declared.Shape.{Shape}
 use Rattle.file_record.specs.declared.Read.{Read}
 use Rattle.file_record.specs.declared.Read.the-variants.{File, Refused}
-use Rattle.file_record.specs.Reader.{dyBytes, evLength, mostBase, readFile, tableIn, requestAt}
+use Rattle.file_record.specs.Reader.{dyBytes, evLength, mostBase, readFile, listIn, tableIn, requestAt}
 use Rattle.listing_lines.specs.Lines.{Field, Line, linesText}
 
 abbrev pub numbers : List ℕ → List Field
@@ -58,17 +57,17 @@ eventLines r (refused w) = refusalLine r w ∷ []
 eventLines r (answered a) =
     eventLine r (a .days) (a .reach) (a .denominator) (a .adjusted) ∷ quarterLines (a .denominator) (r .s) (a .numerators)
 
--- what a request comes to over a table, with room for a day's quarters: refusal 7 is never shown
-unfoldable pub repliedLines : Table → Request → List Line
-repliedLines t r = eventLines r (verdict group t r mostQuarters)
+-- what a request comes to by a list of moves over a table, with room for a day's quarters: refusal 7 is never shown
+unfoldable pub repliedLines : List ℕ → Table → Request → List Line
+repliedLines moves t r = eventLines r (verdict moves t r mostQuarters)
 
-unfoldable pub eventText : Table → Request → List ℕ
-eventText t r = linesText (repliedLines t r)
+unfoldable pub eventText : List ℕ → Table → Request → List ℕ
+eventText moves t r = linesText (repliedLines moves t r)
 
 -- the lines of so many events, from a place on
 unfoldable pub linesFrom : List ℕ → ℕ → ℕ → List Line
 linesFrom file zero place = []
-linesFrom file (suc count) place = repliedLines (tableIn file) (requestAt file place) ++ linesFrom file count (suc place)
+linesFrom file (suc count) place = repliedLines (listIn file) (tableIn file) (requestAt file place) ++ linesFrom file count (suc place)
 
 unfoldable pub listingLines : Read → List ℕ → List Line
 listingLines (File shape) file = headerLine shape ∷ linesFrom file (shape .events) 0
@@ -78,6 +77,6 @@ listingLines (Refused at) file = refusedLine at ∷ []
 unfoldable pub listing : List ℕ → List ℕ
 listing file = linesText (listingLines (readFile file) file)
 
--- the longest file that is as laid down: the most before the days, 128 of the longest days, and 64 events
+-- the longest file that is as laid down: the most before the days, 16 MV among it, 128 of the longest days, and 64 events
 abbrev pub longest : ℕ
 longest = mostBase + 128 * dyBytes mostQuarters + 64 * evLength

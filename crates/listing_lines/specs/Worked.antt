@@ -13,7 +13,7 @@ at15 day = record { day = day; s = 152; e = 156; n = 148 }
 
 -- "Input: P 6900, portfolio 77, days 6951 to 6972, ..; events (6972, 152, 156, 148) and (6966, 152, 156, 148)."
 abbrev pub workedContents : Contents
-workedContents = record { participation = 6900; portfolio = 77; table = worked; events = at15 6972 ∷ at15 6966 ∷ [] }
+workedContents = record { participation = 6900; portfolio = 77; moves = []; table = worked; events = at15 6972 ∷ at15 6966 ∷ [] }
 
 -- a line of a text
 abbrev pub line : String → List ℕ

@@ -8,7 +8,7 @@ use lib.Dec.{leb}
 use Rattle.base_text.specs.TextSteps.{put}
 use Rattle.file_record.specs.declared.Read.{Read}
 use Rattle.file_record.specs.declared.Read.the-variants.{File, Refused}
-use Rattle.file_record.specs.Reader.{tableIn, requestAt}
+use Rattle.file_record.specs.Reader.{listIn, tableIn, requestAt}
 use Rattle.listing_lines.specs.Lines.{Line}
 use Rattle.listing_lines.specs.Listing.{eventText, headerLine, refusedLine}
 
@@ -24,7 +24,7 @@ eventsOf (Refused at) = 0
 -- the texts of so many events of a file, from a place on
 unfoldable pub eventTexts : List ℕ → ℕ → ℕ → List ℕ
 eventTexts file zero place = []
-eventTexts file (suc count) place = eventText (tableIn file) (requestAt file place) ++ eventTexts file count (suc place)
+eventTexts file (suc count) place = eventText (listIn file) (tableIn file) (requestAt file place) ++ eventTexts file count (suc place)
 
 -- the buffer `d′` is `d` with the text `t`, which fits whole, from place `at` up to `r`
 pub record Writes (d : List ℕ) (at : ℕ) (t : List ℕ) (r : ℕ) (d′ : List ℕ) : Type 0 where

@@ -16,7 +16,7 @@ use Rattle.base_bytes.specs.PutFirst.{putFirst}
 use Rattle.base_bytes.proofs.Told.{tells-none}
 use Rattle.file_record.specs.declared.Shape.{Shape}
 use Rattle.file_record.specs.declared.Read.the-variants.{File, Refused}
-use Rattle.file_record.specs.Reader.{readFile, tableIn, requestAt}
+use Rattle.file_record.specs.Reader.{readFile, listIn, tableIn, requestAt}
 use Rattle.listing_lines.specs.Lines.{lineText}
 use Rattle.listing_lines.specs.Listing.{eventText, listing}
 use Rattle.listing_lines.specs.WriteSteps.{openingLine, eventTexts}
@@ -33,7 +33,7 @@ use Rattle.listing_whole.specs.Lists.{Lists}
 module _ {d : List ℕ} {at : ℕ} {t : List ℕ} {r : ℕ} {e : List ℕ} (file : List ℕ) (events place : ℕ)
     (q : Writing d at t r e (eventTexts file (events - place) place)) where
   pub events-next : {s : ℕ} {f : List ℕ} → place < events → r + linesRoom ≤ length e
-      → PutsWithin linesRoom (midOf r (length e - r) e) 0 (eventText (tableIn file) (requestAt file place)) s f
+      → PutsWithin linesRoom (midOf r (length e - r) e) 0 (eventText (listIn file) (tableIn file) (requestAt file place)) s f
       → Writing d at t (r + s) (putMid r (length e - r) e f) (eventTexts file (events - (place + 1)) (place + 1))
   unfolding eventTexts
   events-next h room p =

@@ -2,7 +2,7 @@
 ghost use mathlib.Core.Path.{_≡_};
 ghost use Prim.Native.Nat.{_+_, _*_, _≤_, _<_};
 ghost use lib.ListN.{length};
-ghost use Rattle.file_record.specs.Reader.{readFile, tableIn, requestAt};
+ghost use Rattle.file_record.specs.Reader.{readFile, listIn, tableIn, requestAt};
 ghost use Rattle.file_record.specs.declared.Read.the-variants.{File};
 ghost use Rattle.listing_lines.specs.Listing.{listing, eventText};
 ghost use Rattle.listing_lines.specs.WriteSteps.{eventTexts};
@@ -10,6 +10,7 @@ ghost use Rattle.listing_lines.specs.WriteSteps.{Writes, PutsWithin};
 ghost use Rattle.listing_event.specs.Room.{linesRoom};
 ghost use Rattle.listing_whole.specs.Steps.{Holds};
 ghost use Rattle.listing_whole.specs.Lists.{mostListing, Lists};
+use calendar_groups::MOST_MOVES;
 use file_record::EventAt;
 use file_record::Read;
 use file_record::Shape;
@@ -32,13 +33,21 @@ fn put_event(
     place: usize,
     marks: &[u8],
     readings: &[u32],
+    moves: &[u32],
     out: &mut [u8],
 ) -> usize
-    requires { ⌜ Holds (now file) shape (now marks) (now readings) × (place < shape .events) ⌝ }
-    ensures { λ r. ⌜ PutsWithin linesRoom (now (out .entry)) 0 (eventText (tableIn (now (file .entry))) (requestAt (now (file .entry)) place)) r (now (out .exit)) ⌝ }
+    requires { ⌜ Holds (now file) shape (now marks) (now readings) (now moves) × (place < shape .events) ⌝ }
+    ensures { λ r. ⌜ PutsWithin linesRoom (now (out .entry)) 0 (eventText (listIn (now (file .entry))) (tableIn (now (file .entry))) (requestAt (now (file .entry)) place)) r (now (out .exit)) ⌝ }
 {
     match file_events::event_within(file, shape, place) {
-        EventAt::Event(request) => listing_event::event(shape.first, marks, readings, request, out),
+        EventAt::Event(request) => listing_event::event(
+            shape.first,
+            marks,
+            readings,
+            moves,
+            request,
+            out,
+        ),
         EventAt::NoEvent => 0,
         EventAt::Refused(_) => 0,
     }
@@ -50,27 +59,31 @@ fn put_events(
     shape: Shape,
     marks: &[u8],
     readings: &[u32],
+    moves: &[u32],
     out: &mut [u8],
     at: usize,
 ) -> usize
-    requires { ⌜ Holds (now file) shape (now marks) (now readings) × (at + linesRoom * shape .events ≤ length (now out)) ⌝ }
+    requires { ⌜ Holds (now file) shape (now marks) (now readings) (now moves) × (at + linesRoom * shape .events ≤ length (now out)) ⌝ }
     ensures { λ r. ⌜ Writes (now (out .entry)) at (eventTexts (now (file .entry)) (shape .events) 0) r (now (out .exit)) × (r ≤ at + linesRoom * shape .events) ⌝ }
 {
     let events = shape.events as usize;
     let mut next = at;
     let mut place = 0;
     while place < events {
-        next += put_event(file, shape, place, marks, readings, &mut out[next..]);
+        next += put_event(file, shape, place, marks, readings, moves, &mut out[next..]);
         place += 1;
     }
     next
 }
 
-// The listing of a file of this shape: its table is loaded once.
+// The listing of a file of this shape: its moves and its table are loaded once.
 fn put_file(file: &[u8], shape: Shape, out: &mut [u8]) -> usize
     requires { ⌜ (readFile (now file) ≡ File shape) × (mostListing ≤ length (now out)) ⌝ }
     ensures { λ r. ⌜ Writes (now (out .entry)) 0 (listing (now (file .entry))) r (now (out .exit)) × (r ≤ mostListing) ⌝ }
 {
+    let mut moves = [0u32; 2 * MOST_MOVES];
+    file_moves::load_list(file, shape, &mut moves);
+    let numbers = 2 * (shape.moves as usize);
     let mut marks = [0u8; 128];
     let mut readings = [0u32; QUARTERS * 128];
     let whole = Span {
@@ -81,7 +94,15 @@ fn put_file(file: &[u8], shape: Shape, out: &mut [u8]) -> usize
     let days = shape.days as usize;
     let count = day_ruler::offset(shape.first, shape.days);
     let next = listing_first_line::opening(Read::File(shape), out);
-    put_events(file, shape, &marks[..days], &readings[..count], out, next)
+    put_events(
+        file,
+        shape,
+        &marks[..days],
+        &readings[..count],
+        &moves[..numbers],
+        out,
+        next,
+    )
 }
 
 // The listing, at the start of a buffer that any listing fits.

@@ -14,7 +14,7 @@ use program_words::Wanted;
 use reading::Got;
 
 // One byte more than the longest file that is as laid down: what comes after it changes no listing.
-const MOST: usize = 50441;
+const MOST: usize = 50537;
 
 // The listing of the input, of which so many bytes were read, at the start of the text: how long it is.
 fn list(bytes: &[u8], count: usize, text: &mut [u8]) -> usize

@@ -17,10 +17,10 @@ fn letter(group: Group) -> u8 {
     }
 }
 
-// The letter of a date's group; nothing where there is no such date.
+// The letter of a date's group, where no holiday is moved; nothing where there is no such date.
 fn put_letter(line: &mut [u8; 80], at: usize, date: Date) -> usize {
     match calendar_dates::day_number(date) {
-        Numbered::Day(day) => put(line, at, letter(calendar_groups::group_of(day))),
+        Numbered::Day(day) => put(line, at, letter(calendar_groups::group_of(&[], day))),
         Numbered::NoSuchDate => at,
     }
 }

@@ -11,7 +11,7 @@ same-length : tie.Need-same-length
 same-length c = search needs
 
 returns : tie.Need-returns
-returns c = table-entry _ _ (c .before .before .hp-baseline-table .ensures)
+returns c = table-entry _ _ _ (c .before .before .hp-baseline-table .ensures)
 
 pub entry-over-table-spec : {M : Type 1} → statement M
 entry-over-table-spec = tie.close (tie.spec hp-baseline-table-requires same-length returns)

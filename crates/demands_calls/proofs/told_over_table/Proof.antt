@@ -9,7 +9,7 @@ hp-told-table-requires : tie.Need-hp-told-table-requires
 hp-told-table-requires c κs = search needs
 
 returns : tie.Need-returns
-returns c = table-tells _ _ _ (back (c .hp-told-table .result) (c .hp-told-table .ok) (c .hp-told-table .ensures))
+returns c = table-tells _ _ _ _ (back (c .hp-told-table .result) (c .hp-told-table .ok) (c .hp-told-table .ensures))
 
 pub told-over-table-spec : {M : Type 1} → statement M
 told-over-table-spec = tie.close (tie.spec hp-told-table-requires returns)

@@ -19,7 +19,7 @@ tell-requires c κs = search needs
 
 returns : tie.Need-returns
 returns c =
-    let name = c .before .before .before .before .before .before .before .args .name in
+    let name = c .before .before .before .before .before .before .before .before .args .name in
     back (c .tell .result) (c .tell .ok)
     (rw (c .before .before .before .before .request-of .ensures) at (table-told name (c .tell .ensures) (c .before .before .baseline .ensures)))
 

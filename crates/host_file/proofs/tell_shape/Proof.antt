@@ -2,8 +2,9 @@
 use native.Mathlib.Omega.{arith}
 use borrow.Author.Needs.{needs}
 use Rattle.host_answer.specs.Names.{byName, rowFrom}
-use Rattle.host_answer.proofs.Telling.{widened, no-name}
+use Rattle.host_answer.proofs.Telling.{widened}
 use Rattle.host_file.specs.OfFile.{shapeRow}
+use Rattle.host_file.proofs.Ways.{no-name-of-a-file}
 use Rattle.host_file.proofs.tell_shape.Statement.{statement}
 use Rattle.host_file.proofs.tell_shape.Tie as tie
 
@@ -21,6 +22,9 @@ cast-result-4 c = search needs
 
 cast-result-5 : tie.Need-cast-result-5
 cast-result-5 c = search needs
+
+cast-result-6 : tie.Need-cast-result-6
+cast-result-6 c = search needs
 
 returns : tie.Need-returns
 unfolding byName shapeRow rowFrom
@@ -47,8 +51,14 @@ unfolding byName shapeRow rowFrom
 returns-6 c = rw (c .before .match .keys6) (widened _ (omega (arith, c .struct-known5 .given)))
 
 returns-7 : tie.Need-returns-7
-unfolding shapeRow
-returns-7 c = no-name 12 _ (c .before .args .name) (omega arith) (omega arith) (λ k. omega arith)
+unfolding byName shapeRow rowFrom
+returns-7 c = rw (c .before .match .keys7) (widened _ (omega (arith, c .struct-known6 .given)))
+
+returns-8 : tie.Need-returns-8
+returns-8 c =
+    let n = c .match .rest in
+    no-name-of-a-file (c .before .args .shape) (c .before .args .name) (n .0 .0 .0 .0 .0 .0 .1) (n .0 .0 .0 .0 .0 .1) (n .0 .0 .0 .0 .1) (n .0 .0 .0 .1) (n .0 .0 .1)
+    (n .0 .1) (n .1)
 
 pub tell-shape-spec : {M : Type 1} → statement M
 tell-shape-spec =
@@ -59,10 +69,12 @@ tell-shape-spec =
     cast-result-3
     cast-result-4
     cast-result-5
+    cast-result-6
     returns
     returns-2
     returns-3
     returns-4
     returns-5
     returns-6
-    returns-7)
+    returns-7
+    returns-8)

@@ -37,8 +37,8 @@ same-length c = search needs
 returns-2 : tie.Need-returns-2
 returns-2 c =
     let m = c .before .before .before .before .before .before .before .before in
-    let a = m .before .before .before .before .before .before .args in
-    let t = refusal-text (tableOf (a .first) (a .marks .now) (a .readings .now)) (a .request) (m .baseline .ensures) (c .before .before .before .before .before .given .given .1) in
+    let a = m .before .before .before .before .before .before .before .args in
+    let t = refusal-text (a .moves .now) (tableOf (a .first) (a .marks .now) (a .readings .now)) (a .request) (m .baseline .ensures) (c .before .before .before .before .before .given .given .1) in
     with-room (m .before .before .if1 .left) (named t (whole (omega arith) (c .before .before .put-refusal .ensures))) (omega (arith, c .before .before .put-refusal .ensures .most))
 
 same-length-2 : tie.Need-same-length-2
@@ -47,8 +47,8 @@ same-length-2 c = search needs
 returns-3 : tie.Need-returns-3
 returns-3 c =
     let m = c .before .before .before .before .before .before .before .before in
-    let a = m .before .before .before .before .before .before .args in
-    let t = listed (tableOf (a .first) (a .marks .now) (a .readings .now)) (a .request) (m .baseline .ensures) (c .before .before .before .before .before .enum-told .given .1) in
+    let a = m .before .before .before .before .before .before .before .args in
+    let t = listed (a .moves .now) (tableOf (a .first) (a .marks .now) (a .readings .now)) (a .request) (m .baseline .ensures) (c .before .before .before .before .before .enum-told .given .1) in
     with-room (m .before .before .if1 .left) (named t (c .before .before .put-answer .ensures .0)) (c .before .before .put-answer .ensures .1)
 
 pub event-spec : {M : Type 1} → statement M

@@ -25,17 +25,17 @@ same-length c = search needs
 returns : tie.Need-returns
 returns c =
     let m = c .before .before .before .before .before in
-    let a = m .before .before .before .before .before .before .before in
+    let a = m .before .before .before .before .before .before .before .before in
     its-lines (a .pre .0) (a .pre .1) _ (m .before .before .event-within .ensures) (m .request .given .1) (c .before .before .event .ensures)
 
 returns-2 : tie.Need-returns-2
 returns-2 c =
-    let a = c .before .before .before .before .before .before .before in
+    let a = c .before .before .before .before .before .before .before .before in
     never-none (a .pre .0) (a .pre .1) (c .before .before .event-within .ensures) (c .enum-told .given .1)
 
 returns-3 : tie.Need-returns-3
 returns-3 c =
-    let a = c .before .before .before .before .before .before .before in
+    let a = c .before .before .before .before .before .before .before .before in
     never-refused (a .pre .0) (a .pre .1) _ (c .before .before .event-within .ensures) (c .enum-told2 .given .1)
 
 pub put-event-spec : {M : Type 1} → statement M

@@ -13,14 +13,14 @@ use Rattle.listing_whole.proofs.put_events.Statement.{statement}
 use Rattle.listing_whole.proofs.put_events.Tie as tie
 
 abbrev Inv-loop : tie.InvT-loop
-Inv-loop file shape marks readings out₀ at events next₀ place₀ out next place =
+Inv-loop file shape marks readings moves out₀ at events next₀ place₀ out next place =
     (Writing out₀ at (eventTexts file events 0) next out (eventTexts file (events - place) place))
     × (place ≤ events)
     × (next ≤ at + linesRoom * place)
     × (length out ≡ length out₀)
 
 abbrev μ-loop : tie.MeasureT-loop
-μ-loop file shape marks readings out₀ at events next₀ place₀ out next place = events - place
+μ-loop file shape marks readings moves out₀ at events next₀ place₀ out next place = events - place
 
 cast-events : tie.Need-cast-events Inv-loop μ-loop
 cast-events c = search needs
@@ -38,7 +38,7 @@ part-put-event-end : tie.Need-part-put-event-end Inv-loop μ-loop
 part-put-event-end c = omega arith
 
 put-event-requires : tie.Need-put-event-requires Inv-loop μ-loop
-put-event-requires c κs = (c .before .before .before .before .before .before .before .before .pre .0, omega arith)
+put-event-requires c κs = (c .before .before .before .before .before .before .before .before .before .pre .0, omega arith)
 
 add-next : tie.Need-add-next Inv-loop μ-loop
 add-next c = omega arith
@@ -52,7 +52,7 @@ loop-less c = omega arith
 loop-again : tie.Need-loop-again Inv-loop μ-loop
 loop-again c =
     let l = c .before .before .before .before .before .loop in
-    let a = c .before .before .before .before .before .before .before .before .before .before .before .args in
+    let a = c .before .before .before .before .before .before .before .before .before .before .before .before .args in
     let next = events-next (a .file .now) (a .shape .events) (l .place) (l .inv .0) (omega arith) (omega arith) (c .before .before .put-event .ensures) in
     (next, omega arith, omega (arith, c .before .before .put-event .ensures .most), still-as-long (next .so-far))
 
@@ -62,7 +62,7 @@ same-length c = omega arith
 returns : tie.Need-returns Inv-loop μ-loop
 returns c =
     let l = c .before .loop in
-    let a = c .before .before .before .before .before .before .before .args in
+    let a = c .before .before .before .before .before .before .before .before .args in
     (events-end (a .file .now) (a .shape .events) (l .place) (l .inv .0) (omega arith), omega arith)
 
 pub put-events-spec : {M : Type 1} → statement M

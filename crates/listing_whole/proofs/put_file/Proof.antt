@@ -3,12 +3,14 @@ use Prim.Native.Nat.{_*_}
 use mathlib.Core.Path.{sym, _∙_}
 use native.Mathlib.Omega.{arith}
 use borrow.Author.Needs.{needs}
+use lib.Seq.{length-take-le}
 use Rattle.method.specs.Table.{mostQuarters}
 use Rattle.method.proofs.Tables.{offset-most}
 use Rattle.file_record.proofs.Files.{shape-fits}
 use Rattle.file_record.proofs.Spans.{span}
 use Rattle.file_loading.proofs.Loading.{place-whole, fits-own}
 use Rattle.file_loading.proofs.Buffers.{WithinBuffers, within-buffers}
+use Rattle.file_moves.proofs.Moves.{list-few, list-first}
 use Rattle.listing_whole.proofs.Holding.{holds}
 use Rattle.listing_whole.proofs.Whole.{file-listed}
 use Rattle.listing_whole.proofs.put_file.Statement.{statement}
@@ -16,11 +18,11 @@ use Rattle.listing_whole.proofs.put_file.Tie as tie
 
 -- the buffers hold the file's table
 its : (c : tie.After-offset) →
-    (let a = c .before .before .before .before .before .before .before .before .before .args in
+    (let a = c .before .before .before .before .before .before .before .before .before .before .before .before .before .args in
     let l = c .before .before .before .before .load-within in
     WithinBuffers (a .shape) (span 0 (a .shape .days)) (a .file .now) (c .offset .result) (l .last .1 .1 .1 .0) (l .last .1 .1 .1 .1 .0))
 its c =
-    let s = c .before .before .before .before .before .before .before .before .before in
+    let s = c .before .before .before .before .before .before .before .before .before .before .before .before .before in
     let a = s .args in
     let l = c .before .before .before .before .load-within .ensures in
     let all = span 0 (a .shape .days) in
@@ -29,6 +31,18 @@ its c =
     let fits = fits-own (a .shape) all (a .file .now) 128 (mostQuarters * 128) (s .pre .0) (omega arith) (omega arith) few
     (omega (arith, count, offset-most (a .shape .first) (a .shape .days) 128 few)) in
     within-buffers (a .shape) all (a .file .now) _ _ (l .1 .0) (l .1 .1) (l .0 ∙ fits) (c .offset .ensures ∙ sym count)
+
+slice-aggregate-load-list : tie.Need-slice-aggregate-load-list
+slice-aggregate-load-list c = search needs
+
+load-list-requires : tie.Need-load-list-requires
+load-list-requires c κs = search needs
+
+cast-numbers : tie.Need-cast-numbers
+cast-numbers c = search needs
+
+mul-numbers : tie.Need-mul-numbers
+mul-numbers c = search needs
 
 slice-aggregate-load-within : tie.Need-slice-aggregate-load-within
 slice-aggregate-load-within c = search needs
@@ -49,33 +63,46 @@ opening-requires : tie.Need-opening-requires
 opening-requires c κs = search needs
 
 array-share-prefix-marks : tie.Need-array-share-prefix-marks
-array-share-prefix-marks c = let s = c .before .before .before .before .before .before .before .before .before .before .before .before .before in omega (arith, shape-fits (s .args .file .now) (s .args .shape) (s .pre .0) .days)
+array-share-prefix-marks c = let s = c .before .before .before .before .before .before .before .before .before .before .before .before .before .before .before .before .before in omega (arith, shape-fits (s .args .file .now) (s .args .shape) (s .pre .0) .days)
 
 slice-aggregate-put-events : tie.Need-slice-aggregate-put-events
 slice-aggregate-put-events c = sym (its (c .before .before .before .before .before) .marks-size)
 
 array-share-prefix-readings : tie.Need-array-share-prefix-readings
 array-share-prefix-readings c =
-    let s = c .before .before .before .before .before .before .before .before .before .before .before .before .before .before in
+    let s = c .before .before .before .before .before .before .before .before .before .before .before .before .before .before .before .before .before .before in
     let few = shape-fits (s .args .file .now) (s .args .shape) (s .pre .0) .days in
     omega (arith, offset-most (s .args .shape .first) (s .args .shape .days) 128 few)
 
 slice-aggregate-put-events-2 : tie.Need-slice-aggregate-put-events-2
 slice-aggregate-put-events-2 c = sym (its (c .before .before .before .before .before .before) .readings-size)
 
+array-share-prefix-moves : tie.Need-array-share-prefix-moves
+array-share-prefix-moves c =
+    let s = c .before .before .before .before .before .before .before .before .before .before .before .before .before .before .before .before .before .before .before in
+    omega (arith, list-few (s .args .file .now) (s .pre .0))
+
+slice-aggregate-put-events-3 : tie.Need-slice-aggregate-put-events-3
+slice-aggregate-put-events-3 c =
+    let s = c .before .before .before .before .before .before .before .before .before .before .before .before .before .before .before .before .before .before .before .before in
+    sym (length-take-le (2 * s .args .shape .moves) _ (omega (arith, list-few (s .args .file .now) (s .pre .0))))
+
 put-events-requires : tie.Need-put-events-requires
 put-events-requires c κs =
-    let s = c .before .before .before .before .before .before .before .before .before .before .before .before .before .before .before .before in
-    let opening = c .before .before .before .before .before .opening in
-    (holds (s .pre .0) (its (c .before .before .before .before .before .before .before)), omega (arith, opening .ensures .most, shape-fits (s .args .file .now) (s .args .shape) (s .pre .0) .events))
+    let s = c .before .before .before .before .before .before .before .before .before .before .before .before .before .before .before .before .before .before .before .before .before in
+    let l = c .before .before .before .before .before .before .before .before .before .before .before .before .before .before .before .before .before .load-list .ensures in
+    let opening = c .before .before .before .before .before .before .opening in (
+      holds (s .pre .0) (its (c .before .before .before .before .before .before .before .before)) (list-first (s .args .file .now) (s .pre .0) _ (omega arith) (l .0) (l .1)),
+      omega (arith, opening .ensures .most, shape-fits (s .args .file .now) (s .args .shape) (s .pre .0) .events),
+    )
 
 same-length : tie.Need-same-length
 same-length c = search needs
 
 returns : tie.Need-returns
 returns c =
-    let s = c .before .before .before .before .before .before .before .before .before .before .before .before .before .before .before .before .before .before .before in
-    let opening = c .before .before .before .before .before .before .before .before .opening in
+    let s = c .before .before .before .before .before .before .before .before .before .before .before .before .before .before .before .before .before .before .before .before .before .before .before .before in
+    let opening = c .before .before .before .before .before .before .before .before .before .opening in
     let events = c .before .before .put-events .ensures in
     let fits = shape-fits (s .args .file .now) (s .args .shape) (s .pre .0) in
     (file-listed (s .args .file .now) (omega arith) (s .pre .0) (opening .ensures) (events .0), omega (arith, opening .ensures .most, fits .events))
@@ -84,6 +111,10 @@ pub put-file-spec : {M : Type 1} → statement M
 put-file-spec =
     tie.close
     (tie.spec
+    slice-aggregate-load-list
+    load-list-requires
+    cast-numbers
+    mul-numbers
     slice-aggregate-load-within
     slice-aggregate-load-within-2
     load-within-requires
@@ -94,6 +125,8 @@ put-file-spec =
     slice-aggregate-put-events
     array-share-prefix-readings
     slice-aggregate-put-events-2
+    array-share-prefix-moves
+    slice-aggregate-put-events-3
     put-events-requires
     same-length
     returns)
