@@ -5,6 +5,8 @@
 enum {
     LAST_DAY = 36524,
     MOST_DAYS = 128,
+    MOST_MOVES = 16,
+    NO_HOLIDAY = 800,
     QUARTERS = 96,
     LOOK_BACK = 45,
     TWELVE = 12,
@@ -102,8 +104,59 @@ static uint32_t year_of(uint32_t day)
     return year;
 }
 
-/* The holidays of a year, as bits at their distance before d (0 to 45). */
-static uint64_t holiday_bits(uint32_t year, uint32_t d)
+/* The number of a fixed-date holiday (1 and 6 January, 25 March, 1 May, 15
+ * August, 28 October, 25 and 26 December), eight a year, or NO_HOLIDAY. */
+static uint32_t fixed_number(uint32_t day)
+{
+    /* Its place in four years, of which the first has 29 February, day 59; then
+     * in a common year. */
+    uint32_t place = day % 1461, eight = day / 1461 * 32;
+    if (place > 59) {
+        eight += (place - 1) / 365 * 8;
+        place = (place - 1) % 365;
+    }
+    switch (place) {
+    case 0: return eight;
+    case 5: return eight + 1;
+    case 83: return eight + 2;
+    case 120: return eight + 3;
+    case 226: return eight + 4;
+    case 300: return eight + 5;
+    case 358: return eight + 6;
+    case 359: return eight + 7;
+    default: return NO_HOLIDAY;
+    }
+}
+
+/* Whether a list is one of moves; if not, it is refused (14). */
+static int good_moves(const uint32_t *moves, size_t len)
+{
+    uint64_t seen[NO_HOLIDAY / 64 + 1] = {0};
+    size_t i;
+    if (len > 2 * MOST_MOVES || len % 2 != 0)
+        return 0;
+    for (i = 0; i < len; i += 2) {
+        uint32_t number = fixed_number(moves[i]);
+        uint64_t bit = (uint64_t)1 << number % 64;
+        if (moves[i] > LAST_DAY || moves[i + 1] > LAST_DAY || number == NO_HOLIDAY)
+            return 0;
+        if (seen[number / 64] & bit)
+            return 0;
+        seen[number / 64] |= bit;
+    }
+    return 1;
+}
+
+/* A day as a bit at its distance before d (0 to 45), or no bit. */
+static uint64_t day_bit(uint32_t day, uint32_t d)
+{
+    uint32_t back = d - day;
+    return (uint64_t)(back <= LOOK_BACK) << (back & 63);
+}
+
+/* The holidays of a year, as bits at their distance before d (0 to 45);
+ * `moved` are the fixed ones that a list moves. */
+static uint64_t holiday_bits(uint32_t year, uint32_t d, uint64_t moved)
 {
     /* From 1 January, and from 1 March (day 59 of a common year). */
     static const uint32_t winter[2] = {0, 5};
@@ -116,20 +169,15 @@ static uint64_t holiday_bits(uint32_t year, uint32_t d)
     uint32_t w = (2 * a + 4 * b + 34 - m) % 7;
     /* 22 March, Julian, is m + w = 0; it is 4 April, day 93. */
     uint32_t clean_monday = start + leap + 93 + m + w - 48;
-    uint64_t bits = 0;
+    uint64_t fixed = 0, feasts = 0;
     size_t i;
     for (i = 0; i < 2; i++)
-        if (d - (start + winter[i]) <= LOOK_BACK)
-            bits |= (uint64_t)1 << (d - (start + winter[i]));
+        fixed |= day_bit(start + winter[i], d);
     for (i = 0; i < 6; i++) {
-        uint32_t fixed = d - (start + leap + later[i]);
-        uint32_t feast = d - (clean_monday + moving[i]);
-        if (fixed <= LOOK_BACK)
-            bits |= (uint64_t)1 << fixed;
-        if (feast <= LOOK_BACK)
-            bits |= (uint64_t)1 << feast;
+        fixed |= day_bit(start + leap + later[i], d);
+        feasts |= day_bit(clean_monday + moving[i], d);
     }
-    return bits;
+    return (fixed & ~moved) | feasts;
 }
 
 /* Bits 0, 7, 14 and so on, `from` places up. */
@@ -138,16 +186,22 @@ static uint64_t weekly(uint32_t from)
     return (uint64_t)0x0102040810204081u << from;
 }
 
-/* The days of d's group, as bits at their distance before d. */
-static uint64_t group_bits(uint32_t d, int *weekday)
+/* The days of d's group by a list of moves, as bits at their distance before d. */
+static uint64_t group_bits(uint32_t d, const uint32_t *moves, size_t moves_len,
+                           int *weekday)
 {
     uint32_t year = year_of(d);
-    uint64_t holiday = holiday_bits(year, d);
     uint64_t saturday = weekly(d % 7);
     uint64_t sunday = weekly((d + 6) % 7);
+    uint64_t moved = 0, holiday = sunday;
+    size_t i;
+    for (i = 0; i < moves_len; i += 2) {
+        moved |= day_bit(moves[i], d);
+        holiday |= day_bit(moves[i + 1], d);
+    }
+    holiday |= holiday_bits(year, d, moved);
     if (d - new_year(year) < LOOK_BACK && year > 2000)
-        holiday |= holiday_bits(year - 1, d);
-    holiday |= sunday;
+        holiday |= holiday_bits(year - 1, d, moved);
     saturday &= ~holiday;
     *weekday = 0;
     if (holiday & 1)
@@ -159,11 +213,12 @@ static uint64_t group_bits(uint32_t d, int *weekday)
 }
 
 /* The relevant days, as bits at their distance before d. */
-static uint64_t relevant_bits(uint32_t p, uint32_t d, int *weekday)
+static uint64_t relevant_bits(uint32_t p, uint32_t d, const uint32_t *moves,
+                              size_t moves_len, int *weekday)
 {
     uint32_t most = d - p < LOOK_BACK ? d - p : LOOK_BACK;
     uint64_t back = ((uint64_t)2 << most) - 2;
-    uint64_t bits = group_bits(d, weekday) & back;
+    uint64_t bits = group_bits(d, moves, moves_len, weekday) & back;
     return *weekday ? bits & ~(uint64_t)2 : bits;
 }
 
@@ -332,7 +387,8 @@ static uint32_t check_table(uint32_t first, const uint8_t *marks, size_t days,
 }
 
 uint32_t plain_baseline(uint32_t first, const uint8_t *marks, size_t days,
-                        const uint32_t *readings, size_t count, uint32_t p,
+                        const uint32_t *readings, size_t count,
+                        const uint32_t *moves, size_t moves_len, uint32_t p,
                         uint32_t d, uint32_t s, uint32_t e, uint32_t n,
                         uint32_t *out, size_t room,
                         struct plain_answer *answer)
@@ -348,6 +404,8 @@ uint32_t plain_baseline(uint32_t first, const uint8_t *marks, size_t days,
     refused = check_table(first, marks, days, readings, count, answer);
     if (refused)
         return refused;
+    if (!good_moves(moves, moves_len))
+        return refuse(answer, 14, 0, 0, 0);
     if (p > LAST_DAY || s < 96 || s > 191 || e <= s || e > 192 || n > s)
         return refuse(answer, 4, 0, 0, 0);
     if (d < first || d - first >= days)
@@ -362,7 +420,7 @@ uint32_t plain_baseline(uint32_t first, const uint8_t *marks, size_t days,
     event.readings = readings + (size_t)before * QUARTERS;
     event.start = s - QUARTERS;
     event.end = e - QUARTERS;
-    relevant = relevant_bits(p, d, &weekday);
+    relevant = relevant_bits(p, d, moves, moves_len, &weekday);
     oldest = highest_bit(relevant);
     held = relevant;
     if (before < LOOK_BACK)

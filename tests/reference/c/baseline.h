@@ -1,4 +1,4 @@
-/* The call over a table (document 01), in plain C99: the measure for speed. */
+/* The call over a table (document 01, and order 2's list of moved holidays), in plain C99: the measure for speed. */
 #ifndef PLAIN_BASELINE_H
 #define PLAIN_BASELINE_H
 
@@ -16,10 +16,13 @@ struct plain_answer {
 };
 
 /* 0 if answered: the first e-s of `out` are the numerators, the rest is kept.
- * Otherwise the refusal number, 1 to 10, and all of `out` is kept.
+ * Otherwise the refusal number, 1 to 10 or 14, and all of `out` is kept.
+ * `moves` has two numbers for each moved holiday: the fixed-date holiday, and
+ * the day that replaces it.
  * `answer` is overwritten; what does not apply is 0. */
 uint32_t plain_baseline(uint32_t first, const uint8_t *marks, size_t days,
-                        const uint32_t *readings, size_t count, uint32_t p,
+                        const uint32_t *readings, size_t count,
+                        const uint32_t *moves, size_t moves_len, uint32_t p,
                         uint32_t d, uint32_t s, uint32_t e, uint32_t n,
                         uint32_t *out, size_t room,
                         struct plain_answer *answer);

@@ -2,7 +2,7 @@
 #include "listing.h"
 
 /* One byte more than the longest file. */
-static uint8_t file[50441];
+static uint8_t file[50537];
 
 int main(void)
 {

@@ -29,7 +29,7 @@ static inline void plain_list_refusal(FILE *to, const struct plain_event *event,
 static inline void plain_list(FILE *to, const uint8_t *file, size_t length)
 {
     uint8_t marks[128];
-    uint32_t readings[128 * 96], out[96], place;
+    uint32_t readings[128 * 96], moves[32], out[96], place;
     struct plain_file shape;
     struct plain_answer answer;
     size_t offset;
@@ -39,11 +39,12 @@ static inline void plain_list(FILE *to, const uint8_t *file, size_t length)
         return;
     }
     fprintf(to, "portfolio %u from %u held %u %u\n", shape.portfolio, shape.p, shape.first, shape.days);
+    plain_load_moves(file, &shape, moves);
     plain_load(file, &shape, marks, readings);
     for (place = 0; place < shape.events; place++) {
         struct plain_event event = plain_event_at(file, &shape, place);
-        uint32_t number = plain_baseline(shape.first, marks, shape.days, readings, (size_t)96 * shape.days, shape.p, event.d, event.s,
-                                         event.e, event.n, out, 96, &answer);
+        uint32_t number = plain_baseline(shape.first, marks, shape.days, readings, (size_t)96 * shape.days, moves,
+                                         (size_t)2 * shape.moves, shape.p, event.d, event.s, event.e, event.n, out, 96, &answer);
         if (number)
             plain_list_refusal(to, &event, number, &answer);
         else

@@ -1,6 +1,7 @@
 //! Adjustment, baseline and the whole call (01, "Adjustment and baseline").
 
 use crate::choice::choose;
+use crate::moves::check_moves;
 use crate::refusal::Refusal;
 use crate::table::{check_request, check_table, Request, View, MISSING, QUARTERS};
 use std::ops::Range;
@@ -82,12 +83,18 @@ fn window_sums(view: View, d: u32, days: &[u32], twelve: Range<u32>) -> (i64, i6
     (a, b)
 }
 
-/// The call: an answer or one refusal, 1 to 10 in order. `room` is the number
-/// of output quarters.
-pub fn verdict(view: View, request: &Request, room: usize) -> Result<Answer, Refusal> {
+/// The call: an answer or one refusal, 1 to 10 in order, with 14 "after 3,
+/// before 4". `room` is the number of output quarters.
+pub fn verdict(
+    view: View,
+    moves: &[u32],
+    request: &Request,
+    room: usize,
+) -> Result<Answer, Refusal> {
     check_table(view)?;
+    check_moves(moves)?;
     check_request(view, request, room)?;
-    let choice = choose(view, request)?;
+    let choice = choose(view, moves, request)?;
     let reach = u64::from(choice.reach);
     let twelve = adjustment_window(view, request).ok_or(Refusal::NoAdjustment { reach })?;
     let (a, b) = window_sums(view, request.d, &choice.days, twelve);

@@ -1,8 +1,11 @@
-//! Days, holidays and groups (01, "Days and groups").
+//! Days, holidays and groups (01, "Days and groups"; 02, order 2, for a list of
+//! moves).
 //!
 //! The hundred years are walked day by day; only Easter has a rule in numbers,
 //! and that rule is 01's own.
 
+use crate::moves::{first_days, second_days};
+use std::ops::Range;
 use std::sync::OnceLock;
 
 /// 31 December 2099 (01, "Days and groups").
@@ -61,7 +64,7 @@ impl Date {
 }
 
 fn is_leap(year: u32) -> bool {
-    (year.is_multiple_of(4) && !year.is_multiple_of(100)) || year.is_multiple_of(400)
+    (year % 4 == 0 && year % 100 != 0) || year % 400 == 0
 }
 
 fn month_length(year: u32, month: u32) -> u32 {
@@ -138,20 +141,67 @@ pub fn holidays() -> &'static [u32] {
     HOLIDAYS.get_or_init(|| (2000..2100).flat_map(find_holidays).collect())
 }
 
-/// The groups of all days: weeks laid end to end, then the holidays put in.
-fn groups() -> &'static [Group] {
-    static GROUPS: OnceLock<Vec<Group>> = OnceLock::new();
-    GROUPS.get_or_init(|| {
-        let week = FIRST_WEEK.iter().copied().cycle();
-        let mut groups: Vec<Group> = week.take(dates().len()).collect();
-        for &day in holidays() {
-            groups[day as usize] = Group::Holiday;
-        }
-        groups
-    })
+/// Each year's holidays at these places.
+fn of_each_year(places: Range<usize>) -> Vec<u32> {
+    let years = holidays().chunks(FIXED_HOLIDAYS.len() + EASTER_HOLIDAYS.len());
+    years
+        .flat_map(|year| &year[places.clone()])
+        .copied()
+        .collect()
 }
 
-/// The group of a day from 0 to 36,524.
-pub fn group_of(day: u32) -> Option<Group> {
-    groups().get(day as usize).copied()
+/// The holidays on a fixed date, eight a year.
+pub fn fixed_holidays() -> &'static [u32] {
+    static FIXED: OnceLock<Vec<u32>> = OnceLock::new();
+    FIXED.get_or_init(|| of_each_year(0..FIXED_HOLIDAYS.len()))
+}
+
+/// The holidays counted from Easter, six a year.
+pub fn easter_holidays() -> &'static [u32] {
+    static MOVING: OnceLock<Vec<u32>> = OnceLock::new();
+    let end = FIXED_HOLIDAYS.len() + EASTER_HOLIDAYS.len();
+    MOVING.get_or_init(|| of_each_year(FIXED_HOLIDAYS.len()..end))
+}
+
+/// For each day of the hundred years, whether it is one of these.
+fn marked(days: &[u32]) -> Vec<bool> {
+    let mut marked = vec![false; dates().len()];
+    for &day in days {
+        marked[day as usize] = true;
+    }
+    marked
+}
+
+/// A holiday on a fixed date.
+pub fn is_fixed(day: u32) -> bool {
+    static FIXED: OnceLock<Vec<bool>> = OnceLock::new();
+    let fixed = FIXED.get_or_init(|| marked(fixed_holidays()));
+    fixed.get(day as usize) == Some(&true)
+}
+
+/// A holiday counted from Easter.
+pub fn is_easter(day: u32) -> bool {
+    static MOVING: OnceLock<Vec<bool>> = OnceLock::new();
+    let moving = MOVING.get_or_init(|| marked(easter_holidays()));
+    moving.get(day as usize) == Some(&true)
+}
+
+/// A holiday by a list (02, order 2): "the old date stops being a holiday unless
+/// another rule or some pair makes it one".
+pub fn is_holiday(day: u32, moves: &[u32]) -> bool {
+    let stays = is_fixed(day) && !first_days(moves).any(|first| first == day);
+    let replaces = second_days(moves).any(|second| second == day);
+    stays || is_easter(day) || replaces
+}
+
+/// The group of a day from 0 to 36,524, by a list: a holiday is in the holiday
+/// group, any other day where its day of the week is.
+pub fn group_of(day: u32, moves: &[u32]) -> Option<Group> {
+    if day > LAST_DAY {
+        None
+    } else if is_holiday(day, moves) {
+        Some(Group::Holiday)
+    } else {
+        Some(FIRST_WEEK[day as usize % FIRST_WEEK.len()])
+    }
 }

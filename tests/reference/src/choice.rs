@@ -1,5 +1,5 @@
-//! Choosing the days (01, "Choosing the days"). The table and the request have
-//! passed refusals 1 to 7.
+//! Choosing the days (01, "Choosing the days"), by a list of moves (02, order 2).
+//! The table, the list and the request have passed refusals 1 to 7 and 14.
 
 use crate::calendar::{group_of, Group};
 use crate::refusal::Refusal;
@@ -20,22 +20,22 @@ pub struct Choice {
 }
 
 /// Y and N: 10 and 5 for a weekday, 3 and 2 otherwise.
-pub fn sizes(d: u32) -> (usize, usize) {
-    match group_of(d) {
+pub fn sizes(moves: &[u32], d: u32) -> (usize, usize) {
+    match group_of(d, moves) {
         Some(Group::Weekday) => (10, 5),
         _ => (3, 2),
     }
 }
 
 /// The relevant days, the nearest to D first, held or not.
-pub fn relevant_days(request: &Request) -> Vec<u32> {
+pub fn relevant_days(moves: &[u32], request: &Request) -> Vec<u32> {
     let Request { p, d, .. } = *request;
-    let group = group_of(d);
+    let group = group_of(d, moves);
     let skips_eve = group == Some(Group::Weekday);
     (1..=LOOK_BACK)
         .filter_map(|back| d.checked_sub(back))
         .filter(|&day| day >= p)
-        .filter(|&day| group_of(day) == group)
+        .filter(|&day| group_of(day, moves) == group)
         .filter(|&day| !(skips_eve && day + 1 == d))
         .collect()
 }
@@ -49,8 +49,8 @@ fn is_complete(view: View, day: u32) -> bool {
 }
 
 /// The relevant, complete days, the nearest first.
-fn complete_days(view: View, request: &Request) -> Vec<u32> {
-    let mut days = relevant_days(request);
+fn complete_days(view: View, moves: &[u32], request: &Request) -> Vec<u32> {
+    let mut days = relevant_days(moves, request);
     days.retain(|&day| is_complete(view, day));
     days
 }
@@ -60,15 +60,15 @@ fn has_bit(view: View, day: u32, bit: u8) -> bool {
 }
 
 /// The eligible days, the nearest first: relevant, complete, both bits clear.
-pub fn eligible_days(view: View, request: &Request) -> Vec<u32> {
-    let mut days = complete_days(view, request);
+pub fn eligible_days(view: View, moves: &[u32], request: &Request) -> Vec<u32> {
+    let mut days = complete_days(view, moves, request);
     days.retain(|&day| !has_bit(view, day, EVENT) && !has_bit(view, day, OUTAGE));
     days
 }
 
 /// The spare days: relevant, complete, bit 0 set and bit 1 clear.
-pub fn spare_days(view: View, request: &Request) -> Vec<u32> {
-    let mut days = complete_days(view, request);
+pub fn spare_days(view: View, moves: &[u32], request: &Request) -> Vec<u32> {
+    let mut days = complete_days(view, moves, request);
     days.retain(|&day| has_bit(view, day, EVENT) && !has_bit(view, day, OUTAGE));
     days
 }
@@ -90,20 +90,20 @@ pub fn ranked(view: View, request: &Request, mut days: Vec<u32>) -> Vec<u32> {
 
 /// The window: the Y most recent eligible days, or all of them, filled up to N
 /// with the highest spare days.
-pub fn window(view: View, request: &Request) -> Vec<u32> {
-    let (y, n) = sizes(request.d);
-    let mut window = eligible_days(view, request);
+pub fn window(view: View, moves: &[u32], request: &Request) -> Vec<u32> {
+    let (y, n) = sizes(moves, request.d);
+    let mut window = eligible_days(view, moves, request);
     window.truncate(y);
     if window.len() < n {
-        let spare = ranked(view, request, spare_days(view, request));
+        let spare = ranked(view, request, spare_days(view, moves, request));
         window.extend(spare.into_iter().take(n - window.len()));
     }
     window
 }
 
 /// D minus the oldest relevant day, or 0 if none is relevant.
-fn relevant_reach(request: &Request) -> u32 {
-    match relevant_days(request).last() {
+fn relevant_reach(moves: &[u32], request: &Request) -> u32 {
+    match relevant_days(moves, request).last() {
         Some(oldest) => request.d - oldest,
         None => 0,
     }
@@ -111,32 +111,34 @@ fn relevant_reach(request: &Request) -> u32 {
 
 /// D minus the window's oldest day if it holds Y days; otherwise D minus the
 /// oldest relevant day, or 0.
-pub fn reach(request: &Request, window: &[u32]) -> u32 {
-    let (y, _) = sizes(request.d);
+pub fn reach(moves: &[u32], request: &Request, window: &[u32]) -> u32 {
+    let (y, _) = sizes(moves, request.d);
     match window.iter().min() {
         Some(oldest) if window.len() == y => request.d - oldest,
-        _ => relevant_reach(request),
+        _ => relevant_reach(moves, request),
     }
 }
 
 /// Refusal 8: eligible held days below Y and a relevant day before F.
-pub fn check_margin(view: View, request: &Request) -> Result<(), Refusal> {
-    let (y, _) = sizes(request.d);
-    let few = eligible_days(view, request).len() < y;
-    let cut = relevant_days(request).iter().any(|&day| day < view.first);
+pub fn check_margin(view: View, moves: &[u32], request: &Request) -> Result<(), Refusal> {
+    let (y, _) = sizes(moves, request.d);
+    let few = eligible_days(view, moves, request).len() < y;
+    let cut = relevant_days(moves, request)
+        .iter()
+        .any(|&day| day < view.first);
     if few && cut {
-        let days = u64::from(relevant_reach(request));
+        let days = u64::from(relevant_reach(moves, request));
         return Err(Refusal::Margin { days });
     }
     Ok(())
 }
 
 /// Refusals 8 and 9, or the window, the first N of its ranking and the reach.
-pub fn choose(view: View, request: &Request) -> Result<Choice, Refusal> {
-    check_margin(view, request)?;
-    let (_, n) = sizes(request.d);
-    let window = window(view, request);
-    let reach = reach(request, &window);
+pub fn choose(view: View, moves: &[u32], request: &Request) -> Result<Choice, Refusal> {
+    check_margin(view, moves, request)?;
+    let (_, n) = sizes(moves, request.d);
+    let window = window(view, moves, request);
+    let reach = reach(moves, request, &window);
     if window.len() < n {
         return Err(Refusal::TooFew {
             size: window.len() as u64,

@@ -4,10 +4,11 @@
 mod calls;
 mod files;
 mod look_back;
+mod moves;
 mod source;
 mod writings;
 
-pub use calls::gen_call;
+pub use calls::{gen_call, Draft};
 pub use files::{gen_cuts, gen_file, gen_small_file};
 pub use look_back::gen_look_backs;
 pub use writings::gen_writing;

@@ -9,13 +9,16 @@ pub mod calendar;
 pub mod choice;
 pub mod generate;
 pub mod listing;
+pub mod moves;
 pub mod record;
 pub mod refusal;
 pub mod table;
 pub mod writer;
 
 pub use baseline::{verdict, Answer};
-pub use generate::{gen_call, gen_cuts, gen_file, gen_look_backs, gen_small_file, gen_writing};
+pub use generate::{
+    gen_call, gen_cuts, gen_file, gen_look_backs, gen_small_file, gen_writing, Draft,
+};
 pub use listing::listing;
 pub use record::host;
 pub use refusal::Refusal;

@@ -57,7 +57,8 @@ fn quarter_lines(request: &Request, answer: &Answer) -> String {
 
 /// The lines of one event. There is always room for a day of quarters.
 fn event_lines(contents: &Contents, request: &Request) -> String {
-    match verdict(contents.table.view(), request, QUARTERS) {
+    let Contents { table, moves, .. } = contents;
+    match verdict(table.view(), moves, request, QUARTERS) {
         Ok(answer) => event_line(request, &answer) + &quarter_lines(request, &answer),
         Err(refusal) => refusal_line(request, &refusal),
     }

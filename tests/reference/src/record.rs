@@ -1,10 +1,13 @@
-//! The record file and the host entry (01, "Record file, listing, host entry").
+//! The record file and the host entry (01, "Record file, listing, host entry";
+//! 02, order 2, for the moves).
 
 use crate::baseline::{verdict, Answer};
+use crate::moves::{MOST_MOVES, MOVE_NUMBERS};
 use crate::refusal::Refusal;
 use crate::table::{Request, Table, MOST_DAYS, QUARTERS};
 
 pub const PF_LENGTH: usize = 8;
+pub const MV_LENGTH: usize = 6;
 pub const DY_LENGTH: usize = 390;
 pub const EV_LENGTH: usize = 8;
 /// The most EV records.
@@ -16,6 +19,8 @@ pub struct Contents {
     /// Participation start P.
     pub p: u32,
     pub portfolio: u32,
+    /// Two days for each MV.
+    pub moves: Vec<u32>,
     /// F counts as 0 when there is no DY.
     pub table: Table,
     /// The requests, P included, in file order.
@@ -34,6 +39,14 @@ fn number(bytes: &[u8]) -> u32 {
         .iter()
         .rev()
         .fold(0, |number, &byte| number * 256 + u32::from(byte))
+}
+
+/// An MV that may follow the moves already read: any two days, but not one too
+/// many.
+fn next_move(file: &[u8], at: usize, moves: &[u32]) -> Option<[u32; MOVE_NUMBERS]> {
+    let bytes = record(file, at, b"MV", MV_LENGTH)?;
+    let days = [number(&bytes[2..4]), number(&bytes[4..6])];
+    (moves.len() < MOVE_NUMBERS * MOST_MOVES).then_some(days)
 }
 
 /// A DY that may follow the days already read: one too many, a day that is not
@@ -67,14 +80,18 @@ fn next_event(file: &[u8], at: usize, p: u32, events: &[Request]) -> Option<Requ
     (events.len() < MOST_EVENTS && bytes[7] == 0).then_some(request)
 }
 
-/// One PF, then up to 128 DY, then up to 64 EV, and nothing else; refusal 11
-/// names the start of the record where that ends.
+/// One PF, then up to 16 MV (02, order 2: "between `PF` and `DY`"), then up to
+/// 128 DY, then up to 64 EV, and nothing else; refusal 11 names the start of the
+/// record where that ends.
 pub fn read(file: &[u8]) -> Result<Contents, Refusal> {
     let head = record(file, 0, b"PF", PF_LENGTH).ok_or(Refusal::File { offset: 0 })?;
     let p = number(&head[2..4]);
-    let mut table = Table::default();
-    let mut events = vec![];
+    let (mut moves, mut table, mut events) = (vec![], Table::default(), vec![]);
     let mut at = PF_LENGTH;
+    while let Some(days) = next_move(file, at, &moves) {
+        moves.extend(days);
+        at += MV_LENGTH;
+    }
     while let Some(day) = next_day(file, at, &table) {
         add_day(&mut table, day);
         at += DY_LENGTH;
@@ -89,16 +106,17 @@ pub fn read(file: &[u8]) -> Result<Contents, Refusal> {
     Ok(Contents {
         p,
         portfolio: number(&head[4..8]),
+        moves,
         table,
         events,
     })
 }
 
-/// The answer at an event's place: refusal 11, then 12, then 1 to 10.
+/// The answer at an event's place: refusal 11, then 12, then the call's.
 fn answer_at(file: &[u8], place: usize, bytes: usize) -> Result<Answer, Refusal> {
     let contents = read(file)?;
     let request = contents.events.get(place).ok_or(Refusal::NoEvent)?;
-    verdict(contents.table.view(), request, bytes / 4)
+    verdict(contents.table.view(), &contents.moves, request, bytes / 4)
 }
 
 /// The host entry: 0 and the numerators little-endian at the start of `out`, or

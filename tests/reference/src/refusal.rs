@@ -1,4 +1,5 @@
-//! The refusals and the numbers they carry (01, "Refusal numbers"; 13 is 02's).
+//! The refusals and the numbers they carry (01, "Refusal numbers"; 13 and 14 are
+//! 02's).
 
 /// Each refusal is a case of its own.
 #[derive(Clone, Copy, PartialEq, Eq, Debug)]
@@ -27,9 +28,12 @@ pub enum Refusal {
     File { offset: u64 },
     /// 12: no event at that place.
     NoEvent,
-    /// 13: more than 64 events, a field or day that its bytes can't hold, or no
-    /// days with F other than 0.
+    /// 13: more than 64 events, more than 16 pairs, a field or day that its
+    /// bytes can't hold, or no days with F other than 0.
     Unwritable,
+    /// 14: a pair whose first day is no fixed-date holiday, a repeated first
+    /// day, more than 16 pairs or a day past 36,524.
+    Moves,
 }
 
 impl Refusal {
@@ -49,6 +53,7 @@ impl Refusal {
             Refusal::File { .. } => 11,
             Refusal::NoEvent => 12,
             Refusal::Unwritable => 13,
+            Refusal::Moves => 14,
         }
     }
 

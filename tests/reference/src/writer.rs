@@ -1,7 +1,8 @@
-//! The writer of the record file (02, order 1), and the records that it writes
-//! (01, "Record file, listing, host entry").
+//! The writer of the record file (02, order 1, and order 2 for the moves), and
+//! the records that it writes (01, "Record file, listing, host entry").
 
-use crate::record::{Contents, DY_LENGTH, EV_LENGTH, MOST_EVENTS, PF_LENGTH};
+use crate::moves::{first_days, second_days, MOST_MOVES, MOVE_NUMBERS};
+use crate::record::{Contents, DY_LENGTH, EV_LENGTH, MOST_EVENTS, MV_LENGTH, PF_LENGTH};
 use crate::refusal::Refusal;
 use crate::table::{Table, MOST_DAYS, QUARTERS};
 
@@ -10,6 +11,11 @@ pub type Record = Vec<u8>;
 
 pub fn head_record(p: u16, portfolio: u32) -> Record {
     [&b"PF"[..], &p.to_le_bytes(), &portfolio.to_le_bytes()].concat()
+}
+
+/// 02, order 2: "6 bytes: mark, two days".
+pub fn move_record(first: u16, second: u16) -> Record {
+    [&b"MV"[..], &first.to_le_bytes(), &second.to_le_bytes()].concat()
 }
 
 pub fn day_record(day: u16, mark: u8, readings: &[u32]) -> Record {
@@ -30,16 +36,27 @@ pub fn day_records(table: &Table) -> Vec<Record> {
         .collect()
 }
 
+/// The moves of a list.
+pub fn move_records(moves: &[u32]) -> Vec<Record> {
+    let pairs = moves.chunks_exact(MOVE_NUMBERS);
+    pairs
+        .map(|pair| move_record(pair[0] as u16, pair[1] as u16))
+        .collect()
+}
+
 /// The numbers of an event: D, s, e, n.
 pub const EVENT_NUMBERS: usize = 4;
 
-/// "From P, a portfolio number, an extract and up to 64 events".
+/// "From P, a portfolio number, an extract and up to 64 events", and the list of
+/// order 2.
 #[derive(Clone, PartialEq, Eq, Debug)]
 pub struct Values {
     /// Participation start P.
     pub p: u32,
     pub portfolio: u32,
     pub table: Table,
+    /// The two days of each move, as the C entry takes them.
+    pub moves: Vec<u32>,
     /// D, s, e and n of each event, as the C entry takes them.
     pub events: Vec<u32>,
 }
@@ -51,8 +68,15 @@ pub enum Reason {
     Events,
     /// Not four numbers for each event (include/honeyplank.h).
     Fours,
-    /// A field or day that its bytes can't hold: P, a held day, D, s, e, n.
+    /// More than 16 pairs (02, order 2: "the writer gives 13 for it").
+    Moves,
+    /// Not two numbers for each move (include/honeyplank.h).
+    Twos,
+    /// A field or day that its bytes can't hold: P, a move's first and second
+    /// day, a held day, D, s, e, n.
     P,
+    First,
+    Second,
     Held,
     D,
     S,
@@ -63,10 +87,14 @@ pub enum Reason {
 }
 
 impl Reason {
-    pub const ALL: [Reason; 9] = [
+    pub const ALL: [Reason; 13] = [
         Reason::Events,
         Reason::Fours,
+        Reason::Moves,
+        Reason::Twos,
         Reason::P,
+        Reason::First,
+        Reason::Second,
         Reason::Held,
         Reason::D,
         Reason::S,
@@ -77,14 +105,22 @@ impl Reason {
 
     fn applies(self, values: &Values) -> bool {
         let Values {
-            p, table, events, ..
+            p,
+            table,
+            moves,
+            events,
+            ..
         } = values;
         let field = |place| events.iter().skip(place).step_by(EVENT_NUMBERS);
         let mut days = (u64::from(table.first)..).take(table.marks.len());
         match self {
             Reason::Events => events.len() > EVENT_NUMBERS * MOST_EVENTS,
             Reason::Fours => events.len() % EVENT_NUMBERS != 0,
+            Reason::Moves => moves.len() > MOVE_NUMBERS * MOST_MOVES,
+            Reason::Twos => moves.len() % MOVE_NUMBERS != 0,
             Reason::P => u16::try_from(*p).is_err(),
+            Reason::First => first_days(moves).any(|day| u16::try_from(day).is_err()),
+            Reason::Second => second_days(moves).any(|day| u16::try_from(day).is_err()),
             Reason::Held => days.any(|day| u16::try_from(day).is_err()),
             Reason::D => field(0).any(|&d| u16::try_from(d).is_err()),
             Reason::S => field(1).any(|&s| u8::try_from(s).is_err()),
@@ -103,6 +139,7 @@ impl Values {
             p: contents.p,
             portfolio: contents.portfolio,
             table: contents.table.clone(),
+            moves: contents.moves.clone(),
             events: events.flat_map(|r| [r.d, r.s, r.e, r.n]).collect(),
         }
     }
@@ -124,7 +161,8 @@ impl Values {
     /// The length of the file.
     pub fn length(&self) -> usize {
         let (days, events) = (self.table.marks.len(), self.events.len() / EVENT_NUMBERS);
-        PF_LENGTH + DY_LENGTH * days + EV_LENGTH * events
+        let moves = self.moves.len() / MOVE_NUMBERS;
+        PF_LENGTH + MV_LENGTH * moves + DY_LENGTH * days + EV_LENGTH * events
     }
 
     fn event_records(&self) -> Vec<Record> {
@@ -136,10 +174,9 @@ impl Values {
     }
 
     fn file(&self) -> Vec<u8> {
-        let head = [head_record(self.p as u16, self.portfolio)];
-        [&head[..], &day_records(&self.table), &self.event_records()]
-            .concat()
-            .concat()
+        let head = vec![head_record(self.p as u16, self.portfolio)];
+        let (moves, days) = (move_records(&self.moves), day_records(&self.table));
+        [head, moves, days, self.event_records()].concat().concat()
     }
 }
 

@@ -87,15 +87,15 @@ fn fourteen_holidays_a_year() {
 
 #[test]
 fn groups_of_days() {
-    assert_eq!(group_of(day(2024, 5, 4)), Some(Group::Holiday));
-    assert_eq!(group_of(6972), Some(Group::Saturday));
-    assert_eq!(group_of(8993), Some(Group::Holiday));
-    assert_eq!(group_of(AUGUST_28), Some(Group::Weekday));
-    assert_eq!(group_of(0), Some(Group::Holiday));
-    assert_eq!(group_of(7), Some(Group::Saturday));
-    assert_eq!(group_of(8), Some(Group::Holiday));
-    assert_eq!(group_of(LAST_DAY), Some(Group::Weekday));
-    assert_eq!(group_of(LAST_DAY + 1), None);
+    assert_eq!(group_of(day(2024, 5, 4), &[]), Some(Group::Holiday));
+    assert_eq!(group_of(6972, &[]), Some(Group::Saturday));
+    assert_eq!(group_of(8993, &[]), Some(Group::Holiday));
+    assert_eq!(group_of(AUGUST_28, &[]), Some(Group::Weekday));
+    assert_eq!(group_of(0, &[]), Some(Group::Holiday));
+    assert_eq!(group_of(7, &[]), Some(Group::Saturday));
+    assert_eq!(group_of(8, &[]), Some(Group::Holiday));
+    assert_eq!(group_of(LAST_DAY, &[]), Some(Group::Weekday));
+    assert_eq!(group_of(LAST_DAY + 1, &[]), None);
 }
 
 #[test]
@@ -105,19 +105,22 @@ fn window_of_28_august() {
     let expected: Vec<u32> = [26, 22, 21, 20, 19, 16, 14, 13, 12, 9]
         .map(|date| day(2024, 8, date))
         .to_vec();
-    let window = window(table.view(), &request);
+    let window = window(table.view(), &[], &request);
     assert_eq!(window, expected);
-    assert_eq!(reach(&request, &window), 19);
-    assert_eq!(choose(table.view(), &request).unwrap().days, expected[..5]);
+    assert_eq!(reach(&[], &request, &window), 19);
+    assert_eq!(
+        choose(table.view(), &[], &request).unwrap().days,
+        expected[..5]
+    );
 }
 
 #[test]
 fn margin_of_28_august() {
     let request = request(8700, AUGUST_28, 152, 156, 148);
     let from_9 = august(day(2024, 8, 9));
-    assert_eq!(verdict(from_9.view(), &request, 4).unwrap().reach, 19);
+    assert_eq!(verdict(from_9.view(), &[], &request, 4).unwrap().reach, 19);
     let from_10 = august(day(2024, 8, 10));
-    let refusal = verdict(from_10.view(), &request, 4).unwrap_err();
+    let refusal = verdict(from_10.view(), &[], &request, 4).unwrap_err();
     assert_eq!((refusal.number(), refusal.carries()), (8, vec![44]));
 }
 
@@ -127,14 +130,14 @@ fn window_of_saturday_2_february() {
     let table = flat(6900, 6972, 1000);
     let request = request(6900, 6972, 152, 156, 148);
     let expected = [(1, 26), (1, 19), (1, 12)].map(|(month, date)| day(2019, month, date));
-    assert_eq!(window(table.view(), &request), expected);
+    assert_eq!(window(table.view(), &[], &request), expected);
 }
 
 /// 003, Table 5, on the ten days of 28 August's window.
 fn table_5() -> (Table, Vec<u32>) {
     let mut table = august(day(2024, 7, 1));
     let request = request(8700, AUGUST_28, 152, 156, 148);
-    let days = window(table.view(), &request);
+    let days = window(table.view(), &[], &request);
     for (&day, readings) in days.iter().zip(TABLE_5) {
         for (place, reading) in readings.into_iter().enumerate() {
             set_reading(&mut table, day, 56 + place, reading);
@@ -152,7 +155,7 @@ fn ranking_of_table_5() {
     assert_eq!(sums, expected);
     let (table, days) = table_5();
     let request = request(8700, AUGUST_28, 152, 156, 148);
-    let chosen = choose(table.view(), &request).unwrap().days;
+    let chosen = choose(table.view(), &[], &request).unwrap().days;
     assert_eq!(chosen, [0, 1, 2, 3, 6].map(|place: usize| days[place]));
 }
 
@@ -161,7 +164,7 @@ fn ranking_of_table_5() {
 fn averages_of_table_6() {
     let (table, _) = table_5();
     let request = request(8700, AUGUST_28, 152, 156, 148);
-    let answer = verdict(table.view(), &request, 4).unwrap();
+    let answer = verdict(table.view(), &[], &request, 4).unwrap();
     let sums: Vec<i64> = (152..156)
         .map(|t| chosen_sum(table.view(), &answer.days, t))
         .collect();
@@ -183,9 +186,9 @@ fn highest_reading() {
     let request = request(8700, AUGUST_28, 152, 156, 148);
     let mut table = august(day(2024, 7, 1));
     set_reading(&mut table, day(2024, 7, 2), 5, HIGHEST);
-    assert!(verdict(table.view(), &request, 4).is_ok());
+    assert!(verdict(table.view(), &[], &request, 4).is_ok());
     set_reading(&mut table, day(2024, 7, 2), 5, HIGHEST + 1);
-    let refusal = verdict(table.view(), &request, 4).unwrap_err();
+    let refusal = verdict(table.view(), &[], &request, 4).unwrap_err();
     assert_eq!((refusal.number(), refusal.carries()), (3, vec![101]));
 }
 
@@ -211,7 +214,7 @@ fn five_days(mark: u8) -> (Table, u32) {
 fn event_day_as_the_fifth() {
     let (mut table, p) = five_days(1);
     set_day(&mut table, day(2024, 8, 21), 900);
-    let answer = verdict(table.view(), &request(p, AUGUST_28, 152, 156, 148), 4).unwrap();
+    let answer = verdict(table.view(), &[], &request(p, AUGUST_28, 152, 156, 148), 4).unwrap();
     let expected = [26, 23, 22, 20, 21].map(|date| day(2024, 8, date));
     assert_eq!(answer.days, expected);
     assert_eq!(answer.reach, 8);
@@ -221,19 +224,19 @@ fn event_day_as_the_fifth() {
 fn no_fifth_day() {
     for mark in [2, 3] {
         let (table, p) = five_days(mark);
-        let refusal = verdict(table.view(), &request(p, AUGUST_28, 152, 156, 148), 4);
+        let refusal = verdict(table.view(), &[], &request(p, AUGUST_28, 152, 156, 148), 4);
         assert_eq!(refusal, Err(Refusal::TooFew { size: 4, reach: 8 }));
     }
     let (mut table, p) = five_days(1);
     set_reading(&mut table, day(2024, 8, 21), 95, MISSING);
-    let refusal = verdict(table.view(), &request(p, AUGUST_28, 152, 156, 148), 4);
+    let refusal = verdict(table.view(), &[], &request(p, AUGUST_28, 152, 156, 148), 4);
     assert_eq!(refusal, Err(Refusal::TooFew { size: 4, reach: 8 }));
 }
 
 #[test]
 fn first_day_is_event_day() {
     let table = flat(AUGUST_28, AUGUST_28, 1000);
-    let with_p = |p| verdict(table.view(), &request(p, AUGUST_28, 152, 156, 148), 4);
+    let with_p = |p| verdict(table.view(), &[], &request(p, AUGUST_28, 152, 156, 148), 4);
     assert_eq!(
         with_p(AUGUST_28),
         Err(Refusal::TooFew { size: 0, reach: 0 })
@@ -249,7 +252,7 @@ fn equal_sums() {
         set_mark(&mut table, day, 1);
     }
     let chosen = |table: &Table| {
-        choose(table.view(), &request(6927, 6972, 152, 156, 148))
+        choose(table.view(), &[], &request(6927, 6972, 152, 156, 148))
             .unwrap()
             .days
     };
@@ -265,7 +268,7 @@ fn equal_sums() {
 fn the_day_before() {
     let monday = day(2024, 5, 6);
     let table = flat(monday - 60, monday, 1000);
-    let window = window(table.view(), &request(0, monday, 152, 156, 148));
+    let window = window(table.view(), &[], &request(0, monday, 152, 156, 148));
     assert_eq!(window, [monday - 1, monday - 2, monday - 3]);
 }
 
@@ -288,14 +291,14 @@ fn negative_adjustment() {
     let mut table = august(day(2024, 7, 1));
     set_day(&mut table, AUGUST_28, 700);
     let ask = request(8700, AUGUST_28, 152, 153, 148);
-    let answer = verdict(table.view(), &ask, 1).unwrap();
+    let answer = verdict(table.view(), &[], &ask, 1).unwrap();
     assert_eq!(answer.adjustment, -300 * 60);
     assert_eq!(answer.numerators, [700 * 60]);
     set_day(&mut table, AUGUST_28, 0);
     for date in [9, 12, 13, 14, 16, 19, 20, 21, 22, 26] {
         set_reading(&mut table, day(2024, 8, date), 56, 7);
     }
-    let answer = verdict(table.view(), &ask, 1).unwrap();
+    let answer = verdict(table.view(), &[], &ask, 1).unwrap();
     assert_eq!(answer.adjustment, -60_000);
     assert_eq!(answer.numerators, [0]);
 }
@@ -310,6 +313,6 @@ fn highest_numerator() {
         }
     }
     set_day(&mut table, d, HIGHEST);
-    let answer = verdict(table.view(), &request(0, d, 152, 192, 130), 40).unwrap();
+    let answer = verdict(table.view(), &[], &request(0, d, 152, 192, 130), 40).unwrap();
     assert_eq!(answer.numerators, [1_200_000_000; 40]);
 }

@@ -6,7 +6,9 @@ use common::{flat, set_day, set_mark, set_reading, worked_file, worked_table, WO
 use reference::listing::rounded;
 use reference::record::read;
 use reference::table::MISSING;
-use reference::writer::{day_record as dy, day_records, event_record as ev, head_record as pf};
+use reference::writer::{
+    day_record as dy, day_records, event_record as ev, head_record as pf, move_record as mv,
+};
 use reference::{gen_cuts, host, listing, Refusal, Table};
 
 fn days(table: &Table) -> Vec<u8> {
@@ -122,17 +124,18 @@ fn refused_files() {
     assert_eq!(listed(&twice), "file refused 8\n");
 }
 
-/// PF at 0, two DY at 8 and 398, two EV at 788 and 796, the end at 804.
+/// PF at 0, two MV at 8 and 14, two DY at 20 and 410, two EV at 800 and 808, the
+/// end at 816.
 #[test]
 fn every_cut() {
-    let starts = [0, 8, 398, 788, 796, 804];
+    let starts = [0, 8, 14, 20, 410, 800, 808, 816];
     for cut in gen_cuts() {
         let start = starts.iter().rev().find(|&&start| start <= cut.len());
         let whole = cut.len() > 7 && start == Some(&cut.len());
         let expected = (!whole).then(|| *start.unwrap() as u64);
         assert_eq!(refused_at(&cut), expected, "{}", cut.len());
     }
-    assert_eq!(gen_cuts().len(), 805);
+    assert_eq!(gen_cuts().len(), 817);
 }
 
 #[test]
@@ -147,6 +150,70 @@ fn most_days() {
     };
     assert_eq!(refused_at(&file(128)), None);
     assert_eq!(refused_at(&file(129)), Some(8 + 128 * 390));
+}
+
+/// "In a file a seventeenth `MV` is 11 at its start".
+#[test]
+fn most_moves() {
+    let file = |count| {
+        [
+            pf(0, 0),
+            mv(8887, 8893).repeat(count),
+            days(&flat(6951, 6951, 1)),
+            ev(6951, 96, 97, 12),
+        ]
+        .concat()
+    };
+    for count in [0, 1, 15, 16] {
+        assert_eq!(refused_at(&file(count)), None);
+        let contents = read(&file(count)).unwrap();
+        assert_eq!(contents.moves, [8887, 8893].repeat(count));
+    }
+    for count in [17, 18, 64] {
+        assert_eq!(refused_at(&file(count)), Some(8 + 16 * 6));
+    }
+}
+
+/// The file carries any two numbers; the call refuses them, 14 at each event.
+#[test]
+fn moves_of_a_file() {
+    let file =
+        |moves: &[u8], event: &[u8]| [&pf(6900, 77), moves, &days(&worked_table()), event].concat();
+    let ask = [ev(6972, 152, 156, 148), ev(6966, 152, 156, 148)].concat();
+    let head = "portfolio 77 from 6900 held 6951 22\n";
+    for bad in [
+        mv(65_535, 65_535),
+        mv(6941, 6951),
+        mv(6940, 36_525),
+        mv(36_525, 0),
+    ] {
+        assert_eq!(refused_at(&file(&bad, &ask)), None);
+        let expected = format!("{head}6972 152 156 refused 14\n6966 152 156 refused 14\n");
+        assert_eq!(listed(&file(&bad, &ask)), expected);
+        assert_eq!(listed(&file(&bad, &[])), head);
+    }
+    let nothing = file(&[mv(6940, 6940), mv(0, 36_524)].concat(), &ask);
+    assert_eq!(read(&nothing).unwrap().moves, [6940, 6940, 0, 36_524]);
+    assert_eq!(listed(&nothing), WORKED);
+    let moved = file(&mv(6940, 6965), &ask);
+    let quarters = [152, 153, 154, 155]
+        .map(|t| format!("{t} 24000 1000\n"))
+        .concat();
+    let expected = format!(
+        "{head}6972 152 156 refused 8 42\n\
+         6966 152 156 days 2 6965 6959 reach 14 over 24 adj -2400\n{quarters}"
+    );
+    assert_eq!(listed(&moved), expected);
+}
+
+/// With no DY the list stands there all the same, and 1 goes before 14.
+#[test]
+fn moves_and_no_days() {
+    for moves in [mv(8887, 8893), mv(8888, 8893)] {
+        let file = [pf(6900, 77), moves, ev(6972, 152, 156, 148)].concat();
+        let expected = "portfolio 77 from 6900 held 0 0\n6972 152 156 refused 1\n";
+        assert_eq!(listed(&file), expected);
+    }
 }
 
 #[test]
@@ -208,6 +275,16 @@ fn order_of_kinds() {
     assert_eq!(file(&[&head, &event, &day]), Some(16));
     assert_eq!(file(&[&head, &day, &event, &next]), Some(406));
     assert_eq!(file(&[&head, &day, &head]), Some(398));
+    let moved = mv(8887, 8893);
+    assert_eq!(file(&[&head, &moved, &moved, &day, &event]), None);
+    assert_eq!(file(&[&head, &moved, &event]), None);
+    assert_eq!(file(&[&head, &moved]), None);
+    assert_eq!(file(&[&moved, &head, &day, &event]), Some(0));
+    assert_eq!(file(&[&head, &day, &moved, &event]), Some(398));
+    assert_eq!(file(&[&head, &day, &moved, &next]), Some(398));
+    assert_eq!(file(&[&head, &moved, &day, &event, &moved]), Some(412));
+    assert_eq!(file(&[&head, &event, &moved]), Some(16));
+    assert_eq!(file(&[&head, &moved, &head]), Some(14));
 }
 
 #[test]

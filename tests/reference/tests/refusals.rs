@@ -1,4 +1,4 @@
-//! Refusals 1 to 10 on both sides of each line, and their order.
+//! Refusals 1 to 10 on both sides of each line, and their order, with no list.
 
 mod common;
 
@@ -22,7 +22,7 @@ fn held() -> Table {
 
 /// The refusal's number and what it carries, or 0.
 fn outcome(table: &Table, request: &Request, room: usize) -> (u32, Vec<u64>) {
-    match verdict(table.view(), request, room) {
+    match verdict(table.view(), &[], request, room) {
         Ok(_) => (0, vec![]),
         Err(refusal) => (refusal.number(), refusal.carries()),
     }

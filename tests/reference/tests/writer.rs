@@ -1,4 +1,4 @@
-//! The writer (02, order 1): both sides of each line of its refusals, their
+//! The writer (02, order 1, with order 2's list): both sides of each line of its refusals, their
 //! order, and that writing and reading undo each other.
 
 mod common;
@@ -9,8 +9,8 @@ use reference::table::{HIGHEST, MISSING};
 use reference::writer::{written, Reason, Values};
 use reference::{gen_file, gen_small_file, gen_writing, write, Table};
 
-/// Room for any file: 8 + 390·128 + 8·64.
-const ANY: usize = 50_440;
+/// Room for any file: 8 + 6·16 + 390·128 + 8·64.
+const ANY: usize = 50_536;
 const KEPT: u8 = 0xA5;
 
 /// What comes back. The rest of the output is kept, and what was written reads
@@ -47,8 +47,22 @@ fn values(table: Table, events: Vec<u32>) -> Values {
         p: 6900,
         portfolio: 77,
         table,
+        moves: vec![],
         events,
     }
+}
+
+/// One day and one event, with a list.
+fn with_moves(moves: Vec<u32>) -> Values {
+    Values {
+        moves,
+        ..values(held(6951, 1), events(1))
+    }
+}
+
+/// So many moves, which mean nothing.
+fn moves(count: usize) -> Vec<u32> {
+    [8888, 8893].repeat(count)
 }
 
 /// 01's worked case; include/honeyplank.h names its length.
@@ -76,17 +90,19 @@ fn every_byte() {
             marks: vec![0x09, 0x0A],
             readings: (0..192).map(|place| 0x7F6F_5F00 + place).collect(),
         },
+        moves: vec![0x1615, 0x1817, 0x1A19, 0x1C1B],
         events: vec![0x0C0B, 0x0D, 0x0E, 0x0F, 0x1110, 0x12, 0x13, 0x14],
     };
     let mut file = b"PF\x01\x02\x03\x04\x05\x06".to_vec();
+    file.extend(b"MV\x15\x16\x17\x18MV\x19\x1A\x1B\x1C");
     for (day, mark) in [(0xFE, 0x09), (0xFF, 0x0A)] {
         file.extend([b'D', b'Y', day, 0xFF, mark, 0]);
         let first = 96 * (day - 0xFE);
         file.extend((first..first + 96).flat_map(|place| [place, 0x5F, 0x6F, 0x7F]));
     }
     file.extend(b"EV\x0B\x0C\x0D\x0E\x0F\0EV\x10\x11\x12\x13\x14\0");
-    assert_eq!(given(&values, ANY), 804);
-    assert_eq!(written(&values, 804), Ok(file));
+    assert_eq!(given(&values, ANY), 816);
+    assert_eq!(written(&values, 816), Ok(file));
 }
 
 #[test]
@@ -137,6 +153,40 @@ fn four_numbers_for_each_event() {
         let fits = numbers % 4 == 0 && numbers <= 256;
         let length = 398 + 2 * numbers as i64;
         assert_eq!(with(numbers), if fits { length } else { -13 });
+    }
+}
+
+#[test]
+fn count_of_moves() {
+    let with = |count| given(&with_moves(moves(count)), ANY);
+    for count in 0..=16 {
+        assert_eq!(with(count), 406 + 6 * count as i64);
+    }
+    assert_eq!([17, 18, 64, 65_536].map(with), [-13; 4]);
+}
+
+#[test]
+fn two_numbers_for_each_move() {
+    for numbers in 0..=34 {
+        let given = given(&with_moves(moves(17)[..numbers].to_vec()), ANY);
+        let fits = numbers % 2 == 0 && numbers <= 32;
+        let length = 406 + 3 * numbers as i64;
+        assert_eq!(given, if fits { length } else { -13 });
+    }
+}
+
+/// Days past the calendar, days that are no holidays and repeated ones are
+/// carried; what two bytes can't hold is not.
+#[test]
+fn days_of_moves() {
+    for place in 0..4 {
+        let with = |number| {
+            let mut numbers = moves(2);
+            numbers[place] = number;
+            given(&with_moves(numbers), ANY)
+        };
+        assert_eq!([0, 36_524, 36_525, 65_535].map(with), [418; 4]);
+        assert_eq!([65_536, 65_537, 1 << 31, u32::MAX].map(with), [-13; 4]);
     }
 }
 
@@ -195,10 +245,13 @@ fn no_days() {
 
 #[test]
 fn room() {
-    for (h, count) in [(0, 0), (0, 1), (1, 0), (3, 1), (128, 64)] {
+    for (pairs, h, count) in [(0, 0, 0), (1, 0, 1), (0, 1, 0), (2, 3, 1), (16, 128, 64)] {
         let first = if h == 0 { 0 } else { 6951 };
-        let values = values(held(first, h), events(count));
-        let length = 8 + 390 * h + 8 * count;
+        let values = Values {
+            moves: moves(pairs),
+            ..values(held(first, h), events(count))
+        };
+        let length = 8 + 6 * pairs + 390 * h + 8 * count;
         assert_eq!(given(&values, length), length as i64);
         assert_eq!(given(&values, length + 1), length as i64);
         assert_eq!(given(&values, 2 * ANY), length as i64);
@@ -216,7 +269,11 @@ fn carried() {
             let mut table = flat(first, first + 127, MISSING - 1);
             table.marks = marks.collect();
             table.readings[0] = HIGHEST + 1;
-            assert_eq!(given(&values(table, events(64)), ANY), ANY as i64);
+            let values = Values {
+                moves: moves(16),
+                ..values(table, events(64))
+            };
+            assert_eq!(given(&values, ANY), ANY as i64);
         }
     }
 }
@@ -231,6 +288,10 @@ fn unwritable() -> Vec<(Reason, Values)> {
     vec![
         (Reason::Events, values(held(6951, 1), events(65))),
         (Reason::Fours, values(held(6951, 1), vec![6972, 152, 156])),
+        (Reason::Moves, with_moves(moves(17))),
+        (Reason::Twos, with_moves(vec![8887])),
+        (Reason::First, with_moves(vec![65_536, 0])),
+        (Reason::Second, with_moves(vec![0, 0, 0, 65_536])),
         (
             Reason::P,
             Values {
@@ -266,9 +327,10 @@ fn order() {
         p: 65_536,
         portfolio: 77,
         table: held(u32::MAX, 129),
+        moves: vec![65_536; 35],
         events: vec![65_536; 261],
     };
-    assert_eq!(every.reasons(), Reason::ALL[..8]);
+    assert_eq!(every.reasons(), Reason::ALL[..12]);
     assert_eq!(given(&every, 0), -1);
 }
 

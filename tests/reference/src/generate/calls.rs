@@ -1,38 +1,43 @@
-//! Generated calls: a table, a request and the room of the output.
+//! Generated calls: a table, a list of moves, a request and the room of the output.
 
+use super::moves::{both_ways, good_list, some_list};
 use super::source::Source;
-use crate::calendar::{holidays, LAST_DAY};
+use crate::calendar::{fixed_holidays, holidays, LAST_DAY};
 use crate::choice::{relevant_days, sizes};
 use crate::table::{Request, Table, EVENT, HIGHEST, MISSING, MOST_DAYS, OUTAGE, QUARTERS};
 
-/// A call in the making.
+/// A call, also one in the making.
+#[derive(Clone, PartialEq, Eq, Debug)]
 pub struct Draft {
     pub table: Table,
+    pub moves: Vec<u32>,
     pub request: Request,
     pub room: usize,
 }
 
 /// The call of a seed.
-pub fn gen_call(seed: u64) -> (Table, Request, usize) {
-    let mut source = Source::new(seed);
-    let draft = match source.below(16) {
-        0..=3 => plain(&mut source),
-        4 => feast(&mut source),
-        5 => start_edges(&mut source),
-        6 | 7 => ruler_edges(&mut source),
-        8..=10 => count_edges(&mut source),
-        11 => reading_edges(&mut source),
-        12 => shape_edges(&mut source),
-        13 => request_edges(&mut source),
-        14 => calendar_edges(&mut source),
-        _ => damaged(&mut source),
-    };
-    (draft.table, draft.request, draft.room)
+pub fn gen_call(seed: u64) -> Draft {
+    let source = &mut Source::new(seed);
+    let turn = source.below(16);
+    match turn {
+        _ if source.aside().once_in(12) => moved(source),
+        0..=3 => plain(source),
+        4 => feast(source),
+        5 => start_edges(source),
+        6 | 7 => ruler_edges(source),
+        8..=10 => count_edges(source),
+        11 => reading_edges(source),
+        12 => shape_edges(source),
+        13 => request_edges(source),
+        14 => calendar_edges(source),
+        _ => damaged(source),
+    }
 }
 
 /// A draft whose table has the right shape and whose request fits a record.
 pub fn well_shaped(source: &mut Source) -> Draft {
     match source.below(8) {
+        _ if source.aside().once_in(12) => moved(source),
         0 => plain(source),
         1 => feast(source),
         2 => start_edges(source),
@@ -84,8 +89,13 @@ fn plain(source: &mut Source) -> Draft {
 }
 
 /// A draft that holds `before` days before `d` and `after` days after it, or as
-/// many as there are from day 0 to day 36,524.
+/// many as there are from day 0 to day 36,524, with some list.
 fn around(source: &mut Source, d: u32, before: u32, after: u32) -> Draft {
+    let moves = some_list(&mut source.aside(), d);
+    around_with(source, moves, d, before, after)
+}
+
+fn around_with(source: &mut Source, moves: Vec<u32>, d: u32, before: u32, after: u32) -> Draft {
     let first = d.saturating_sub(before);
     let last = (d + after).min(LAST_DAY);
     let h = (last - first + 1) as usize;
@@ -96,6 +106,7 @@ fn around(source: &mut Source, d: u32, before: u32, after: u32) -> Draft {
             marks: likely_marks(source, h),
             readings: likely_readings(source, h),
         },
+        moves,
         room: likely_room(source, &request),
         request,
     };
@@ -113,6 +124,29 @@ fn feast(source: &mut Source) -> Draft {
     };
     let before = source.pick(&[30, 45, 46, 60]);
     around(source, d.min(LAST_DAY), before, 0)
+}
+
+/// An event at a fixed-date holiday or after it, with a list; all days eligible, or
+/// so few that the oldest relevant one shows.
+fn moved(source: &mut Source) -> Draft {
+    let holiday = match source.below(4) {
+        0 => source.pick(both_ways()),
+        _ => source.pick(fixed_holidays()),
+    };
+    let later = source.between(0, 46);
+    let later = source.pick(&[0, 1, 45, 46, later, later, later, later]);
+    let d = (holiday + later).min(LAST_DAY);
+    let before = source.pick(&[20, 44, 45, 46, 60]);
+    let moves = good_list(&mut source.aside(), d);
+    let mut draft = around_with(source, moves, d, before, 0);
+    let (y, n) = sizes(&draft.moves, d);
+    match source.below(4) {
+        0 => calm_days(source, &mut draft, y - 1, 1),
+        1 => calm_days(source, &mut draft, n, 0),
+        2 => calm_days(source, &mut draft, 0, 0),
+        _ => {}
+    }
+    draft
 }
 
 /// D at F and near it, P at D, one later, and around D-45.
@@ -163,7 +197,7 @@ fn count_edges(source: &mut Source) -> Draft {
         let before = source.pick(&[45, 46, 60]);
         draft = around(source, d, before, 0);
     }
-    let (y, n) = sizes(draft.request.d);
+    let (y, n) = sizes(&draft.moves, draft.request.d);
     let eligible = match source.below(6) {
         0 => y - 1,
         1 => y,
@@ -224,6 +258,7 @@ fn shape_edges(source: &mut Source) -> Draft {
             marks: likely_marks(source, h),
             readings,
         },
+        moves: some_list(&mut source.aside(), d),
         room: likely_room(source, &request),
         request,
     }
@@ -408,7 +443,7 @@ fn some_resting_day(source: &mut Source) -> u32 {
 /// Every relevant held day is spoilt, but for `eligible` eligible ones and
 /// `spare` spare ones; 0 and 0 makes all of them eligible.
 fn calm_days(source: &mut Source, draft: &mut Draft, eligible: usize, spare: usize) {
-    let mut days = relevant_days(&draft.request);
+    let mut days = relevant_days(&draft.moves, &draft.request);
     days.retain(|&day| day >= draft.table.first);
     shuffle(source, &mut days);
     let all = eligible + spare == 0;
@@ -462,7 +497,7 @@ fn spoil(source: &mut Source, table: &mut Table, day: u32) -> u8 {
 
 /// Moves the table's start, or P, near the oldest relevant day.
 fn cut_start(source: &mut Source, draft: &mut Draft) {
-    let days = relevant_days(&draft.request);
+    let days = relevant_days(&draft.moves, &draft.request);
     let Some(&oldest) = days.last() else { return };
     let some = source.pick(&days);
     match source.below(6) {

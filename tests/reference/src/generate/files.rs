@@ -1,10 +1,15 @@
 //! Generated record files, valid, at their edges, cut and damaged.
 
 use super::calls::{small, well_shaped, Draft};
+use super::moves::list_of;
 use super::source::Source;
 use crate::calendar::LAST_DAY;
+use crate::moves::MOST_MOVES;
+use crate::record::{DY_LENGTH, MV_LENGTH, PF_LENGTH};
 use crate::table::{Request, HIGHEST, MISSING};
-use crate::writer::{day_record, day_records, event_record, head_record, Record};
+use crate::writer::{
+    day_record, day_records, event_record, head_record, move_record, move_records, Record,
+};
 
 /// The file of a seed.
 pub fn gen_file(seed: u64) -> Vec<u8> {
@@ -27,7 +32,9 @@ pub fn gen_small_file(seed: u64) -> Vec<u8> {
 
 /// The bytes of a file, most often after one kind of edit.
 fn edited(source: &mut Source, mut file: Draw) -> Vec<u8> {
-    match source.below(18) {
+    let turn = source.below(18);
+    match turn {
+        _ if source.aside().once_in(12) => move_edits(source, &mut file),
         0..=3 => {}
         4 => head_edges(source, &mut file),
         5 => drop_kind(source, &mut file),
@@ -40,7 +47,7 @@ fn edited(source: &mut Source, mut file: Draw) -> Vec<u8> {
         12 => value_edges(source, &mut file),
         13 => event_edges(source, &mut file),
         6 => {}
-        14 => return cut(source, file.bytes()),
+        14 => return cut(source, file.moves.len(), file.bytes()),
         15 => return scatter(source, file.bytes()),
         16 => return extend(source, file.bytes()),
         _ => return any_bytes(source),
@@ -53,6 +60,7 @@ pub fn gen_cuts() -> Vec<Vec<u8>> {
     let source = &mut Source::new(1);
     let draft = well_shaped(source);
     let mut file = draft_file(source, draft);
+    file.moves = vec![move_record(8887, 8893), move_record(36_525, 65_535)];
     file.days = (0..2)
         .map(|day| day_record(6951 + day, 0, &[7; 96]))
         .collect();
@@ -67,6 +75,7 @@ pub fn gen_cuts() -> Vec<Vec<u8>> {
 /// A file in the making.
 struct Draw {
     head: Record,
+    moves: Vec<Record>,
     days: Vec<Record>,
     events: Vec<Record>,
 }
@@ -74,7 +83,15 @@ struct Draw {
 impl Draw {
     fn records(&self) -> Vec<Record> {
         let head = [self.head.clone()];
-        [&head[..], &self.days, &self.events].concat()
+        [&head[..], &self.moves, &self.days, &self.events].concat()
+    }
+
+    /// These instead, in this order.
+    fn replace(&mut self, records: Vec<Record>) {
+        self.head = records.concat();
+        self.moves.clear();
+        self.days.clear();
+        self.events.clear();
     }
 
     fn bytes(&self) -> Vec<u8> {
@@ -92,9 +109,16 @@ fn draft_file(source: &mut Source, draft: Draft) -> Draw {
     let portfolio = source.pick(&[0, 77, u32::MAX, portfolio]);
     Draw {
         head: head_record(draft.request.p as u16, portfolio),
+        moves: move_records(&held_in_two_bytes(&draft.moves)),
         days: day_records(&draft.table),
         events: draft_events(source, &draft),
     }
+}
+
+/// Higher days are the highest of two bytes.
+fn held_in_two_bytes(moves: &[u32]) -> Vec<u32> {
+    let highest = u32::from(u16::MAX);
+    moves.iter().map(|&day| day.min(highest)).collect()
 }
 
 fn draft_events(source: &mut Source, draft: &Draft) -> Vec<Record> {
@@ -117,6 +141,52 @@ fn head_edges(source: &mut Source, file: &mut Draw) {
     file.head = head_record(p, source.pick(&[0, 1, u32::MAX]));
 }
 
+/// What is done to the moves alone.
+fn move_edits(source: &mut Source, file: &mut Draw) {
+    match source.below(4) {
+        0 => move_count_edges(source, file),
+        1 | 2 => misplace_move(source, file),
+        _ => move_number_edges(source, file),
+    }
+}
+
+/// About 16 moves, such that the list is taken.
+fn move_count_edges(source: &mut Source, file: &mut Draw) {
+    let d = u16::from_le_bytes([file.events[0][2], file.events[0][3]]);
+    let count = source.pick(&[MOST_MOVES - 1, MOST_MOVES, MOST_MOVES + 1, MOST_MOVES + 2]);
+    file.moves = move_records(&list_of(source, u32::from(d), count));
+}
+
+/// A move before the PF, among the days, after them, or among the events, with
+/// those that stand in their place or without.
+fn misplace_move(source: &mut Source, file: &mut Draw) {
+    let first = source.pick(&[8887, 0]);
+    if source.once_in(2) {
+        file.moves.clear();
+    }
+    let days = 1 + file.moves.len();
+    let events = days + file.days.len();
+    let mut records = file.records();
+    let among_days = days + source.below(file.days.len() as u32) as usize;
+    let among_events = events + source.below(file.events.len() as u32) as usize;
+    let last = records.len();
+    let place = source.pick(&[0, days, among_days, events, among_events, last]);
+    records.insert(place, move_record(first, 8893));
+    file.replace(records);
+}
+
+/// A day of a move at the ends of the calendar and of two bytes.
+fn move_number_edges(source: &mut Source, file: &mut Draw) {
+    if file.moves.is_empty() {
+        file.moves.push(move_record(8887, 8893));
+    }
+    let place = source.below(file.moves.len() as u32) as usize;
+    let last = LAST_DAY as u16;
+    let day: u16 = source.pick(&[0, 1, last, last + 1, u16::MAX]);
+    let at = source.pick(&[2, 4]);
+    file.moves[place][at..at + 2].copy_from_slice(&day.to_le_bytes());
+}
+
 /// No DY, no EV, neither, or nothing at all.
 fn drop_kind(source: &mut Source, file: &mut Draw) {
     let kind = source.below(4);
@@ -128,6 +198,7 @@ fn drop_kind(source: &mut Source, file: &mut Draw) {
     }
     if kind == 3 {
         file.head.clear();
+        file.moves.clear();
     }
 }
 
@@ -172,15 +243,19 @@ fn misplace(source: &mut Source, file: &mut Draw) {
         1 => records.swap(from, to),
         _ => drop(records.remove(from)),
     }
-    file.head = records.concat();
-    file.days.clear();
-    file.events.clear();
+    file.replace(records);
 }
 
 /// One of the bytes that are laid down: a mark's or the zero.
 fn alter_fixed_byte(source: &mut Source, file: &mut Draw) {
     let byte = source.pick(&[0, 1, b'P', b'F', b'D', b'Y', b'E', b'V', 255]);
     let place = source.below(file.days.len() as u32) as usize;
+    if let Some(record) = file.moves.last_mut() {
+        if source.once_in(3) {
+            record[source.below(2) as usize] = source.pick(&[byte, b'M', b'm']);
+            return;
+        }
+    }
     match source.below(5) {
         0 => file.head[source.below(2) as usize] = byte,
         1 => file.days[place][source.below(2) as usize] = byte,
@@ -239,10 +314,11 @@ fn event_edges(source: &mut Source, file: &mut Draw) {
 }
 
 /// A file cut short, often at or next to a record's start.
-fn cut(source: &mut Source, mut bytes: Vec<u8>) -> Vec<u8> {
+fn cut(source: &mut Source, moves: usize, mut bytes: Vec<u8>) -> Vec<u8> {
     let anywhere = source.below(bytes.len() as u32 + 1) as usize;
-    let record = 8 + 390 * source.below(3) as usize + source.below(3) as usize;
-    let small = source.below(9) as usize;
+    let first_day = PF_LENGTH + MV_LENGTH * moves;
+    let record = first_day + DY_LENGTH * source.below(3) as usize + source.below(3) as usize;
+    let small = source.below(9 + (MV_LENGTH * moves) as u32) as usize;
     let near_end = bytes.len().saturating_sub(source.below(20) as usize);
     bytes.truncate(source.pick(&[anywhere, record - 1, small, near_end]));
     bytes
@@ -271,6 +347,8 @@ fn extend(source: &mut Source, mut bytes: Vec<u8>) -> Vec<u8> {
         b"EV\x38\x1b\x98\x9c\x94\x01",
         b"PF\x00\x00\x00\x00\x00\x00",
         b"DY",
+        b"MV",
+        b"MV\xb7\x22\xbd\x22",
         b"\n",
         b"\x00",
     ]);
@@ -282,7 +360,14 @@ fn extend(source: &mut Source, mut bytes: Vec<u8>) -> Vec<u8> {
 fn any_bytes(source: &mut Source) -> Vec<u8> {
     let length = source.pick(&[0, 1, 2, 7, 8, 9, 16, 398, 406, 1000]);
     let mut bytes: Vec<u8> = (0..length).map(|_| source.word() as u8).collect();
-    for (at, mark) in [(0, b"PF"), (8, b"DY"), (8, b"EV"), (398, b"EV")] {
+    for (at, mark) in [
+        (0, b"PF"),
+        (8, b"DY"),
+        (8, b"EV"),
+        (8, b"MV"),
+        (14, b"DY"),
+        (398, b"EV"),
+    ] {
         if at + 2 <= bytes.len() && source.once_in(2) {
             bytes[at..at + 2].copy_from_slice(mark);
         }

@@ -7,6 +7,11 @@ impl Source {
         Source(seed)
     }
 
+    /// Another source, which draws nothing from this one.
+    pub fn aside(&self) -> Source {
+        Source(self.0 ^ 0xA51D_E000_0000_0000)
+    }
+
     pub fn next(&mut self) -> u64 {
         self.0 = self.0.wrapping_add(0x9E37_79B9_7F4A_7C15);
         let mut z = self.0;

@@ -2,13 +2,18 @@
 
 use super::source::Source;
 use crate::calendar::LAST_DAY;
-use crate::record::{DY_LENGTH, EV_LENGTH, MOST_EVENTS, PF_LENGTH};
+use crate::moves::{MOST_MOVES, MOVE_NUMBERS};
+use crate::record::{DY_LENGTH, EV_LENGTH, MOST_EVENTS, MV_LENGTH, PF_LENGTH};
 use crate::table::{Table, HIGHEST, MISSING, MOST_DAYS, QUARTERS};
 use crate::writer::{Values, EVENT_NUMBERS};
 
 /// The highest number of two bytes, and of one.
 const TWO_BYTES: u32 = u16::MAX as u32;
 const ONE_BYTE: u32 = u8::MAX as u32;
+
+/// No file is longer.
+const MOST_FILE: usize =
+    PF_LENGTH + MV_LENGTH * MOST_MOVES + DY_LENGTH * MOST_DAYS + EV_LENGTH * MOST_EVENTS;
 
 /// The writing of a seed: values that a file can say, most often after some of
 /// them were moved to an edge or past it.
@@ -25,14 +30,20 @@ pub fn gen_writing(seed: u64) -> (Values, usize) {
 fn writable(source: &mut Source) -> Values {
     let h = some_size(source, MOST_DAYS);
     let events = some_size(source, MOST_EVENTS);
-    let (h, events) = match source.below(64) {
-        0 => (MOST_DAYS, MOST_EVENTS),
-        _ => (h, events),
+    let moves = source.aside().pick(&[0, 0, 0, 0, 1, 1, 2, MOST_MOVES]);
+    let (h, events, moves) = match source.below(64) {
+        0 => (
+            MOST_DAYS,
+            MOST_EVENTS,
+            source.aside().pick(&[moves, MOST_MOVES]),
+        ),
+        _ => (h, events, moves),
     };
     Values {
         p: source.between(0, TWO_BYTES),
         portfolio: source.word(),
         table: some_table(source, h),
+        moves: some_moves(&mut source.aside(), moves),
         events: some_events(source, events),
     }
 }
@@ -68,6 +79,13 @@ fn some_readings(source: &mut Source, h: usize) -> Vec<u32> {
     (0..QUARTERS * h).map(reading).collect()
 }
 
+/// Any two days that two bytes hold.
+fn some_moves(source: &mut Source, count: usize) -> Vec<u32> {
+    (0..MOVE_NUMBERS * count)
+        .map(|_| source.between(0, TWO_BYTES))
+        .collect()
+}
+
 fn some_events(source: &mut Source, count: usize) -> Vec<u32> {
     (0..EVENT_NUMBERS * count)
         .map(|place| source.between(0, highest_at(place)))
@@ -85,7 +103,7 @@ fn highest_at(place: usize) -> u32 {
 
 /// One of the values at an edge, on either side of it.
 fn to_edge(source: &mut Source, values: &mut Values) {
-    match source.below(12) {
+    match source.below(16) {
         0 => values.p = about(source, TWO_BYTES),
         1 | 2 => day_edges(source, &mut values.table),
         3..=6 => event_edges(source, &mut values.events),
@@ -99,6 +117,11 @@ fn to_edge(source: &mut Source, values: &mut Values) {
             values.table = some_table(source, h);
         }
         10 => reading_count_edges(source, &mut values.table),
+        11 => {
+            let count = source.pick(&[MOST_MOVES - 1, MOST_MOVES, MOST_MOVES + 1, MOST_MOVES + 1]);
+            values.moves = some_moves(source, count);
+        }
+        12..=14 => move_edges(source, &mut values.moves),
         _ => no_days(source, &mut values.table),
     }
 }
@@ -134,6 +157,19 @@ fn event_edges(source: &mut Source, events: &mut [u32]) {
     if !events.is_empty() {
         let place = source.below(events.len() as u32) as usize;
         events[place] = about(source, highest_at(place));
+    }
+}
+
+/// One day of a move, or now and then a number after the last.
+fn move_edges(source: &mut Source, moves: &mut Vec<u32>) {
+    if moves.is_empty() {
+        *moves = some_moves(source, 1);
+    }
+    let any = source.below(moves.len() as u32) as usize;
+    let place = source.pick(&[0, any, moves.len() - 1]);
+    match source.below(6) {
+        0 => moves.push(source.pick(&[1, LAST_DAY, TWO_BYTES])),
+        _ => moves[place] = about(source, TWO_BYTES),
     }
 }
 
@@ -173,7 +209,7 @@ fn no_days(source: &mut Source, table: &mut Table) {
 /// or enough for any file.
 fn some_room(source: &mut Source, need: usize) -> usize {
     let any = source.below(need as u32) as usize;
-    let record = source.pick(&[PF_LENGTH, DY_LENGTH]);
+    let record = source.pick(&[PF_LENGTH, MV_LENGTH, DY_LENGTH]);
     match source.below(16) {
         0 | 1 => need - 1,
         2 => need.saturating_sub(record),
@@ -181,7 +217,7 @@ fn some_room(source: &mut Source, need: usize) -> usize {
         4 => 0,
         5 => need + 1,
         6 => need + source.between(2, 500) as usize,
-        7 => PF_LENGTH + DY_LENGTH * MOST_DAYS + EV_LENGTH * MOST_EVENTS,
+        7 => MOST_FILE,
         _ => need,
     }
 }
