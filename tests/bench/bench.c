@@ -4,7 +4,7 @@
  * kW, are also written to DIR/largest.rec and DIR/high.rec, for the listing programs.
  * bench DIR once: each case once in each way, whose names its line has, between call_begins and call_ends, for an emulator to count instructions.
  * Compiled with BEFORE it also measures the entries of an earlier archive, in which every name that it exports begins with before_; with
- * BEFORE_WRITES its writer too. */
+ * BEFORE_WRITES its writer too. With BEFORE_MOVES they are those of this header; otherwise they take no list of moves, and have no case with one. */
 #define _POSIX_C_SOURCE 200809L
 #include <stdio.h>
 #include <stdlib.h>
@@ -14,30 +14,47 @@
 #include "../c/record.h"
 #include "../reference/c/file.h"
 
-enum { ROUNDS = 41, CALLS = 500, EVENT_DAY = 9006 };
+enum { ROUNDS = 41, CALLS = 500, AUGUST_15 = 8993, EVENT_DAY = 9006 };
 
 /* The entries of an archive, as honeyplank.h declares them. */
 typedef uint32_t baseline_entry(const uint8_t *file, size_t length, size_t place, uint8_t *out, size_t room);
 typedef int64_t told_entry(const uint8_t *file, size_t length, size_t place, uint32_t name);
-typedef uint32_t baseline_table_entry(uint32_t first, const uint8_t *marks, size_t days, const uint32_t *readings, size_t count, uint32_t p,
-                                      uint32_t d, uint32_t s, uint32_t e, uint32_t n, uint32_t *out, size_t room);
-typedef int64_t told_table_entry(uint32_t first, const uint8_t *marks, size_t days, const uint32_t *readings, size_t count, uint32_t p,
-                                 uint32_t d, uint32_t s, uint32_t e, uint32_t n, uint32_t name);
+typedef uint32_t baseline_table_entry(uint32_t first, const uint8_t *marks, size_t days, const uint32_t *readings, size_t count,
+                                      const uint32_t *moves, size_t moved, uint32_t p, uint32_t d, uint32_t s, uint32_t e, uint32_t n,
+                                      uint32_t *out, size_t room);
+typedef int64_t told_table_entry(uint32_t first, const uint8_t *marks, size_t days, const uint32_t *readings, size_t count, const uint32_t *moves,
+                                 size_t moved, uint32_t p, uint32_t d, uint32_t s, uint32_t e, uint32_t n, uint32_t name);
 typedef int64_t write_entry(uint32_t p, uint32_t portfolio, uint32_t first, const uint8_t *marks, size_t days, const uint32_t *readings, size_t count,
-                            const uint32_t *events, size_t numbers, uint8_t *out, size_t room);
+                            const uint32_t *moves, size_t moved, const uint32_t *events, size_t numbers, uint8_t *out, size_t room);
+
+/* Those that take no list of moves, as they were declared up to version 0.4.0. */
+typedef uint32_t unlisted_baseline_table_entry(uint32_t first, const uint8_t *marks, size_t days, const uint32_t *readings, size_t count, uint32_t p,
+                                               uint32_t d, uint32_t s, uint32_t e, uint32_t n, uint32_t *out, size_t room);
+typedef int64_t unlisted_told_table_entry(uint32_t first, const uint8_t *marks, size_t days, const uint32_t *readings, size_t count, uint32_t p,
+                                          uint32_t d, uint32_t s, uint32_t e, uint32_t n, uint32_t name);
+typedef int64_t unlisted_write_entry(uint32_t p, uint32_t portfolio, uint32_t first, const uint8_t *marks, size_t days, const uint32_t *readings,
+                                     size_t count, const uint32_t *events, size_t numbers, uint8_t *out, size_t room);
+
+struct unlisted {
+    unlisted_baseline_table_entry *baseline_table;
+    unlisted_told_table_entry *told_table;
+    unlisted_write_entry *write; /* NULL where an earlier archive has none */
+};
 
 struct archive {
     baseline_entry *baseline;
     told_entry *told;
     baseline_table_entry *baseline_table;
     told_table_entry *told_table;
-    write_entry *write; /* NULL where an earlier archive has none */
+    write_entry *write;
+    const struct unlisted *unlisted; /* in place of the three above, or NULL */
 };
 
 /* The same in plain C, where an answer tells everything. */
 typedef uint32_t plain_entry(const uint8_t *file, size_t length, size_t place, uint8_t *out, size_t room, struct plain_answer *answer);
-typedef uint32_t plain_table_entry(uint32_t first, const uint8_t *marks, size_t days, const uint32_t *readings, size_t count, uint32_t p,
-                                   uint32_t d, uint32_t s, uint32_t e, uint32_t n, uint32_t *out, size_t room, struct plain_answer *answer);
+typedef uint32_t plain_table_entry(uint32_t first, const uint8_t *marks, size_t days, const uint32_t *readings, size_t count, const uint32_t *moves,
+                                   size_t moved, uint32_t p, uint32_t d, uint32_t s, uint32_t e, uint32_t n, uint32_t *out, size_t room,
+                                   struct plain_answer *answer);
 
 struct plain {
     plain_entry *baseline;
@@ -49,22 +66,31 @@ plain_entry plain_host_gcc, plain_host_clang;
 plain_table_entry plain_baseline_gcc, plain_baseline_clang;
 write_entry plain_write_gcc, plain_write_clang;
 
-static const struct archive proved = {hp_baseline, hp_told, hp_baseline_table, hp_told_table, hp_write};
+static const struct archive proved = {hp_baseline, hp_told, hp_baseline_table, hp_told_table, hp_write, NULL};
 static const struct plain gcc = {plain_host_gcc, plain_baseline_gcc, plain_write_gcc};
 static const struct plain clang = {plain_host_clang, plain_baseline_clang, plain_write_clang};
 
 #ifdef BEFORE
 baseline_entry before_hp_baseline;
 told_entry before_hp_told;
+#ifdef BEFORE_MOVES
 baseline_table_entry before_hp_baseline_table;
 told_table_entry before_hp_told_table;
-#ifdef BEFORE_WRITES
 write_entry before_hp_write;
+
+static const struct archive before = {before_hp_baseline, before_hp_told, before_hp_baseline_table, before_hp_told_table, before_hp_write, NULL};
+#else
+unlisted_baseline_table_entry before_hp_baseline_table;
+unlisted_told_table_entry before_hp_told_table;
+#ifdef BEFORE_WRITES
+unlisted_write_entry before_hp_write;
 #else
 #define before_hp_write NULL
 #endif
 
-static const struct archive before = {before_hp_baseline, before_hp_told, before_hp_baseline_table, before_hp_told_table, before_hp_write};
+static const struct unlisted before_unlisted = {before_hp_baseline_table, before_hp_told_table, before_hp_write};
+static const struct archive before = {before_hp_baseline, before_hp_told, NULL, NULL, NULL, &before_unlisted};
+#endif
 #endif
 
 /* The ways that are measured, each by an archive, by plain C or, of writing, by a copy. The first is compared with each of the others. */
@@ -91,6 +117,7 @@ static struct record_file file;
 static size_t place;
 static uint8_t marks[128];
 static uint32_t readings[128 * QUARTERS], days, s, e;
+static uint32_t list[2 * HP_MOST_MOVES], moved; /* the moves, and how many numbers they are */
 static uint32_t events[4 * HP_MOST_EVENTS], numbers; /* those of the file */
 static uint8_t out[HP_MOST_BYTES], written[HP_MOST_FILE];
 static uint32_t numerators[QUARTERS];
@@ -117,39 +144,53 @@ static uint32_t call_told(const struct way *way)
 
 static uint32_t call_table(const struct way *way)
 {
-    uint32_t first = EVENT_DAY + 1 - days;
+    const struct archive *archive = way->archive;
+    const uint32_t first = EVENT_DAY + 1 - days, *moves = moved ? list : NULL;
     size_t count = days * QUARTERS;
-    if (way->archive)
-        return way->archive->baseline_table(first, marks, days, readings, count, 8000, EVENT_DAY, s, e, s - 4, numerators, QUARTERS);
-    return way->plain->baseline_table(first, marks, days, readings, count, 8000, EVENT_DAY, s, e, s - 4, numerators, QUARTERS, &answer);
+    if (archive && archive->unlisted)
+        return archive->unlisted->baseline_table(first, marks, days, readings, count, 8000, EVENT_DAY, s, e, s - 4, numerators, QUARTERS);
+    if (archive)
+        return archive->baseline_table(first, marks, days, readings, count, moves, moved, 8000, EVENT_DAY, s, e, s - 4, numerators, QUARTERS);
+    return way->plain->baseline_table(first, marks, days, readings, count, moves, moved, 8000, EVENT_DAY, s, e, s - 4, numerators, QUARTERS, &answer);
 }
 
 /* The reach. */
 static uint32_t call_told_table(const struct way *way)
 {
-    uint32_t first = EVENT_DAY + 1 - days;
+    const struct archive *archive = way->archive;
+    const uint32_t first = EVENT_DAY + 1 - days, *moves = moved ? list : NULL;
     size_t count = days * QUARTERS;
-    if (way->archive)
-        return (uint32_t)way->archive->told_table(first, marks, days, readings, count, 8000, EVENT_DAY, s, e, s - 4, HP_REACH);
+    if (archive && archive->unlisted)
+        return (uint32_t)archive->unlisted->told_table(first, marks, days, readings, count, 8000, EVENT_DAY, s, e, s - 4, HP_REACH);
+    if (archive)
+        return (uint32_t)archive->told_table(first, marks, days, readings, count, moves, moved, 8000, EVENT_DAY, s, e, s - 4, HP_REACH);
     call_table(way);
     return answer.reach;
 }
 
-/* Writes the table and the events, which are those of the file. */
+/* Writes the moves, the table and the events, which are those of the file. */
 static uint32_t call_write(const struct way *way)
 {
+    const struct unlisted *unlisted = way->archive ? way->archive->unlisted : NULL;
     write_entry *entry = way->archive ? way->archive->write : way->plain ? way->plain->write : NULL;
+    const uint32_t first = EVENT_DAY + 1 - days, *moves = moved ? list : NULL;
+    size_t count = days * QUARTERS;
+    if (unlisted)
+        return (uint32_t)unlisted->write(8000, 77, first, marks, days, readings, count, events, numbers, written, sizeof written);
     if (entry)
-        return (uint32_t)entry(8000, 77, EVENT_DAY + 1 - days, marks, days, readings, days * QUARTERS, events, numbers, written, sizeof written);
+        return (uint32_t)entry(8000, 77, first, marks, days, readings, count, moves, moved, events, numbers, written, sizeof written);
     memcpy(written, file.bytes, file.length);
     return (uint32_t)file.length;
 }
 
-/* Whether a way has a case: an earlier archive may have no writer, and a copy does nothing but write. */
+/* Whether a way has a case: an earlier archive may take no moves and may have no writer, and a copy does nothing but write. */
 static int has_case(const struct way *way, case_call *call)
 {
+    const struct unlisted *unlisted = way->archive ? way->archive->unlisted : NULL;
+    if (unlisted && (call == call_file || call == call_told ? file.moves : moved) > 0)
+        return 0;
     if (call == call_write)
-        return !way->archive || way->archive->write;
+        return !unlisted || unlisted->write;
     return way->archive || way->plain;
 }
 
@@ -280,10 +321,25 @@ static uint8_t mark(uint32_t day)
     return day % 9 == 4;
 }
 
+/* 16 moves: this one, and 15 of holidays long before it. */
+static void set_moves(uint32_t from, uint32_t to)
+{
+    uint32_t i;
+    for (i = 0; i < HP_MOST_MOVES; i++) {
+        list[2 * i] = far_holiday(i);
+        list[2 * i + 1] = far_holiday(i) + 3;
+    }
+    list[2 * HP_MOST_MOVES - 2] = from;
+    list[2 * HP_MOST_MOVES - 1] = to;
+    moved = 2 * HP_MOST_MOVES;
+}
+
 static void put_days(uint32_t h)
 {
     uint32_t day, i;
     put_head(&file, 8000, 77);
+    for (i = 0; i < moved; i += 2)
+        put_move(&file, list[i], list[i + 1]);
     for (day = 0; day < h; day++) {
         put_day(&file, EVENT_DAY + 1 - h + day, mark(day), 0);
         for (i = 0; i < QUARTERS; i++)
@@ -400,6 +456,30 @@ static void writing(void)
     report("write b. 31 days, one event", call_write);
 }
 
+/* Each with 16 moves. 15 August 2024 is a Thursday before the event, 20 August a Tuesday; an event day that replaces a holiday is in the holiday
+ * group. */
+static void with_moves(void)
+{
+    const uint32_t far = far_holiday(HP_MOST_MOVES - 1);
+    fill_table(128);
+    set_moves(far, far + 3);
+    report("table h. 128 days, 16 moves of other years", call_table);
+    set_moves(AUGUST_15, EVENT_DAY - 8);
+    report("table i. 128 days, 16 moves, 15 August's to 20 August", call_table);
+    set_moves(far, EVENT_DAY);
+    report("table j. 128 days, 16 moves, one to the event day", call_table);
+    fill_table(46);
+    set_moves(AUGUST_15, EVENT_DAY - 8);
+    report("table k. 46 days, 16 moves, 15 August's to 20 August", call_table);
+    fill_table(128);
+    set_moves(AUGUST_15, EVENT_DAY - 8);
+    put_largest();
+    report("file l. 128 days, 16 moves, 64 events, the first", call_file);
+    report("write c. 128 days, 16 moves, 64 events", call_write);
+    put_one_event(46);
+    report("file m. 46 days, 16 moves, one event", call_file);
+}
+
 static void write_largest(const char *directory, const char *name)
 {
     char path[4096];
@@ -427,5 +507,6 @@ int main(int argc, char **argv)
     files();
     tables();
     writing();
+    with_moves();
     return 0;
 }

@@ -16,11 +16,12 @@ static struct values values; /* those of the file */
 static ucontext_t home, away;
 static size_t place, listing_room;
 
-/* A file as large as there is: 128 days of about this load, each a thousandth higher, and 64 events, the last one over all of its day. */
+/* A file as large as there is: 16 moves, 128 days of about this load, each a thousandth higher, and 64 events, the last one over all of its day. */
 static void put_largest(struct record_file *largest, uint32_t load)
 {
     uint32_t i;
     put_head(largest, 0, 1);
+    put_far_moves(largest, HP_MOST_MOVES);
     for (i = 0; i < 128; i++)
         put_day(largest, 8879 + i, 0, load + load / 1000 * i);
     for (i = 0; i < 63; i++)
@@ -33,9 +34,10 @@ static void call_all(void)
 {
     static uint8_t out[HP_MOST_BYTES], written[HP_MOST_FILE], marks[128];
     static uint32_t readings[128 * QUARTERS], numerators[QUARTERS];
+    const uint32_t *moves = values.moves;
     uint32_t name;
     hp_baseline(file.bytes, file.length, place, out, sizeof out);
-    hp_baseline_table(8879, marks, 128, readings, 128 * QUARTERS, 0, 9006, 96, 192, 96, numerators, QUARTERS);
+    hp_baseline_table(8879, marks, 128, readings, 128 * QUARTERS, moves, values.moved, 0, 9006, 96, 192, 96, numerators, QUARTERS);
     hp_day_part(8879, marks, 128, readings, 128 * QUARTERS, 9006);
     write_values(&values, written, sizeof written);
     hp_day(2024, 8, 28);
@@ -43,9 +45,10 @@ static void call_all(void)
     hp_version();
     for (name = 0; name <= LAST_NAME; name++) {
         hp_told(file.bytes, file.length, place, name);
-        hp_told_table(8879, marks, 128, readings, 128 * QUARTERS, 0, 9006, 96, 192, 96, name);
+        hp_told_table(8879, marks, 128, readings, 128 * QUARTERS, moves, values.moved, 0, 9006, 96, 192, 96, name);
         hp_file(file.bytes, file.length, name);
         hp_event(file.bytes, file.length, place, name);
+        hp_move(file.bytes, file.length, place, name);
     }
 }
 
@@ -82,6 +85,7 @@ static void check_stack(void)
     static const size_t rooms[] = {0, HP_MOST_LISTING - 1, HP_MOST_LISTING};
     size_t all = 0, listing = 0, i;
     put_largest(&file, 1000);
+    CHECK(file.length == HP_MOST_FILE);
     take_values(&values, &file);
     for (place = 0; place < PLACES; place++)
         all = deeper(all, depth(call_all));

@@ -45,10 +45,10 @@ static void no_dates(void)
 /* Each result has a sentence of its own, and every other number the one that says so. */
 static void texts(void)
 {
-    static const uint32_t others[] = {14, 255, 256, 65536 + 8, UINT32_MAX};
+    static const uint32_t others[] = {15, 255, 256, 65536 + 8, UINT32_MAX};
     static const char none[] = "No result has this number.";
     uint32_t i, j;
-    for (i = 0; i <= HP_UNWRITABLE; i++) {
+    for (i = 0; i <= HP_BAD_MOVES; i++) {
         const char *text = hp_refusal_text(i);
         CHECK(strlen(text) > 10 && text[strlen(text) - 1] == '.' && strchr(text, '.') == text + strlen(text) - 1);
         CHECK(strcmp(text, none) != 0);

@@ -1,4 +1,4 @@
-/* The entries over a record file: the worked case, each refusal, the listing, and every buffer between guards. */
+/* The entries over a record file: the worked case, each refusal, its moves, the listing, and every buffer between guards. */
 #include <inttypes.h>
 
 #include "check.h"
@@ -52,18 +52,32 @@ static void expect_event(int line, size_t place, struct told due)
     give_back(&in);
 }
 
-#define FILE_HOLDS(p, portfolio, first, days, events) expect_file(__LINE__, held(p, portfolio, first, days, events))
+static void expect_move(int line, size_t place, struct told due)
+{
+    struct lent in = lend_copy(file.bytes, file.length, at_end);
+    int before = failures;
+    check_move(in.bytes, in.length, place, &due);
+    if (failures != before)
+        printf("  of the move of line %d\n", line);
+    give_back(&in);
+}
+
+#define FILE_HOLDS(p, portfolio, moves, first, days, events) expect_file(__LINE__, held(p, portfolio, moves, first, days, events))
 #define EVENT_IS(place, d, s, e, n) expect_event(__LINE__, place, event_of(d, s, e, n))
+#define MOVE_IS(place, from, to) expect_move(__LINE__, place, move_of(from, to))
+#define NO_MOVE(place) MOVE_IS(place, NONE, NONE)
 #define FILE_REFUSED(offset) expect_file(__LINE__, told_refusal(HP_BAD_FILE, offset, NONE))
 #define EVENT_REFUSED(place, number, first) expect_event(__LINE__, place, told_refusal(number, first, NONE))
+#define MOVE_REFUSED(place, offset) expect_move(__LINE__, place, told_refusal(HP_BAD_FILE, offset, NONE))
 
 static void worked_case(void)
 {
     uint8_t out[HP_MOST_BYTES];
     put_worked(&file);
-    FILE_HOLDS(6900, 77, 6951, 22, 2);
+    FILE_HOLDS(6900, 77, 0, 6951, 22, 2);
     EVENT_IS(0, 6972, 152, 156, 148);
     EVENT_IS(1, 6966, 152, 156, 148);
+    NO_MOVE(0);
     ANSWERED(0, 16, worked_answer());
     ANSWERED(0, 17, worked_answer());
     ANSWERED(0, HP_MOST_BYTES, worked_answer());
@@ -73,7 +87,7 @@ static void worked_case(void)
     CHECK(hp_told(file.bytes + 1, file.length, 0, HP_ADJUSTMENT) == 264);
 }
 
-/* Places where the worked file has no event; the last two are 0 and 1 to a narrower number. */
+/* Places where the worked file has no event, and two moves before its days no third; the last two are 0 and 1 to a narrower number. */
 static void far_places(void)
 {
     static const size_t far[] = {2, SIZE_MAX, (size_t)1 << 32, ((size_t)1 << 32) + 1};
@@ -83,20 +97,30 @@ static void far_places(void)
         REFUSED(far[i], 16, HP_NO_EVENT, NONE, NONE);
         REFUSED(far[i], 0, HP_NO_EVENT, NONE, NONE);
         EVENT_REFUSED(far[i], HP_NO_EVENT, NONE);
+        NO_MOVE(far[i]);
     }
+    put_head(&file, 6900, 77);
+    put_far_moves(&file, 2);
+    put_worked_days(&file);
+    for (i = 0; i < sizeof far / sizeof far[0]; i++)
+        NO_MOVE(far[i]);
 }
 
 /* Numbers at their ends, as they stand in a file. */
 static void highest_numbers(void)
 {
     put_head(&file, 65535, UINT32_MAX);
+    put_move(&file, 65535, 0);
+    put_move(&file, 0, 65535);
     put_day(&file, 65535, 255, HP_MISSING);
     put_event(&file, 65535, 255, 255, 255);
-    FILE_HOLDS(65535, 4294967295, 65535, 1, 1);
+    FILE_HOLDS(65535, 4294967295, 2, 65535, 1, 1);
+    MOVE_IS(0, 65535, 0);
+    MOVE_IS(1, 0, 65535);
     EVENT_IS(0, 65535, 255, 255, 255);
     put_head(&file, 0, 0);
     put_event(&file, 0, 0, 0, 0);
-    FILE_HOLDS(0, 0, 0, 0, 1);
+    FILE_HOLDS(0, 0, 0, 0, 0, 1);
     EVENT_IS(0, 0, 0, 0, 0);
 }
 
@@ -105,7 +129,7 @@ static void refused_tables(void)
 {
     put_head(&file, 6900, 77);
     put_event(&file, 6972, 152, 156, 148);
-    FILE_HOLDS(6900, 77, 0, 0, 1);
+    FILE_HOLDS(6900, 77, 0, 0, 0, 1);
     REFUSED(0, 16, HP_BAD_TABLE, NONE, NONE);
     REFUSED(0, 0, HP_BAD_TABLE, NONE, NONE);
     put_head(&file, 36524, 77);
@@ -204,6 +228,126 @@ static void refused_choices(void)
     ANSWERED(0, 16, later_window);
 }
 
+/* So many moves before the days of the worked case, and its first event. */
+static void put_moved(uint32_t moves)
+{
+    put_head(&file, 6900, 77);
+    put_far_moves(&file, moves);
+    put_worked_days(&file);
+    put_event(&file, 6972, 152, 156, 148);
+}
+
+/* Up to 16 moves are taken, whatever follows them; a seventeenth is refused where it starts. */
+static void most_moves(void)
+{
+    uint32_t moves, i;
+    for (moves = 0; moves <= HP_MOST_MOVES; moves++) {
+        put_moved(moves);
+        FILE_HOLDS(6900, 77, moves, 6951, 22, 1);
+        for (i = 0; i < moves; i++)
+            MOVE_IS(i, far_holiday(i), far_holiday(i) + 3);
+        NO_MOVE(moves);
+        EVENT_IS(0, 6972, 152, 156, 148);
+        ANSWERED(0, 16, worked_answer());
+        put_head(&file, 6900, 77);
+        put_far_moves(&file, moves);
+        FILE_HOLDS(6900, 77, moves, 0, 0, 0);
+        put_event(&file, 6972, 152, 156, 148);
+        FILE_HOLDS(6900, 77, moves, 0, 0, 1);
+        REFUSED(0, 16, HP_BAD_TABLE, NONE, NONE);
+    }
+    put_moved(HP_MOST_MOVES + 1);
+    REFUSED(0, 16, HP_BAD_FILE, 8 + 16 * MOVE_BYTES, NONE);
+    FILE_REFUSED(8 + 16 * MOVE_BYTES);
+    MOVE_REFUSED(0, 8 + 16 * MOVE_BYTES);
+    put_head(&file, 6900, 77);
+    put_far_moves(&file, HP_MOST_MOVES + 1);
+    FILE_REFUSED(8 + 16 * MOVE_BYTES);
+}
+
+/* The file ends in a move that is refused at this offset, also where one stands before the first day. */
+static void expect_misplaced(int64_t offset)
+{
+    put_move(&file, 8887, 8893);
+    REFUSED(0, 16, HP_BAD_FILE, offset, NONE);
+    FILE_REFUSED(offset);
+    EVENT_REFUSED(0, HP_BAD_FILE, offset);
+    MOVE_REFUSED(0, offset);
+    MOVE_REFUSED(SIZE_MAX, offset);
+}
+
+/* 11: moves after a day or an event, or before PF. */
+static void misplaced_moves(void)
+{
+    put_head(&file, 6900, 77);
+    put_day(&file, 6951, 0, 7);
+    expect_misplaced(8 + DAY_BYTES);
+    put_day(&file, 6952, 0, 7);
+    FILE_REFUSED(8 + DAY_BYTES);
+    put_head(&file, 6900, 77);
+    put_event(&file, 6951, 152, 156, 148);
+    expect_misplaced(8 + EVENT_BYTES);
+    put_moved(1);
+    expect_misplaced(8 + MOVE_BYTES + 22 * DAY_BYTES + EVENT_BYTES);
+    file.length = 0;
+    put_move(&file, 8887, 8893);
+    put(&file, 0, 2);
+    FILE_REFUSED(0);
+    MOVE_REFUSED(0, 0);
+}
+
+/* 14: what the moves say is carried by any file, and refused at each event: after 1, 2 and 3, and before 4. */
+static void refused_moves(void)
+{
+    static const uint32_t bad[][4] = {{8888, 8893, 8887, 8893}, {8887, 8893, 8887, 8894}, {8887, 36525, 121, 122}, {121, 122, 36525, 0}};
+    size_t i;
+    for (i = 0; i < sizeof bad / sizeof bad[0]; i++) {
+        put_head(&file, 6900, 77);
+        put_move(&file, bad[i][0], bad[i][1]);
+        put_move(&file, bad[i][2], bad[i][3]);
+        put_event(&file, 6972, 152, 156, 148);
+        REFUSED(0, 16, HP_BAD_TABLE, NONE, NONE);
+        file.length -= EVENT_BYTES;
+        put_worked_days(&file);
+        put_event(&file, 6972, 152, 156, 148);
+        put_event(&file, 6973, 95, 156, 200);
+        FILE_HOLDS(6900, 77, 2, 6951, 22, 2);
+        MOVE_IS(0, bad[i][0], bad[i][1]);
+        MOVE_IS(1, bad[i][2], bad[i][3]);
+        EVENT_IS(1, 6973, 95, 156, 200);
+        REFUSED(0, 16, HP_BAD_MOVES, NONE, NONE);
+        REFUSED(1, 0, HP_BAD_MOVES, NONE, NONE);
+        REFUSED(2, 0, HP_NO_EVENT, NONE, NONE);
+        set_reading(&file, 2111, HP_HIGHEST + 1);
+        REFUSED(0, 16, HP_BAD_READING, 2111, NONE);
+        file.bytes[reading_at(2, 0) - 2] = 4;
+        REFUSED(0, 16, HP_BAD_MARK, 0, NONE);
+    }
+}
+
+/* 1 May 2024 (8887) moved to 7 May (8893): events of both, of Easter Sunday (8891) and of Thursday 9 May, over days of 1000 kW. */
+static void labour_day(void)
+{
+    static const uint32_t events[] = {8887, 8893, 8891, 8895};
+    static const uint32_t without[][5] = {{8884, 8877}, {8888, 8886, 8885, 8882, 8881}, {8890, 8889}, {8893, 8888, 8886, 8885, 8882}};
+    static const uint32_t with[][5] = {{8885, 8882, 8881, 8880, 8879}, {8892, 8891}, {8890, 8889}, {8888, 8887, 8886, 8885, 8882}};
+    static const int64_t reach[2][4] = {{17, 19, 4, 20}, {15, 3, 7, 20}};
+    uint32_t moves, day, i;
+    for (moves = 0; moves < 2; moves++) {
+        put_head(&file, 0, 1);
+        if (moves)
+            put_move(&file, 8887, 8893);
+        for (day = 8840; day <= 8895; day++)
+            put_day(&file, day, 0, 1000);
+        for (i = 0; i < 4; i++)
+            put_event(&file, events[i], 152, 156, 148);
+        for (i = 0; i < 4; i++) {
+            const uint32_t *days = moves ? with[i] : without[i], count = days[2] ? 5 : 2;
+            ANSWERED(i, 16, answered(days, count, reach[moves][i], 0, 4, 12000 * count));
+        }
+    }
+}
+
 /* 11 and 12: the file. */
 static void refused_files(void)
 {
@@ -214,42 +358,49 @@ static void refused_files(void)
     REFUSED(9, 16, HP_BAD_FILE, 8596, NONE);
     FILE_REFUSED(8596);
     EVENT_REFUSED(0, HP_BAD_FILE, 8596);
+    MOVE_REFUSED(0, 8596);
     file.length = 0;
     REFUSED(0, 16, HP_BAD_FILE, 0, NONE);
     FILE_REFUSED(0);
     EVENT_REFUSED(SIZE_MAX, HP_BAD_FILE, 0);
+    MOVE_REFUSED(SIZE_MAX, 0);
     put_head(&file, 0, 0);
     for (i = 0; i < 65; i++)
         put_event(&file, 0, 96, 97, 0);
     REFUSED(0, 4, HP_BAD_FILE, 8 + 64 * EVENT_BYTES, NONE);
     file.length -= EVENT_BYTES;
-    FILE_HOLDS(0, 0, 0, 0, 64);
+    FILE_HOLDS(0, 0, 0, 0, 0, 64);
     REFUSED(63, 4, HP_BAD_TABLE, NONE, NONE);
     REFUSED(64, 4, HP_NO_EVENT, NONE, NONE);
 }
 
-/* A file cut at every length. */
-static void cut_files(void)
+/* A file with so many moves, cut at every length. */
+static void cut_files(uint32_t moves)
 {
     uint8_t whole[2048];
-    size_t length, size, record = 0;
+    size_t start = 8 + MOVE_BYTES * moves, length, size, record = 0; /* start: of the days */
     put_head(&file, 6900, 77);
+    put_far_moves(&file, moves);
     put_day(&file, 6951, 0, 7);
     put_day(&file, 6952, 0, 7);
     put_event(&file, 6952, 152, 156, 148);
     size = file.length;
     memcpy(whole, file.bytes, size);
     for (length = 0; length < size; length++) {
-        record = length < 8 ? 0 : length < 398 ? 8 : length < 788 ? 398 : 788;
+        size_t whole_moves = length < 8 ? 0 : length < start ? (length - 8) / MOVE_BYTES : moves;
+        size_t days = length < start ? 0 : (length - start) / DAY_BYTES;
+        record = length < 8 ? 0 : 8 + MOVE_BYTES * whole_moves + DAY_BYTES * days;
         memcpy(file.bytes, whole, length);
         file.length = length;
-        if (length == 8 || length == 398 || length == 788) {
+        if (length > 0 && length == record) {
             REFUSED(0, 16, HP_NO_EVENT, NONE, NONE);
             EVENT_REFUSED(0, HP_NO_EVENT, NONE);
-            FILE_HOLDS(6900, 77, length == 8 ? 0 : 6951, (int64_t)length / DAY_BYTES, 0);
+            FILE_HOLDS(6900, 77, (int64_t)whole_moves, days == 0 ? 0 : 6951, (int64_t)days, 0);
+            NO_MOVE(whole_moves);
         } else {
             REFUSED(0, 16, HP_BAD_FILE, (int64_t)record, NONE);
             EVENT_REFUSED(0, HP_BAD_FILE, (int64_t)record);
+            MOVE_REFUSED(0, (int64_t)record);
             FILE_REFUSED((int64_t)record);
         }
     }
@@ -279,6 +430,13 @@ static void altered_files(void)
     expect_altered(8 + 22 * DAY_BYTES + 7, 1, 8 + 22 * DAY_BYTES);
     expect_altered(file.length - 1, 1, 8 + 22 * DAY_BYTES + EVENT_BYTES);
     ANSWERED(0, 16, worked_answer());
+    put_moved(2);
+    expect_altered(8, 'm', 8);
+    expect_altered(9, 'v', 8);
+    expect_altered(8 + MOVE_BYTES, 'D', 8 + MOVE_BYTES);
+    expect_altered(8 + MOVE_BYTES + 1, 'F', 8 + MOVE_BYTES);
+    expect_altered(8 + 2 * MOVE_BYTES, 'M', 8 + 2 * MOVE_BYTES);
+    ANSWERED(0, 16, worked_answer());
 }
 
 /* The most days: 128 are taken, 129 are not. */
@@ -290,7 +448,7 @@ static void most_days(void)
     for (day = 0; day < 128; day++)
         put_day(&file, 8879 + day, 0, 1000);
     put_event(&file, 9006, 152, 156, 148);
-    FILE_HOLDS(0, 0, 8879, 128, 1);
+    FILE_HOLDS(0, 0, 0, 8879, 128, 1);
     ANSWERED(0, 16, answered(days, 5, 16, 0, 4, 60000));
     put_head(&file, 0, 0);
     for (day = 0; day < 129; day++)
@@ -405,6 +563,13 @@ static void listings(void)
            "154 30264 1261\n155 30264 1261\n6966 152 156 refused 8 42\n");
     file.length--;
     LISTED("file refused 8596\n");
+    put_moved(HP_MOST_MOVES);
+    LISTED("portfolio 77 from 6900 held 6951 22\n6972 152 156 days 2 6951 6965 reach 21 over 24 adj 264\n152 30348 1265\n153 30264 1261\n"
+           "154 30264 1261\n155 30264 1261\n");
+    file.bytes[8 + 2]++;
+    LISTED("portfolio 77 from 6900 held 6951 22\n6972 152 156 refused 14\n");
+    put_moved(HP_MOST_MOVES + 1);
+    LISTED("file refused 104\n");
 }
 
 /* The largest file, with the longest listing that we could make (HP_MOST_LISTING is what is proved of any): 64 events over the whole of Wednesday
@@ -415,6 +580,7 @@ static void put_longest(void)
 {
     uint32_t day, i;
     put_head(&file, 36396, UINT32_MAX);
+    put_far_moves(&file, HP_MOST_MOVES);
     for (day = 36396; day <= 36523; day++)
         put_day(&file, day, 0, HP_HIGHEST);
     for (i = 0; i < 128 * QUARTERS; i++)
@@ -446,7 +612,7 @@ static void longest_listing(void)
     expect_listing(__LINE__, text.bytes, text.length);
     expect_listing_by_entries(__LINE__);
     put_event(&file, 36523, 96, 192, 96);
-    LISTED("file refused 50440\n");
+    LISTED("file refused 50536\n");
 }
 
 /* Every pointer NULL with a length of 0. */
@@ -456,6 +622,7 @@ static void nothing_lent(void)
     CHECK(hp_told(NULL, 0, 0, HP_RESULT) == HP_BAD_FILE && hp_told(NULL, 0, 0, HP_CARRIED) == 0);
     CHECK(hp_file(NULL, 0, HP_RESULT) == HP_BAD_FILE && hp_file(NULL, 0, HP_CARRIED) == 0);
     CHECK(hp_event(NULL, 0, 0, HP_RESULT) == HP_BAD_FILE && hp_event(NULL, 0, 0, HP_CARRIED) == 0);
+    CHECK(hp_move(NULL, 0, 0, HP_RESULT) == HP_BAD_FILE && hp_move(NULL, 0, 0, HP_CARRIED) == 0);
     CHECK(hp_listing(NULL, 0, NULL, 0) == -HP_NO_ROOM);
     put_worked(&file);
     CHECK(hp_baseline(file.bytes, file.length, 0, NULL, 0) == HP_NO_ROOM);
@@ -472,7 +639,12 @@ int main(void)
         refused_requests();
         refused_choices();
         refused_files();
-        cut_files();
+        most_moves();
+        misplaced_moves();
+        refused_moves();
+        labour_day();
+        cut_files(0);
+        cut_files(2);
         altered_files();
         most_days();
         listings();

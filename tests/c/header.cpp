@@ -5,8 +5,8 @@
 #include "honeyplank.h"
 
 // Every constant, in the header's order. The names' numbers are those of tests/compare/src/told.rs too.
-static_assert(HP_VERSION_MAJOR == 0 && HP_VERSION_MINOR == 4 && HP_VERSION_PATCH == 0 && std::string_view(HP_VERSION) == "0.4.0");
-static_assert(HP_VERSION_NUMBER == 400);
+static_assert(HP_VERSION_MAJOR == 0 && HP_VERSION_MINOR == 5 && HP_VERSION_PATCH == 0 && std::string_view(HP_VERSION) == "0.5.0");
+static_assert(HP_VERSION_NUMBER == 500);
 static_assert(HP_STACK == 28672);
 static_assert(HP_STACK_LISTING == 327680);
 static_assert(HP_ANSWERED == 0);
@@ -23,11 +23,13 @@ static_assert(HP_MARGIN_TOO_SHORT == 8);
 static_assert(HP_TOO_FEW == 9);
 static_assert(HP_NO_ADJUSTMENT_WINDOW == 10);
 static_assert(HP_UNWRITABLE == 13);
+static_assert(HP_BAD_MOVES == 14);
 static_assert(HP_QUARTERS == 96);
 static_assert(HP_LAST_DAY == 36524);
 static_assert(HP_LOOK_BACK == 45);
 static_assert(HP_MOST_DAYS == 128);
 static_assert(HP_MOST_EVENTS == 64);
+static_assert(HP_MOST_MOVES == 16);
 static_assert(HP_HIGHEST == 10000000);
 static_assert(HP_MISSING == 0xFFFFFFFF);
 static_assert(HP_MARK_EVENT == 1);
@@ -50,28 +52,32 @@ static_assert(HP_FILE_PORTFOLIO == 13);
 static_assert(HP_FILE_FIRST == 14);
 static_assert(HP_FILE_DAYS == 15);
 static_assert(HP_FILE_EVENTS == 16);
+static_assert(HP_FILE_MOVES == 21);
 static_assert(HP_EVENT_DAY == 17);
 static_assert(HP_EVENT_START == 18);
 static_assert(HP_EVENT_END == 19);
 static_assert(HP_EVENT_NOTICE == 20);
+static_assert(HP_MOVE_FROM == 22);
+static_assert(HP_MOVE_TO == 23);
 static_assert(HP_MOST_BYTES == 384);
 static_assert(HP_MOST_LISTING == 213194);
-static_assert(HP_MOST_FILE == 50440);
+static_assert(HP_MOST_FILE == 50536);
 
 // Every entry, in the header's order; with a narrower place or length a call from C would compile all the same.
 #define HAS_TYPE(entry, ...) static_assert(std::is_same<decltype(&entry), __VA_ARGS__>::value)
 HAS_TYPE(hp_baseline, uint32_t (*)(const uint8_t *, size_t, size_t, uint8_t *, size_t));
 HAS_TYPE(hp_told, int64_t (*)(const uint8_t *, size_t, size_t, uint32_t));
-HAS_TYPE(hp_baseline_table, uint32_t (*)(uint32_t, const uint8_t *, size_t, const uint32_t *, size_t, uint32_t, uint32_t, uint32_t, uint32_t,
-                                         uint32_t, uint32_t *, size_t));
-HAS_TYPE(hp_told_table, int64_t (*)(uint32_t, const uint8_t *, size_t, const uint32_t *, size_t, uint32_t, uint32_t, uint32_t, uint32_t, uint32_t,
-                                    uint32_t));
+HAS_TYPE(hp_baseline_table, uint32_t (*)(uint32_t, const uint8_t *, size_t, const uint32_t *, size_t, const uint32_t *, size_t, uint32_t, uint32_t,
+                                         uint32_t, uint32_t, uint32_t, uint32_t *, size_t));
+HAS_TYPE(hp_told_table, int64_t (*)(uint32_t, const uint8_t *, size_t, const uint32_t *, size_t, const uint32_t *, size_t, uint32_t, uint32_t,
+                                    uint32_t, uint32_t, uint32_t, uint32_t));
 HAS_TYPE(hp_day_part, int64_t (*)(uint32_t, const uint8_t *, size_t, const uint32_t *, size_t, uint32_t));
 HAS_TYPE(hp_file, int64_t (*)(const uint8_t *, size_t, uint32_t));
 HAS_TYPE(hp_event, int64_t (*)(const uint8_t *, size_t, size_t, uint32_t));
+HAS_TYPE(hp_move, int64_t (*)(const uint8_t *, size_t, size_t, uint32_t));
 HAS_TYPE(hp_listing, int64_t (*)(const uint8_t *, size_t, uint8_t *, size_t));
-HAS_TYPE(hp_write, int64_t (*)(uint32_t, uint32_t, uint32_t, const uint8_t *, size_t, const uint32_t *, size_t, const uint32_t *, size_t, uint8_t *,
-                               size_t));
+HAS_TYPE(hp_write, int64_t (*)(uint32_t, uint32_t, uint32_t, const uint8_t *, size_t, const uint32_t *, size_t, const uint32_t *, size_t,
+                               const uint32_t *, size_t, uint8_t *, size_t));
 HAS_TYPE(hp_day, int64_t (*)(uint32_t, uint32_t, uint32_t));
 HAS_TYPE(hp_date, int64_t (*)(uint32_t));
 HAS_TYPE(hp_version, uint32_t (*)());
@@ -80,12 +86,13 @@ HAS_TYPE(hp_refusal_text, const char *(*)(uint32_t));
 int main()
 {
     return hp_baseline(nullptr, 0, 0, nullptr, 0) == HP_BAD_FILE && hp_told(nullptr, 0, 0, HP_RESULT) == HP_BAD_FILE &&
-                   hp_baseline_table(0, nullptr, 0, nullptr, 0, 0, 0, 0, 0, 0, nullptr, 0) == HP_BAD_TABLE &&
-                   hp_told_table(0, nullptr, 0, nullptr, 0, 0, 0, 0, 0, 0, HP_RESULT) == HP_BAD_TABLE &&
+                   hp_baseline_table(0, nullptr, 0, nullptr, 0, nullptr, 0, 0, 0, 0, 0, 0, nullptr, 0) == HP_BAD_TABLE &&
+                   hp_told_table(0, nullptr, 0, nullptr, 0, nullptr, 0, 0, 0, 0, 0, 0, HP_RESULT) == HP_BAD_TABLE &&
                    hp_day_part(0, nullptr, 0, nullptr, 0, 0) == HP_NOTHING && hp_file(nullptr, 0, HP_RESULT) == HP_BAD_FILE &&
-                   hp_event(nullptr, 0, 0, HP_RESULT) == HP_BAD_FILE && hp_listing(nullptr, 0, nullptr, 0) == -HP_NO_ROOM &&
-                   hp_write(0, 0, 0, nullptr, 0, nullptr, 0, nullptr, 0, nullptr, 0) == -HP_NO_ROOM && hp_day(0, 0, 0) == HP_NOTHING &&
-                   hp_date(UINT32_MAX) == HP_NOTHING && hp_version() == HP_VERSION_NUMBER &&
+                   hp_event(nullptr, 0, 0, HP_RESULT) == HP_BAD_FILE && hp_move(nullptr, 0, 0, HP_RESULT) == HP_BAD_FILE &&
+                   hp_listing(nullptr, 0, nullptr, 0) == -HP_NO_ROOM &&
+                   hp_write(0, 0, 0, nullptr, 0, nullptr, 0, nullptr, 0, nullptr, 0, nullptr, 0) == -HP_NO_ROOM &&
+                   hp_day(0, 0, 0) == HP_NOTHING && hp_date(UINT32_MAX) == HP_NOTHING && hp_version() == HP_VERSION_NUMBER &&
                    std::string_view(hp_refusal_text(HP_NO_ROOM)) == "The output is too short."
                ? 0
                : 1;

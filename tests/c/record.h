@@ -1,4 +1,4 @@
-/* Record files for the tests, built record by record (document 01, "Record file, listing, host entry"). */
+/* Record files for the tests, built record by record (document 01, "Record file, listing, host entry"; order 2 for the moves). */
 #ifndef RECORD_H
 #define RECORD_H
 
@@ -6,11 +6,11 @@
 #include <stdint.h>
 #include <string.h>
 
-enum { QUARTERS = 96, DAY_BYTES = 390, EVENT_BYTES = 8 };
+enum { QUARTERS = 96, MOVE_BYTES = 6, DAY_BYTES = 390, EVENT_BYTES = 8 };
 
 struct record_file {
     uint8_t bytes[51200];
-    size_t length;
+    size_t length, moves; /* moves: how many were put, before any day */
 };
 
 static inline void put(struct record_file *file, uint32_t number, int bytes)
@@ -21,10 +21,33 @@ static inline void put(struct record_file *file, uint32_t number, int bytes)
 
 static inline void put_head(struct record_file *file, uint32_t p, uint32_t portfolio)
 {
-    file->length = 0;
+    file->length = file->moves = 0;
     put(file, 'P' | 'F' << 8, 2);
     put(file, p, 2);
     put(file, portfolio, 4);
+}
+
+static inline void put_move(struct record_file *file, uint32_t from, uint32_t to)
+{
+    put(file, 'M' | 'V' << 8, 2);
+    put(file, from, 2);
+    put(file, to, 2);
+    file->moves++;
+}
+
+/* The fixed-date holidays from 1 January 2001 on, of three common years: far before any event of these tests. */
+static inline uint32_t far_holiday(uint32_t place)
+{
+    static const uint32_t in_year[] = {0, 5, 83, 120, 226, 300, 358, 359};
+    return 366 + 365 * (place / 8) + in_year[place % 8];
+}
+
+/* So many moves, up to 24: of those holidays, each to the third day after it. */
+static inline void put_far_moves(struct record_file *file, uint32_t count)
+{
+    uint32_t i;
+    for (i = 0; i < count; i++)
+        put_move(file, far_holiday(i), far_holiday(i) + 3);
 }
 
 static inline void put_day(struct record_file *file, uint32_t day, uint32_t mark, uint32_t reading)
@@ -48,16 +71,16 @@ static inline void put_event(struct record_file *file, uint32_t d, uint32_t s, u
     put(file, 0, 1);
 }
 
-/* Where a reading stands in a file, by its place over the whole table. */
-static inline size_t reading_at(size_t place)
+/* Where a reading stands in a file with so many moves, by its place over the whole table. */
+static inline size_t reading_at(size_t moves, size_t place)
 {
-    return 8 + DAY_BYTES * (place / QUARTERS) + 6 + 4 * (place % QUARTERS);
+    return 8 + MOVE_BYTES * moves + DAY_BYTES * (place / QUARTERS) + 6 + 4 * (place % QUARTERS);
 }
 
 static inline void set_reading(struct record_file *file, size_t place, uint32_t reading)
 {
     size_t end = file->length;
-    file->length = reading_at(place);
+    file->length = reading_at(file->moves, place);
     put(file, reading, 4);
     file->length = end;
 }

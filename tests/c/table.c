@@ -1,4 +1,4 @@
-/* The entries over a table in memory: the worked case, refusals 1 to 10, the part of a day, and every buffer between guards. */
+/* The entries over a table in memory: the worked case, refusals 1 to 10 and 14, the moves, the part of a day, and every buffer between guards. */
 #include "check.h"
 #include "honeyplank.h"
 #include "told.h"
@@ -9,7 +9,8 @@ enum { MOST = 129 };
 static uint32_t first = 6951;
 static uint8_t marks[MOST];
 static uint32_t readings[MOST * QUARTERS];
-static size_t days, count;
+static uint32_t moves[2 * (HP_MOST_MOVES + 1)];
+static size_t days, count, moved; /* moved: how many numbers the moves are */
 static uint32_t p, d, s, e, n;
 static int at_end;
 
@@ -20,25 +21,42 @@ static void worked(void)
     first = 6951;
     days = 22;
     count = 22 * QUARTERS;
+    moved = 0;
     fill_worked(readings, MOST);
     p = 6900, d = 6972, s = 152, e = 156, n = 148;
+}
+
+static void add_move(uint32_t from, uint32_t to)
+{
+    moves[moved++] = from;
+    moves[moved++] = to;
+}
+
+/* So many moves that are none of these tables' days. */
+static void add_far_moves(uint32_t pairs)
+{
+    uint32_t i;
+    for (i = 0; i < pairs; i++)
+        add_move(far_holiday(i), far_holiday(i) + 3);
 }
 
 /* hp_baseline_table with so much room gives this number and, answered, these numerators; hp_told_table tells the result by every name. */
 static void expect(int line, size_t room, uint32_t number, struct result result)
 {
     struct lent m = lend_copy(marks, days, at_end), r = lend_copy(readings, 4 * count, at_end), out = lend(4 * room, at_end);
-    const uint32_t *lent = (const uint32_t *)(const void *)r.bytes;
+    struct lent v = lend_copy(moves, 4 * moved, at_end);
+    const uint32_t *lent = (const uint32_t *)(const void *)r.bytes, *list = (const uint32_t *)(const void *)v.bytes;
     size_t written = number == HP_ANSWERED ? 4 * result.quarters : 0;
     int before = failures, i;
-    CHECK(hp_baseline_table(first, m.bytes, days, lent, count, p, d, s, e, n, (uint32_t *)(void *)out.bytes, room) == number);
+    CHECK(hp_baseline_table(first, m.bytes, days, lent, count, list, moved, p, d, s, e, n, (uint32_t *)(void *)out.bytes, room) == number);
     CHECK(kept(&out, written) && memcmp(out.bytes, result.numerators, written) == 0);
     for (i = 0; i < NAMES; i++)
-        CHECK(tells(&result.told, name_at(i), hp_told_table(first, m.bytes, days, lent, count, p, d, s, e, n, name_at(i))));
+        CHECK(tells(&result.told, name_at(i), hp_told_table(first, m.bytes, days, lent, count, list, moved, p, d, s, e, n, name_at(i))));
     if (failures != before)
         printf("  in the call of line %d\n", line);
     give_back(&m);
     give_back(&r);
+    give_back(&v);
     give_back(&out);
 }
 
@@ -85,6 +103,178 @@ static void refusals(void)
     for (i = 20 * QUARTERS; i < 22 * QUARTERS; i++)
         readings[i] = HP_MISSING;
     REFUSED(4, HP_NO_ADJUSTMENT_WINDOW, 21, NONE);
+}
+
+/* 14: how long the list is, and days past the calendar, also such that a narrower number would take for days. */
+static void refused_lists(void)
+{
+    static const uint32_t past[] = {HP_LAST_DAY + 1, 65536, 2147483648u, UINT32_MAX};
+    uint32_t i, j;
+    for (i = 0; i <= HP_MOST_MOVES; i++)
+        worked(), add_far_moves(i), ANSWERED(4, worked_answer());
+    worked(), add_far_moves(HP_MOST_MOVES + 1), REFUSED(4, HP_BAD_MOVES, NONE, NONE);
+    for (i = 1; i < 2 * (HP_MOST_MOVES + 1); i += 2)
+        worked(), add_far_moves(HP_MOST_MOVES + 1), moved = i, REFUSED(4, HP_BAD_MOVES, NONE, NONE);
+    for (i = 0; i < 2 * HP_MOST_MOVES; i++)
+        for (j = 0; j < sizeof past / sizeof past[0]; j++) {
+            worked(), add_far_moves(HP_MOST_MOVES), moves[i] = past[j], REFUSED(4, HP_BAD_MOVES, NONE, NONE);
+            worked(), add_far_moves(HP_MOST_MOVES), moves[i] |= 65536 << j, REFUSED(4, HP_BAD_MOVES, NONE, NONE);
+        }
+    worked(), add_move(36518, HP_LAST_DAY), add_move(36519, 0), ANSWERED(4, worked_answer()); /* 25 and 26 December 2099 */
+}
+
+/* 14: a first day twice, at every two places; the second days may be the same, and may be any. */
+static void repeated_days(void)
+{
+    uint32_t i, j;
+    for (i = 1; i < HP_MOST_MOVES; i++)
+        for (j = 0; j < i; j++) {
+            worked(), add_far_moves(HP_MOST_MOVES), moves[2 * i] = moves[2 * j], REFUSED(4, HP_BAD_MOVES, NONE, NONE);
+            moves[2 * i + 1] = moves[2 * j + 1], REFUSED(4, HP_BAD_MOVES, NONE, NONE);
+            worked(), add_far_moves(HP_MOST_MOVES), moves[2 * i + 1] = moves[2 * j + 1], ANSWERED(4, worked_answer());
+            moves[2 * i + 1] = moves[2 * j], ANSWERED(4, worked_answer());
+        }
+    worked(), add_move(8887, 8893), add_move(8887, 8893), REFUSED(4, HP_BAD_MOVES, NONE, NONE);
+}
+
+static int is_fixed(int64_t date)
+{
+    static const int64_t fixed[] = {101, 106, 325, 501, 815, 1028, 1225, 1226};
+    size_t i = 0;
+    while (i < 8 && fixed[i] != date % 10000)
+        i++;
+    return i < 8;
+}
+
+/* 14: every day of the calendar as a first day, and those about its end; of one day held there is too little to choose from. */
+static void every_first_day(void)
+{
+    uint32_t day, out[4];
+    worked(), days = 1, count = QUARTERS, p = d = first;
+    for (day = 0; day <= HP_LAST_DAY + 366; day++) {
+        uint32_t due = day <= HP_LAST_DAY && is_fixed(hp_date(day)) ? HP_TOO_FEW : HP_BAD_MOVES, list[] = {day, 0};
+        CHECK(hp_baseline_table(first, marks, days, readings, count, list, 2, p, d, s, e, n, out, 4) == due);
+    }
+}
+
+/* The worked case with a list that is none: 2 May 2024 is no fixed-date holiday. */
+static void unlisted(void)
+{
+    worked(), add_move(8888, 8893);
+}
+
+/* A list that is none comes after 3 and before 4. */
+static void place_of_14(void)
+{
+    int i;
+    unlisted(), REFUSED(4, HP_BAD_MOVES, NONE, NONE), REFUSED(3, HP_BAD_MOVES, NONE, NONE), REFUSED(0, HP_BAD_MOVES, NONE, NONE);
+    unlisted(), days = 0, count = 0, REFUSED(4, HP_BAD_TABLE, NONE, NONE);
+    unlisted(), first = 36504, REFUSED(4, HP_BAD_TABLE, NONE, NONE);
+    unlisted(), marks[21] = 4, REFUSED(4, HP_BAD_MARK, 21, NONE);
+    unlisted(), readings[2111] = HP_HIGHEST + 1, REFUSED(4, HP_BAD_READING, 2111, NONE);
+    unlisted(), p = 36525, REFUSED(4, HP_BAD_MOVES, NONE, NONE);
+    unlisted(), s = 192, e = 193, REFUSED(4, HP_BAD_MOVES, NONE, NONE);
+    unlisted(), e = UINT32_MAX, REFUSED(4, HP_BAD_MOVES, NONE, NONE);
+    unlisted(), n = 153, REFUSED(4, HP_BAD_MOVES, NONE, NONE);
+    unlisted(), d = 6973, REFUSED(4, HP_BAD_MOVES, NONE, NONE);
+    unlisted(), p = 6973, REFUSED(4, HP_BAD_MOVES, NONE, NONE);
+    unlisted(), d = 6966, REFUSED(4, HP_BAD_MOVES, NONE, NONE);
+    unlisted(), p = 6972, REFUSED(4, HP_BAD_MOVES, NONE, NONE);
+    unlisted();
+    for (i = 20 * QUARTERS; i < 22 * QUARTERS; i++)
+        readings[i] = HP_MISSING;
+    REFUSED(4, HP_BAD_MOVES, NONE, NONE);
+}
+
+/* The worked case with 16 moves of other years. */
+static void listed(void)
+{
+    worked(), add_far_moves(HP_MOST_MOVES);
+}
+
+/* With such a list each other refusal is as without. */
+static void refusals_with_moves(void)
+{
+    listed(), count--, REFUSED(4, HP_BAD_TABLE, NONE, NONE);
+    listed(), marks[21] = 4, REFUSED(4, HP_BAD_MARK, 21, NONE);
+    listed(), readings[2111] = HP_HIGHEST + 1, REFUSED(4, HP_BAD_READING, 2111, NONE);
+    listed(), p = 36525, REFUSED(4, HP_BAD_REQUEST, NONE, NONE);
+    listed(), d = 6973, REFUSED(4, HP_NOT_HELD, NONE, NONE);
+    listed(), p = 6973, REFUSED(4, HP_NOT_YET_PARTICIPATING, NONE, NONE);
+    listed(), NO_ROOM(3, worked_answer());
+    listed(), d = 6966, REFUSED(4, HP_MARGIN_TOO_SHORT, 42, NONE);
+    listed(), p = 6972, REFUSED(4, HP_TOO_FEW, 0, 0);
+}
+
+/* Days from this one on, all at 1000 kW, with no list; the event is of four quarters of this day, and is answered with the nearest days of its
+ * group, at 1000 kW too. */
+static void even(uint32_t from, uint32_t day)
+{
+    uint32_t i;
+    worked();
+    first = from, days = day + 1 - from, count = days * QUARTERS, p = 0, d = day;
+    for (i = 0; i < MOST * QUARTERS; i++)
+        readings[i] = 1000;
+}
+
+#define CHOSEN(count, reach, ...) ANSWERED(4, answered((const uint32_t[]){__VA_ARGS__}, count, reach, 0, 4, 12000 * count))
+
+/* 1 May 2024 (8887, a Wednesday) moved to 7 May (8893): events of both, and of Easter Sunday between them (8891), without and with the list. */
+static void labour_day(void)
+{
+    even(8840, 8887), CHOSEN(2, 17, 8884, 8877);
+    add_move(8887, 8893), CHOSEN(5, 15, 8885, 8882, 8881, 8880, 8879);
+    even(8840, 8893), CHOSEN(5, 19, 8888, 8886, 8885, 8882, 8881);
+    add_move(8887, 8893), CHOSEN(2, 3, 8892, 8891);
+    even(8840, 8891), CHOSEN(2, 4, 8890, 8889);
+    add_move(8887, 8893), CHOSEN(2, 7, 8890, 8889);
+    even(8840, 8891), add_move(8887, 8887), CHOSEN(2, 4, 8890, 8889); /* onto itself */
+}
+
+/* Thursday 9 May 2024: 7 May is in its window and 1 May is not; by the list it is the other way round. 1 May is the highest day, 7 May the next. */
+static void thursday(void)
+{
+    static const uint32_t without[] = {8893, 8888, 8886, 8885, 8882}, with[] = {8887, 8888, 8886, 8885, 8882};
+    uint32_t i;
+    even(8850, 8895);
+    for (i = 0; i < QUARTERS; i++) {
+        readings[QUARTERS * (8887 - 8850) + i] = 1500;
+        readings[QUARTERS * (8893 - 8850) + i] = 1400;
+    }
+    ANSWERED(4, answered(without, 5, 20, -4800, 4, 60000));
+    add_move(8887, 8893), ANSWERED(4, answered(with, 5, 20, -6000, 4, 60000));
+    add_move(8850, 8850), ANSWERED(4, answered(with, 5, 20, -6000, 4, 60000)); /* 25 March onto itself */
+    moved = 0, add_far_moves(15), add_move(8887, 8893), ANSWERED(4, answered(with, 5, 20, -6000, 4, 60000));
+    moved = 0, add_move(8850, 8850), ANSWERED(4, answered(without, 5, 20, -4800, 4, 60000));
+    moved = 0, add_move(8888, 8893), REFUSED(4, HP_BAD_MOVES, NONE, NONE);
+    moved = 0, add_move(8887, 8893), add_move(8887, 8893), REFUSED(4, HP_BAD_MOVES, NONE, NONE);
+}
+
+/* What is a holiday for another reason stays one though it is moved away. */
+static void stays_a_holiday(void)
+{
+    even(76, 121), CHOSEN(2, 3, 120, 119); /* 1 May 2000, Easter Monday */
+    add_move(121, 122), CHOSEN(2, 3, 120, 119);
+    even(7852, 7897), CHOSEN(2, 21, 7890, 7883); /* Sunday 15 August 2021 */
+    add_move(7897, 7898), CHOSEN(2, 21, 7890, 7883);
+    even(6890, 6934), CHOSEN(2, 10, 6933, 6931); /* Wednesday 26 December 2018 */
+    add_move(6933, 6934), add_move(6934, 6933), CHOSEN(2, 10, 6933, 6931);
+    moved = 0, add_move(6933, 6934), add_move(6934, 6935), CHOSEN(2, 17, 6931, 6924);
+    even(6890, 6934), add_move(6934, 6935), CHOSEN(5, 15, 6932, 6929, 6928, 6927, 6926);
+}
+
+/* The second day may be any: of another year, a Saturday, one that two moves share. */
+static void any_second_day(void)
+{
+    static const uint32_t saturdays[] = {6951, 6958}, sundays[] = {6966, 6959};
+    struct result result = answered(saturdays, 2, 21, 1464, 4, 30264);
+    result.numerators[0] = 30348;
+    worked(), add_move(6695, 6965), REFUSED(4, HP_MARGIN_TOO_SHORT, 42, NONE); /* 1 May 2018 to Saturday 26 January 2019 */
+    p = 6951, ANSWERED(4, result);
+    add_move(6801, 6965), ANSWERED(4, result);
+    worked(), p = 6951, add_move(6695, 6972), ANSWERED(4, answered(sundays, 2, 20, 6264, 4, 30264));
+    even(6903, 6948), CHOSEN(5, 20, 6946, 6943, 6942, 6941, 6939); /* Wednesday 9 January 2019 */
+    add_move(6934, 6942), CHOSEN(5, 20, 6946, 6943, 6941, 6939, 6936); /* 26 December 2018 to 3 January */
 }
 
 /* What the header says of places that are counted within the day: s and e are refused; n is taken, as a place of the day before. */
@@ -156,12 +346,14 @@ static void nothing_lent(void)
 {
     uint32_t out[4] = {0};
     worked();
-    CHECK(hp_baseline_table(0, NULL, 0, NULL, 0, 0, 0, 0, 0, 0, NULL, 0) == HP_BAD_TABLE);
-    CHECK(hp_told_table(0, NULL, 0, NULL, 0, 0, 0, 0, 0, 0, HP_RESULT) == HP_BAD_TABLE);
+    CHECK(hp_baseline_table(0, NULL, 0, NULL, 0, NULL, 0, 0, 0, 0, 0, 0, NULL, 0) == HP_BAD_TABLE);
+    CHECK(hp_told_table(0, NULL, 0, NULL, 0, NULL, 0, 0, 0, 0, 0, 0, HP_RESULT) == HP_BAD_TABLE);
     CHECK(hp_day_part(0, NULL, 0, NULL, 0, 0) == HP_NOTHING);
-    CHECK(hp_baseline_table(first, marks, days, NULL, 0, p, d, s, e, n, out, 4) == HP_BAD_TABLE);
-    CHECK(hp_baseline_table(first, NULL, 0, readings, count, p, d, s, e, n, out, 4) == HP_BAD_TABLE);
-    CHECK(hp_baseline_table(first, marks, days, readings, count, p, d, s, e, n, NULL, 0) == HP_NO_ROOM);
+    CHECK(hp_baseline_table(first, marks, days, NULL, 0, NULL, 0, p, d, s, e, n, out, 4) == HP_BAD_TABLE);
+    CHECK(hp_baseline_table(first, NULL, 0, readings, count, NULL, 0, p, d, s, e, n, out, 4) == HP_BAD_TABLE);
+    CHECK(hp_baseline_table(first, marks, days, readings, count, NULL, 0, p, d, s, e, n, NULL, 0) == HP_NO_ROOM);
+    CHECK(hp_baseline_table(first, marks, days, readings, count, NULL, 0, p, d, s, e, n, out, 4) == HP_ANSWERED && out[0] == 30348);
+    CHECK(hp_told_table(first, marks, days, readings, count, NULL, 0, p, d, s, e, n, HP_ADJUSTMENT) == 264);
 }
 
 int main(void)
@@ -169,6 +361,15 @@ int main(void)
     for (at_end = 0; at_end < 2; at_end++) {
         answers();
         refusals();
+        refused_lists();
+        repeated_days();
+        every_first_day();
+        place_of_14();
+        refusals_with_moves();
+        labour_day();
+        thursday();
+        stays_a_holiday();
+        any_second_day();
         within_the_day();
         day_parts();
         nothing_lent();

@@ -5,7 +5,7 @@
 #include "check.h"
 #include "honeyplank.h"
 
-enum { LAST_NAME = HP_EVENT_NOTICE };
+enum { LAST_NAME = HP_MOVE_TO };
 
 #define NONE HP_NOTHING
 
@@ -64,7 +64,7 @@ static inline struct result answered(const uint32_t *days, uint32_t count, int64
 }
 
 /* What hp_file tells of a file that is as laid down. */
-static inline struct told held(int64_t p, int64_t portfolio, int64_t first, int64_t days, int64_t events)
+static inline struct told held(int64_t p, int64_t portfolio, int64_t moves, int64_t first, int64_t days, int64_t events)
 {
     struct told told = told_refusal(HP_ANSWERED, NONE, NONE);
     told.numbers[HP_FILE_PARTICIPATION] = p;
@@ -72,6 +72,16 @@ static inline struct told held(int64_t p, int64_t portfolio, int64_t first, int6
     told.numbers[HP_FILE_FIRST] = first;
     told.numbers[HP_FILE_DAYS] = days;
     told.numbers[HP_FILE_EVENTS] = events;
+    told.numbers[HP_FILE_MOVES] = moves;
+    return told;
+}
+
+/* What hp_move tells of a move; NONE and NONE past the last one. */
+static inline struct told move_of(int64_t from, int64_t to)
+{
+    struct told told = told_refusal(HP_ANSWERED, NONE, NONE);
+    told.numbers[HP_MOVE_FROM] = from;
+    told.numbers[HP_MOVE_TO] = to;
     return told;
 }
 
@@ -127,6 +137,14 @@ static inline void check_event(const uint8_t *file, size_t length, size_t place,
     int i;
     for (i = 0; i < NAMES; i++)
         CHECK(tells(due, name_at(i), hp_event(file, length, place, name_at(i))));
+}
+
+/* hp_move tells this by every name. */
+static inline void check_move(const uint8_t *file, size_t length, size_t place, const struct told *due)
+{
+    int i;
+    for (i = 0; i < NAMES; i++)
+        CHECK(tells(due, name_at(i), hp_move(file, length, place, name_at(i))));
 }
 
 #endif

@@ -26,19 +26,20 @@ static inline void fill_worked(uint32_t *readings, uint32_t days)
     fill_day(readings, 6972, 1261);
 }
 
-/* With room for a day and an event more than a file has. */
+/* With room for a day, a move and an event more than a file has. */
 struct values {
     uint32_t p, portfolio, first;
-    size_t days, count, numbers; /* how many marks, readings and numbers of events there are */
+    size_t days, count, moved, numbers; /* how many marks, readings, numbers of moves and numbers of events there are */
     uint8_t marks[HP_MOST_DAYS + 1];
     uint32_t readings[(HP_MOST_DAYS + 1) * QUARTERS];
+    uint32_t moves[2 * (HP_MOST_MOVES + 1)];
     uint32_t events[4 * (HP_MOST_EVENTS + 1)];
 };
 
 static inline int64_t write_values(const struct values *values, uint8_t *out, size_t room)
 {
-    return hp_write(values->p, values->portfolio, values->first, values->marks, values->days, values->readings, values->count, values->events,
-                    values->numbers, out, room);
+    return hp_write(values->p, values->portfolio, values->first, values->marks, values->days, values->readings, values->count, values->moves,
+                    values->moved, values->events, values->numbers, out, room);
 }
 
 static inline void put_values(struct record_file *file, const struct values *values)
@@ -46,6 +47,8 @@ static inline void put_values(struct record_file *file, const struct values *val
     const uint32_t *event = values->events;
     size_t i;
     put_head(file, values->p, values->portfolio);
+    for (i = 0; i < values->moved; i += 2)
+        put_move(file, values->moves[i], values->moves[i + 1]);
     for (i = 0; i < values->days; i++)
         put_day(file, values->first + (uint32_t)i, values->marks[i], 0);
     for (i = 0; i < values->count; i++)
@@ -63,7 +66,10 @@ static inline void take_told(struct values *values, const uint8_t *file, size_t 
     values->first = (uint32_t)hp_file(file, length, HP_FILE_FIRST);
     values->days = (size_t)hp_file(file, length, HP_FILE_DAYS);
     values->count = QUARTERS * values->days;
+    values->moved = 2 * (size_t)hp_file(file, length, HP_FILE_MOVES);
     values->numbers = 4 * (size_t)hp_file(file, length, HP_FILE_EVENTS);
+    for (i = 0; i < values->moved; i++)
+        values->moves[i] = (uint32_t)hp_move(file, length, i / 2, HP_MOVE_FROM + i % 2);
     for (i = 0; i < values->numbers; i++)
         values->events[i] = (uint32_t)hp_event(file, length, i / 4, HP_EVENT_DAY + i % 4);
 }
@@ -74,9 +80,9 @@ static inline void take_values(struct values *values, const struct record_file *
     size_t i;
     take_told(values, file->bytes, file->length);
     for (i = 0; i < values->days; i++)
-        values->marks[i] = file->bytes[8 + DAY_BYTES * i + 4];
+        values->marks[i] = file->bytes[reading_at(values->moved / 2, QUARTERS * i) - 2];
     for (i = 0; i < values->count; i++)
-        values->readings[i] = word_at(file->bytes + reading_at(i));
+        values->readings[i] = word_at(file->bytes + reading_at(values->moved / 2, i));
 }
 
 #endif

@@ -14,18 +14,21 @@ static int at_end;
 static void expect(int line, size_t room, int64_t due)
 {
     struct lent m = lend_copy(values.marks, values.days, at_end), r = lend_copy(values.readings, 4 * values.count, at_end);
-    struct lent v = lend_copy(values.events, 4 * values.numbers, at_end), out = lend(room, at_end);
-    const uint32_t *readings = (const uint32_t *)(const void *)r.bytes, *events = (const uint32_t *)(const void *)v.bytes;
+    struct lent l = lend_copy(values.moves, 4 * values.moved, at_end), v = lend_copy(values.events, 4 * values.numbers, at_end);
+    struct lent out = lend(room, at_end);
+    const uint32_t *readings = (const uint32_t *)(const void *)r.bytes, *moves = (const uint32_t *)(const void *)l.bytes;
+    const uint32_t *events = (const uint32_t *)(const void *)v.bytes;
     size_t written = due < 0 ? 0 : (size_t)due;
     int before = failures;
-    int64_t given = hp_write(values.p, values.portfolio, values.first, m.bytes, values.days, readings, values.count, events, values.numbers,
-                             out.bytes, room);
+    int64_t given = hp_write(values.p, values.portfolio, values.first, m.bytes, values.days, readings, values.count, moves, values.moved,
+                             events, values.numbers, out.bytes, room);
     CHECK(given == due);
     CHECK(kept(&out, written) && memcmp(out.bytes, file.bytes, written) == 0);
     if (failures != before)
         printf("  in the call of line %d, with %zu bytes: %lld is due, %lld is given\n", line, room, (long long)due, (long long)given);
     give_back(&m);
     give_back(&r);
+    give_back(&l);
     give_back(&v);
     give_back(&out);
 }
@@ -34,7 +37,7 @@ static void expect(int line, size_t room, int64_t due)
 static void expect_refused(int line, int64_t number)
 {
     expect(line, 0, -number);
-    expect(line, 8 + DAY_BYTES * values.days + EVENT_BYTES * (values.numbers / 4 + 1), -number);
+    expect(line, 8 + MOVE_BYTES * (values.moved / 2 + 1) + DAY_BYTES * values.days + EVENT_BYTES * (values.numbers / 4 + 1), -number);
 }
 
 /* With just its room the file is written, with a byte less nothing is. */
@@ -54,9 +57,13 @@ static void expect_read_back(int line)
     static uint8_t out[HP_MOST_FILE];
     int64_t given = write_values(&values, out, sizeof out);
     size_t length = given < 0 ? 0 : (size_t)given, i;
-    struct told due = held(values.p, values.portfolio, values.first, (int64_t)values.days, (int64_t)values.numbers / 4);
+    struct told due = held(values.p, values.portfolio, (int64_t)values.moved / 2, values.first, (int64_t)values.days, (int64_t)values.numbers / 4);
     int before = failures;
     check_file(out, length, &due);
+    for (i = 0; i < values.moved / 2; i++) {
+        due = move_of(values.moves[2 * i], values.moves[2 * i + 1]);
+        check_move(out, length, i, &due);
+    }
     for (i = 0; i < values.numbers / 4; i++) {
         const uint32_t *event = values.events + 4 * i;
         due = event_of(event[0], event[1], event[2], event[3]);
@@ -79,17 +86,19 @@ static void worked(void)
     memcpy(values.events, events, sizeof events);
 }
 
-/* So many days and events, with any numbers that their bytes hold; most marks and readings mean nothing. */
-static void fill(uint32_t days, uint32_t events)
+/* So many moves, days and events, with any numbers that their bytes hold; most moves, marks and readings mean nothing. */
+static void fill(uint32_t moves, uint32_t days, uint32_t events)
 {
     uint32_t i;
     worked();
-    values.days = days, values.count = days * QUARTERS, values.numbers = 4 * events;
+    values.days = days, values.count = days * QUARTERS, values.moved = 2 * moves, values.numbers = 4 * events;
     values.first = days == 0 ? 0 : 250;
     for (i = 0; i < days; i++)
         values.marks[i] = (uint8_t)(255 - i);
     for (i = 0; i < days * QUARTERS; i++)
         values.readings[i] = (i + days) * 2654435761u;
+    for (i = 0; i < 2 * moves; i++)
+        values.moves[i] = (i + 1) * 2654435761u >> 16;
     for (i = 0; i < 4 * events; i++)
         values.events[i] = i * 2654435761u >> (i % 4 == 0 ? 16 : 24);
 }
@@ -110,18 +119,24 @@ static void worked_case(void)
 
 static void every_length(void)
 {
-    uint32_t days, events;
+    uint32_t moves, days, events;
+    for (moves = 0; moves <= HP_MOST_MOVES; moves++) {
+        fill(moves, 0, 0), WRITTEN(), READ_BACK();
+        CHECK(file.length == 8 + 6 * moves);
+        fill(moves, 3, 2), WRITTEN(), READ_BACK();
+        CHECK(file.length == 8 + 6 * moves + 3 * 390 + 2 * 8);
+    }
     for (days = 0; days <= HP_MOST_DAYS; days++)
-        fill(days, 0), WRITTEN();
+        fill(0, days, 0), WRITTEN();
     for (events = 0; events <= HP_MOST_EVENTS; events++)
-        fill(0, events), WRITTEN();
-    fill(HP_MOST_DAYS, HP_MOST_EVENTS), WRITTEN(), READ_BACK();
+        fill(0, 0, events), WRITTEN();
+    fill(HP_MOST_MOVES, HP_MOST_DAYS, HP_MOST_EVENTS), WRITTEN(), READ_BACK();
     CHECK(file.length == HP_MOST_FILE);
 }
 
 static void no_days(void)
 {
-    fill(0, 0), WRITTEN(), READ_BACK();
+    fill(0, 0, 0), WRITTEN(), READ_BACK();
     CHECK(file.length == 8);
     worked(), values.days = 0, values.count = 0, values.first = 0, WRITTEN(), READ_BACK();
 }
@@ -129,8 +144,8 @@ static void no_days(void)
 static void highest_numbers(void)
 {
     int i;
-    fill(1, 1), values.p = 65535, values.portfolio = UINT32_MAX, values.marks[0] = 255;
-    values.events[0] = 65535, values.events[1] = values.events[2] = values.events[3] = 255;
+    fill(1, 1, 1), values.p = 65535, values.portfolio = UINT32_MAX, values.marks[0] = 255;
+    values.moves[0] = values.moves[1] = values.events[0] = 65535, values.events[1] = values.events[2] = values.events[3] = 255;
     for (i = 0; i < QUARTERS; i++)
         values.readings[i] = i % 2 == 0 ? UINT32_MAX : UINT32_MAX - 1;
     WRITTEN(), READ_BACK();
@@ -147,15 +162,21 @@ static void refused_tables(void)
     worked(), values.days = 129, values.count = 129 * QUARTERS, REFUSED(HP_BAD_TABLE);
     values.p = values.events[0] = UINT32_MAX, values.numbers = 257, REFUSED(HP_BAD_TABLE);
     worked(), values.count--, values.first = UINT32_MAX, REFUSED(HP_BAD_TABLE);
+    fill(HP_MOST_MOVES + 1, 2, 1), values.count--, REFUSED(HP_BAD_TABLE);
+    fill(1, 2, 1), values.count--, values.moved = 1, values.moves[0] = UINT32_MAX, REFUSED(HP_BAD_TABLE);
 }
 
-/* 13: P, and how many numbers the events have. */
+/* 13: P, and how many numbers the events and the moves have. */
 static void refused_counts(void)
 {
     static const size_t numbers[] = {1, 2, 3, 5, 6, 7, 253, 254, 255, 257, 258, 259, 260};
     size_t i;
     for (i = 0; i < sizeof numbers / sizeof numbers[0]; i++)
-        fill(2, HP_MOST_EVENTS + 1), values.numbers = numbers[i], REFUSED(HP_UNWRITABLE);
+        fill(0, 2, HP_MOST_EVENTS + 1), values.numbers = numbers[i], REFUSED(HP_UNWRITABLE);
+    for (i = 1; i <= 2 * HP_MOST_MOVES; i += 2)
+        fill(HP_MOST_MOVES + 1, 2, 1), values.moved = i, REFUSED(HP_UNWRITABLE);
+    for (i = 2 * HP_MOST_MOVES + 1; i <= 2 * (HP_MOST_MOVES + 1); i++)
+        fill(HP_MOST_MOVES + 1, 2, 1), values.moved = i, REFUSED(HP_UNWRITABLE);
     worked(), values.p = 65536, REFUSED(HP_UNWRITABLE);
     worked(), values.p += 65536, REFUSED(HP_UNWRITABLE);
     worked(), values.p = UINT32_MAX, REFUSED(HP_UNWRITABLE);
@@ -167,7 +188,7 @@ static void refused_days(void)
     static const uint32_t counts[] = {1, 2, 22, HP_MOST_DAYS}, firsts[] = {1, 65535, 65536, 2147483648u, UINT32_MAX};
     size_t i;
     for (i = 0; i < sizeof counts / sizeof counts[0]; i++) {
-        fill(counts[i], 1), values.first = 65536 - counts[i], WRITTEN(), READ_BACK();
+        fill(0, counts[i], 1), values.first = 65536 - counts[i], WRITTEN(), READ_BACK();
         values.first = 65537 - counts[i], REFUSED(HP_UNWRITABLE);
         values.first = 65536, REFUSED(HP_UNWRITABLE);
         values.first = 2147483648u, REFUSED(HP_UNWRITABLE);
@@ -175,14 +196,14 @@ static void refused_days(void)
         values.first = UINT32_MAX, REFUSED(HP_UNWRITABLE);
     }
     for (i = 0; i < sizeof firsts / sizeof firsts[0]; i++)
-        fill(0, 1), values.first = firsts[i], REFUSED(HP_UNWRITABLE);
+        fill(0, 0, 1), values.first = firsts[i], REFUSED(HP_UNWRITABLE);
 }
 
 /* 13: each number of each event, above what its bytes hold. */
 static void refused_events(void)
 {
     uint32_t i, was;
-    fill(0, HP_MOST_EVENTS);
+    fill(0, 0, HP_MOST_EVENTS);
     for (i = 0; i < values.numbers; i++) {
         was = values.events[i];
         values.events[i] = i % 4 == 0 ? 65536 : 256, REFUSED(HP_UNWRITABLE);
@@ -191,6 +212,24 @@ static void refused_events(void)
         values.events[i] = was;
     }
     WRITTEN();
+}
+
+/* 13: each day of each move, above what its bytes hold; a day that they hold is written, also past the calendar. */
+static void refused_moves(void)
+{
+    static const uint32_t held[] = {0, HP_LAST_DAY, HP_LAST_DAY + 1, 65535}, beyond[] = {65536, 65537, 131071, 2147483648u, UINT32_MAX};
+    uint32_t i, j, was;
+    fill(HP_MOST_MOVES, 1, 1);
+    for (i = 0; i < values.moved; i++) {
+        was = values.moves[i];
+        for (j = 0; j < sizeof held / sizeof held[0]; j++)
+            values.moves[i] = held[j], WRITTEN();
+        for (j = 0; j < sizeof beyond / sizeof beyond[0]; j++)
+            values.moves[i] = beyond[j], REFUSED(HP_UNWRITABLE);
+        values.moves[i] = was + 65536, REFUSED(HP_UNWRITABLE);
+        values.moves[i] = was;
+    }
+    WRITTEN(), READ_BACK();
 }
 
 static int again;
@@ -217,13 +256,13 @@ static void samples_again(void)
 static void nothing_lent(void)
 {
     uint8_t out[16];
-    CHECK(hp_write(0, 0, 0, NULL, 0, NULL, 0, NULL, 0, NULL, 0) == -HP_NO_ROOM);
-    CHECK(hp_write(0, 0, 1, NULL, 0, NULL, 0, NULL, 0, NULL, 0) == -HP_UNWRITABLE);
-    CHECK(hp_write(6900, 77, 0, NULL, 0, NULL, 0, NULL, 0, out, 8) == 8 && memcmp(out, "PF\xF4\x1A\x4D\0\0\0", 8) == 0);
+    CHECK(hp_write(0, 0, 0, NULL, 0, NULL, 0, NULL, 0, NULL, 0, NULL, 0) == -HP_NO_ROOM);
+    CHECK(hp_write(0, 0, 1, NULL, 0, NULL, 0, NULL, 0, NULL, 0, NULL, 0) == -HP_UNWRITABLE);
+    CHECK(hp_write(6900, 77, 0, NULL, 0, NULL, 0, NULL, 0, NULL, 0, out, 8) == 8 && memcmp(out, "PF\xF4\x1A\x4D\0\0\0", 8) == 0);
     worked();
     CHECK(write_values(&values, NULL, 0) == -HP_NO_ROOM);
-    CHECK(hp_write(0, 0, 0, values.marks, 1, NULL, 0, NULL, 0, out, 16) == -HP_BAD_TABLE);
-    CHECK(hp_write(0, 0, 0, NULL, 0, values.readings, QUARTERS, NULL, 0, out, 16) == -HP_BAD_TABLE);
+    CHECK(hp_write(0, 0, 0, values.marks, 1, NULL, 0, NULL, 0, NULL, 0, out, 16) == -HP_BAD_TABLE);
+    CHECK(hp_write(0, 0, 0, NULL, 0, values.readings, QUARTERS, NULL, 0, NULL, 0, out, 16) == -HP_BAD_TABLE);
 }
 
 int main(void)
@@ -237,6 +276,7 @@ int main(void)
         refused_counts();
         refused_days();
         refused_events();
+        refused_moves();
         samples_again();
         nothing_lent();
     }

@@ -1,5 +1,6 @@
-/* libFuzzer's harness: the proved entries over a record file, and the writer, beside the plain C ones (tests/reference/c), which are instrumented. An
- * input is one byte for the event's place, one for the room of the output, and the file, whose bytes are also taken as values to write. */
+/* libFuzzer's harness: the proved entries over a record file and over its table, and the writer, beside the plain C ones (tests/reference/c), which
+ * are instrumented. An input is one byte for the event's place, one for the room of the output, and the file, whose bytes are also taken as values
+ * to write. */
 #define _POSIX_C_SOURCE 200809L
 #include <stdio.h>
 #include <stdlib.h>
@@ -13,13 +14,47 @@ int LLVMFuzzerTestOneInput(const uint8_t *data, size_t size);
 size_t LLVMFuzzerMutate(uint8_t *data, size_t size, size_t most);
 size_t LLVMFuzzerCustomMutator(uint8_t *data, size_t size, size_t most, unsigned seed);
 
+/* A fixed-date holiday of a year or, from 8 on, of the year before; 0, where that is not in the calendar. */
+static uint32_t holiday(uint32_t year, uint32_t which)
+{
+    static const uint8_t dates[][2] = {{1, 1}, {1, 6}, {3, 25}, {5, 1}, {8, 15}, {10, 28}, {12, 25}, {12, 26}};
+    return (uint32_t)hp_day(year - which / 8 % 2, dates[which % 8][0], dates[which % 8][1]);
+}
+
+static void put_move_at(uint8_t *at, uint32_t from, uint32_t to)
+{
+    memcpy(at, "MV", 2);
+    at[2] = (uint8_t)from, at[3] = (uint8_t)(from >> 8);
+    at[4] = (uint8_t)to, at[5] = (uint8_t)(to >> 8);
+}
+
+/* Puts a move before all others, sometimes 16 or 17: of holidays about the last event's day to days about it, seldom of days that are none; or takes
+ * the first away. */
+static size_t change_moves(uint8_t *data, size_t size, size_t most, unsigned seed)
+{
+    uint8_t *at = data + 10, *end = data + size;
+    uint32_t day = end[-6] | (uint32_t)end[-5] << 8, kind = seed / 16384 % 8, count = kind == 1 ? 16 + seed / 16 % 2 : 1, i;
+    if (kind == 0 && memcmp(at, "MV", 2) == 0) {
+        memmove(at, at + MOVE_BYTES, (size_t)(end - at) - MOVE_BYTES);
+        return size - MOVE_BYTES;
+    }
+    if (size + count * MOVE_BYTES > most)
+        return size;
+    memmove(at + count * MOVE_BYTES, at, (size_t)(end - at));
+    for (i = 0; i < count; i++)
+        put_move_at(at + i * MOVE_BYTES, holiday(2000 + day / 366, seed + i) + (seed / 1024 % 16 == 0), day + 8 - (seed / 16 + 5 * i) % 64);
+    return size + count * MOVE_BYTES;
+}
+
 /* Three times in four a few bytes are changed where they stand, so that the file stays as laid down; half of these among the first records' heads or
- * the last events. */
+ * the last events. Sometimes its moves are changed instead. */
 size_t LLVMFuzzerCustomMutator(uint8_t *data, size_t size, size_t most, unsigned seed)
 {
     size_t at, length = 1 + seed / 8 % 4, turn = seed / 64;
-    if (seed % 4 == 0 || size < 16)
+    if (seed % 4 == 0 || size < 18)
         return LLVMFuzzerMutate(data, size, most);
+    if (seed / 4 % 2 == 0 && seed / 32 % 2 == 0)
+        return change_moves(data, size, most, seed / 64);
     at = seed % 4 == 1 ? turn % 16 : seed % 4 == 2 ? size - 1 - turn % 16 : turn % size;
     LLVMFuzzerMutate(data + at, length < size - at ? length : size - at, length < size - at ? length : size - at);
     return size;
@@ -42,7 +77,7 @@ static size_t room_of(uint8_t byte, uint32_t length)
 }
 
 /* NAMES: one more than there are. TURNS: an input asks for every fourth name, because each costs a whole call. */
-enum { NAMES = HP_EVENT_NOTICE + 2, TURNS = 4 };
+enum { NAMES = HP_MOVE_TO + 2, TURNS = 4 };
 
 /* The numbers that are due by name: of a refusal, which the others add to. */
 static void tell_refusal(int64_t told[NAMES], uint32_t number, const uint64_t *carried, uint32_t carries)
@@ -66,6 +101,7 @@ static void same_file(const uint8_t *file, size_t length, uint32_t turn, const s
         told[HP_FILE_FIRST] = shape->first;
         told[HP_FILE_DAYS] = shape->days;
         told[HP_FILE_EVENTS] = shape->events;
+        told[HP_FILE_MOVES] = shape->moves;
     }
     for (name = turn; name < NAMES; name += TURNS)
         SAME(hp_file(file, length, name) == told[name]);
@@ -85,6 +121,26 @@ static void same_event(const uint8_t *file, size_t length, size_t place, uint32_
     }
     for (name = turn; name < NAMES; name += TURNS)
         SAME(hp_event(file, length, place, name) == told[name]);
+}
+
+/* Every move of the file, or one place where it has none. */
+static void same_moves(const uint8_t *file, size_t length, size_t place, uint32_t turn, const struct plain_file *shape, uint32_t refused,
+                       uint64_t offset)
+{
+    int64_t told[NAMES];
+    uint32_t moves[32], i, name;
+    tell_refusal(told, refused, &offset, refused ? 1 : 0);
+    for (name = turn; name < NAMES && (refused || place >= shape->moves); name += TURNS)
+        SAME(hp_move(file, length, place, name) == told[name]);
+    if (refused)
+        return;
+    plain_load_moves(file, shape, moves);
+    for (i = 0; i < shape->moves; i++) {
+        told[HP_MOVE_FROM] = moves[2 * i];
+        told[HP_MOVE_TO] = moves[2 * i + 1];
+        for (name = turn; name < NAMES; name += TURNS)
+            SAME(hp_move(file, length, i, name) == told[name]);
+    }
 }
 
 static void tell(int64_t told[NAMES], uint32_t number, const struct plain_answer *answer)
@@ -151,7 +207,7 @@ static void same_listing(const uint8_t *file, size_t length, uint8_t turn)
     free(due);
 }
 
-/* WRITE_ROOM: more than any file has, also one with a day and an event too many. */
+/* WRITE_ROOM: more than any file has, also one with a day, a move and an event too many. */
 enum { WRITE_ROOM = HP_MOST_FILE + 2 * DAY_BYTES };
 
 static struct values values;
@@ -164,8 +220,8 @@ static int64_t same_write(size_t room)
     int64_t given;
     memset(due, UNTOUCHED, sizeof due);
     memset(written, UNTOUCHED, sizeof written);
-    given = plain_write(values.p, values.portfolio, values.first, values.marks, values.days, values.readings, values.count, values.events,
-                        values.numbers, due, room);
+    given = plain_write(values.p, values.portfolio, values.first, values.marks, values.days, values.readings, values.count, values.moves,
+                        values.moved, values.events, values.numbers, due, room);
     SAME(write_values(&values, written, room) == given);
     SAME(memcmp(written, due, sizeof due) == 0);
     return given;
@@ -178,6 +234,69 @@ static void same_again(const uint8_t *file, size_t length, const struct plain_fi
     plain_load(file, shape, values.marks, values.readings);
     SAME(same_write(length) == (int64_t)length);
     SAME(memcmp(written, file, length) == 0);
+}
+
+/* The call over the values' table, by their list. */
+static void same_table(const struct plain_event *event, size_t room, uint32_t turn)
+{
+    const struct values *v = &values;
+    uint32_t due[MOST_ROOM / 4], out[MOST_ROOM / 4], number, name;
+    int64_t told[NAMES];
+    struct plain_answer answer;
+    memset(due, UNTOUCHED, sizeof due);
+    memset(out, UNTOUCHED, sizeof out);
+    number = plain_baseline(v->first, v->marks, v->days, v->readings, v->count, v->moves, v->moved, v->p, event->d, event->s, event->e, event->n, due,
+                            room, &answer);
+    SAME(hp_baseline_table(v->first, v->marks, v->days, v->readings, v->count, v->moves, v->moved, v->p, event->d, event->s, event->e, event->n, out,
+                           room) == number);
+    SAME(memcmp(out, due, sizeof out) == 0);
+    tell(told, plain_baseline(v->first, v->marks, v->days, v->readings, v->count, v->moves, v->moved, v->p, event->d, event->s, event->e, event->n,
+                              due, QUARTERS, &answer), &answer);
+    for (name = turn; name < NAMES; name += TURNS)
+        SAME(hp_told_table(v->first, v->marks, v->days, v->readings, v->count, v->moves, v->moved, v->p, event->d, event->s, event->e, event->n,
+                           name) == told[name]);
+}
+
+/* The values' list with one number changed, or longer or shorter; the four bytes are the portfolio's number, which plays no other part. */
+static void change_list(const uint8_t *from)
+{
+    static const uint32_t ends[] = {HP_LAST_DAY, HP_LAST_DAY + 1, 65536, UINT32_MAX};
+    const uint32_t room = sizeof values.moves / sizeof values.moves[0], place = from[0] % room;
+    uint32_t i;
+    for (i = (uint32_t)values.moved; i < room; i++)
+        values.moves[i] = far_holiday(i / 2) + i % 2;
+    if (from[1] % 4 == 0)
+        values.moved = place + from[2] % 2;
+    else if (from[1] % 4 == 1)
+        values.moves[place] = ends[from[2] % 4];
+    else if (from[1] % 4 == 2)
+        values.moves[place] = from[2] | (uint32_t)from[3] << 8;
+    else
+        values.moves[place] = values.moves[from[2] % room];
+}
+
+/* Another number for almost every input: its first and last bytes, mixed. */
+static uint32_t mixed(const uint8_t *from, size_t size)
+{
+    uint32_t mix = 2166136261u;
+    size_t i;
+    for (i = 0; i < size && i < 64; i++)
+        mix = ((mix ^ from[i]) * 16777619u ^ from[size - 1 - i]) * 16777619u;
+    return mix;
+}
+
+/* The values' table elsewhere in the calendar, and moves of holidays about the event there to days about it. */
+static void change_place(struct plain_event *event, uint32_t mix)
+{
+    uint32_t place = event->d - values.first, i;
+    values.first = mix % (HP_LAST_DAY + 1);
+    values.p = 0;
+    values.moved = 2 * (mix / 65536 % (HP_MOST_MOVES + 1));
+    event->d = values.first + place;
+    for (i = 0; i < values.moved / 2; i++) {
+        values.moves[2 * i] = holiday((uint32_t)hp_date(event->d) / 10000, i + mix / 256);
+        values.moves[2 * i + 1] = event->d - (mix / 4096 + 7 * i) % 64;
+    }
 }
 
 /* Mostly the usual number; else, by the third byte, one about the highest that can be written, one about the end of 32 bits, or any. */
@@ -199,6 +318,17 @@ static void take_events(const uint8_t *from, size_t size, size_t numbers)
         values.events[place] = number_at(from + 12, values.events[place], place % 4 == 0 ? 65535 : 255);
 }
 
+/* So many numbers of moves; one of them may not be the usual. */
+static void take_moves(const uint8_t *from, size_t size, size_t moved)
+{
+    size_t i, place = from[16];
+    values.moved = moved;
+    for (i = 0; i < moved; i++)
+        values.moves[i] = from[2 * i % size] | (uint32_t)from[(2 * i + 1) % size] << 8;
+    if (place < moved)
+        values.moves[place] = number_at(from + 12, values.moves[place], 65535);
+}
+
 /* As many days as these bytes might be, with 96 readings a day, seldom with more or fewer. */
 static void take_table(const uint8_t *from, size_t size)
 {
@@ -213,17 +343,19 @@ static void take_table(const uint8_t *from, size_t size)
     memcpy(values.readings, from, bytes < size ? bytes : size);
 }
 
-/* Any bytes as values, mostly such that can be written: the first twenty say what they are, and all are taken again as marks, readings and events. */
+/* Any bytes as values, mostly such that can be written: the first twenty say what they are, and all are taken again as marks, readings, moves and
+ * events. */
 static void same_values(const uint8_t *from, size_t size, uint8_t turn)
 {
     if (size < 20)
         return;
     take_table(from, size);
     take_events(from, size, from[17] < 200 ? 4 * (from[18] % (HP_MOST_EVENTS + 2u)) : from[18]);
+    take_moves(from, size, from[17] < 200 ? 2 * (from[19] % (HP_MOST_MOVES + 2u)) : from[19] % (2 * HP_MOST_MOVES + 3u));
     values.p = number_at(from, word_at(from) & 65535, 65535);
     values.portfolio = word_at(from + 4);
     values.first = values.days == 0 ? number_at(from + 8, 0, 0) : number_at(from + 8, word_at(from + 8) & 65535, 65536 - (uint32_t)values.days);
-    same_write(8 + DAY_BYTES * values.days + EVENT_BYTES * (values.numbers / 4) + turn % 3 - 1);
+    same_write(8 + MOVE_BYTES * (values.moved / 2) + DAY_BYTES * values.days + EVENT_BYTES * (values.numbers / 4) + turn % 3 - 1);
 }
 
 int LLVMFuzzerTestOneInput(const uint8_t *data, size_t size)
@@ -248,11 +380,19 @@ int LLVMFuzzerTestOneInput(const uint8_t *data, size_t size)
     turn = (uint32_t)(data[1] + length) % TURNS;
     same_file(file, length, turn, &shape, refused, offset);
     same_event(file, length, place, turn, number, offset, &event);
+    same_moves(file, length, place, turn, &shape, refused, offset);
     same_told(file, length, place, turn);
     same_baseline(file, length, place, room_of(data[1], event.e > event.s ? event.e - event.s : 0));
     same_listing(file, length, data[1]);
     if (!refused)
         same_again(file, length, &shape);
+    if (number == HP_ANSWERED) {
+        same_table(&event, data[1], turn);
+        change_list(file + 4);
+        same_table(&event, data[1], turn);
+        change_place(&event, mixed(file, length));
+        same_table(&event, data[1], turn);
+    }
     same_values(file, length, data[1]);
     free(file);
     return 0;

@@ -127,6 +127,12 @@ static struct peer_call *begin_table(uint32_t entry, uint32_t first, const uint8
     return c;
 }
 
+static void lend_moves(struct peer_call *c, const uint32_t *moves, size_t moves_len)
+{
+    copy(c->moves, moves, 4 * moves_len, PEER_IN);
+    c->moves_len = moves_len;
+}
+
 static void ask(struct peer_call *c, uint32_t participation, uint32_t event, uint32_t s, uint32_t e, uint32_t n)
 {
     c->participation = participation;
@@ -151,19 +157,22 @@ int64_t hp_told(const uint8_t *file, size_t file_len, size_t event_place, uint32
 }
 
 uint32_t hp_baseline_table(uint32_t first_day, const uint8_t *marks, size_t marks_len, const uint32_t *readings, size_t readings_len,
-                           uint32_t participation_day, uint32_t event_day, uint32_t event_start, uint32_t event_end, uint32_t notice,
-                           uint32_t *out, size_t out_len)
+                           const uint32_t *moves, size_t moves_len, uint32_t participation_day, uint32_t event_day,
+                           uint32_t event_start, uint32_t event_end, uint32_t notice, uint32_t *out, size_t out_len)
 {
     struct peer_call *c = begin_table(PEER_BASELINE_TABLE, first_day, marks, marks_len, readings, readings_len);
+    lend_moves(c, moves, moves_len);
     ask(c, participation_day, event_day, event_start, event_end, notice);
     c->out_len = out_len;
     return (uint32_t)carry(c, out, 4 * out_len);
 }
 
 int64_t hp_told_table(uint32_t first_day, const uint8_t *marks, size_t marks_len, const uint32_t *readings, size_t readings_len,
-                      uint32_t participation_day, uint32_t event_day, uint32_t event_start, uint32_t event_end, uint32_t notice, uint32_t name)
+                      const uint32_t *moves, size_t moves_len, uint32_t participation_day, uint32_t event_day, uint32_t event_start,
+                      uint32_t event_end, uint32_t notice, uint32_t name)
 {
     struct peer_call *c = begin_table(PEER_TOLD_TABLE, first_day, marks, marks_len, readings, readings_len);
+    lend_moves(c, moves, moves_len);
     ask(c, participation_day, event_day, event_start, event_end, notice);
     c->name = name;
     return carry(c, NULL, 0);
@@ -190,6 +199,13 @@ int64_t hp_event(const uint8_t *file, size_t file_len, size_t event_place, uint3
     return carry(c, NULL, 0);
 }
 
+int64_t hp_move(const uint8_t *file, size_t file_len, size_t move_place, uint32_t name)
+{
+    struct peer_call *c = begin_file(PEER_MOVE, file, file_len, move_place);
+    c->name = name;
+    return carry(c, NULL, 0);
+}
+
 int64_t hp_listing(const uint8_t *file, size_t file_len, uint8_t *out, size_t out_len)
 {
     struct peer_call *c = begin_file(PEER_LISTING, file, file_len, 0);
@@ -198,9 +214,11 @@ int64_t hp_listing(const uint8_t *file, size_t file_len, uint8_t *out, size_t ou
 }
 
 int64_t hp_write(uint32_t participation_day, uint32_t portfolio, uint32_t first_day, const uint8_t *marks, size_t marks_len,
-                 const uint32_t *readings, size_t readings_len, const uint32_t *events, size_t events_len, uint8_t *out, size_t out_len)
+                 const uint32_t *readings, size_t readings_len, const uint32_t *moves, size_t moves_len, const uint32_t *events,
+                 size_t events_len, uint8_t *out, size_t out_len)
 {
     struct peer_call *c = begin_table(PEER_WRITE, first_day, marks, marks_len, readings, readings_len);
+    lend_moves(c, moves, moves_len);
     copy(c->events, events, 4 * events_len, PEER_IN);
     c->events_len = events_len;
     c->participation = participation_day;

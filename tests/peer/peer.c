@@ -13,21 +13,24 @@ static int64_t carry_out(struct peer_call *c)
     case PEER_TOLD:
         return hp_told(c->file, c->file_len, c->place, c->name);
     case PEER_BASELINE_TABLE:
-        return hp_baseline_table(c->first, c->file, c->file_len, c->readings, c->readings_len, c->participation, c->event, c->s, c->e, c->n,
-                                 (uint32_t *)(void *)c->out, c->out_len);
+        return hp_baseline_table(c->first, c->file, c->file_len, c->readings, c->readings_len, c->moves, c->moves_len, c->participation, c->event,
+                                 c->s, c->e, c->n, (uint32_t *)(void *)c->out, c->out_len);
     case PEER_TOLD_TABLE:
-        return hp_told_table(c->first, c->file, c->file_len, c->readings, c->readings_len, c->participation, c->event, c->s, c->e, c->n, c->name);
+        return hp_told_table(c->first, c->file, c->file_len, c->readings, c->readings_len, c->moves, c->moves_len, c->participation, c->event, c->s,
+                             c->e, c->n, c->name);
     case PEER_DAY_PART:
         return hp_day_part(c->first, c->file, c->file_len, c->readings, c->readings_len, c->event);
     case PEER_FILE:
         return hp_file(c->file, c->file_len, c->name);
     case PEER_EVENT:
         return hp_event(c->file, c->file_len, c->place, c->name);
+    case PEER_MOVE:
+        return hp_move(c->file, c->file_len, c->place, c->name);
     case PEER_LISTING:
         return hp_listing(c->file, c->file_len, c->out, c->out_len);
     case PEER_WRITE:
-        return hp_write(c->participation, c->portfolio, c->first, c->file, c->file_len, c->readings, c->readings_len, c->events, c->events_len,
-                        c->out, c->out_len);
+        return hp_write(c->participation, c->portfolio, c->first, c->file, c->file_len, c->readings, c->readings_len, c->moves, c->moves_len,
+                        c->events, c->events_len, c->out, c->out_len);
     case PEER_DAY:
         return hp_day(c->s, c->e, c->n);
     case PEER_DATE:

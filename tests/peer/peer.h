@@ -6,16 +6,17 @@
 #include <stdint.h>
 
 enum { PEER_IN = 1 << 18, PEER_OUT = 1 << 18, PEER_GUARD = 4096, PEER_MEMORY_FD = 3 };
-enum peer_entry { PEER_BASELINE, PEER_TOLD, PEER_BASELINE_TABLE, PEER_TOLD_TABLE, PEER_DAY_PART, PEER_FILE, PEER_EVENT, PEER_LISTING, PEER_WRITE,
-                  PEER_DAY, PEER_DATE, PEER_VERSION };
+enum peer_entry { PEER_BASELINE, PEER_TOLD, PEER_BASELINE_TABLE, PEER_TOLD_TABLE, PEER_DAY_PART, PEER_FILE, PEER_EVENT, PEER_MOVE, PEER_LISTING,
+                  PEER_WRITE, PEER_DAY, PEER_DATE, PEER_VERSION };
 
 struct peer_call {
     uint32_t entry, name;
     uint32_t first, participation, event, s, e, n, portfolio;
-    uint64_t file_len, place, out_len, readings_len, events_len;
+    uint64_t file_len, place, out_len, readings_len, moves_len, events_len;
     int64_t given;         /* what the entry gives back */
     uint8_t file[PEER_IN]; /* or the marks */
     uint32_t readings[PEER_IN / 4];
+    uint32_t moves[PEER_IN / 4];
     uint32_t events[PEER_IN / 4];
     uint8_t before_out[PEER_GUARD];
     uint8_t out[PEER_OUT + PEER_GUARD];

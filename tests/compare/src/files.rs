@@ -1,9 +1,12 @@
 //! The proved entries over a record file, beside the reference.
 
-use crate::told::{some_names, Told};
+use crate::lists::{count_event, count_file};
+use crate::met::Counts;
+use crate::told::{some_names, Told, MOVE};
 use crate::writing::{self, compare_again};
 use crate::{begins, same, PlainAnswer, QUARTERS};
 use reference::calendar::{group_of, Group};
+use reference::moves::MOVE_NUMBERS;
 use reference::record::{read, Contents};
 use reference::{listing, verdict, Answer, Refusal};
 
@@ -12,6 +15,7 @@ extern "C" {
     fn hp_told(file: *const u8, file_len: usize, place: usize, name: u32) -> i64;
     fn hp_file(file: *const u8, file_len: usize, name: u32) -> i64;
     fn hp_event(file: *const u8, file_len: usize, place: usize, name: u32) -> i64;
+    fn hp_move(file: *const u8, file_len: usize, place: usize, name: u32) -> i64;
     fn hp_listing(file: *const u8, file_len: usize, out: *mut u8, out_len: usize) -> i64;
     fn plain_host(file: *const u8, length: usize, place: usize, out: *mut u8, room: usize, answer: *mut PlainAnswer) -> u32;
 }
@@ -48,6 +52,12 @@ pub fn proved_event(file: &[u8], place: usize, name: u32) -> i64 {
     unsafe { hp_event(file.as_ptr(), file.len(), place, name) }
 }
 
+/// What is told of the move at a place.
+pub fn proved_move(file: &[u8], place: usize, name: u32) -> i64 {
+    // SAFETY: as above.
+    unsafe { hp_move(file.as_ptr(), file.len(), place, name) }
+}
+
 /// The length of the listing or -7, and the output after the call.
 pub fn proved_listing(file: &[u8], room: usize) -> (i64, Vec<u8>) {
     let mut out = vec![FILL; room];
@@ -74,7 +84,7 @@ pub fn bytes_of(numerators: &[u32]) -> Vec<u8> {
 fn expected_result(read: &Result<Contents, Refusal>, place: usize, room: usize) -> Result<Answer, Refusal> {
     let contents = read.as_ref().map_err(|&refusal| refusal)?;
     let request = contents.events.get(place).ok_or(Refusal::NoEvent)?;
-    verdict(contents.table.view(), request, room / 4)
+    verdict(contents.table.view(), &contents.moves, request, room / 4)
 }
 
 /// The number and the output that a result calls for.
@@ -85,13 +95,15 @@ fn expected_output(result: &Result<Answer, Refusal>, room: usize) -> (u32, Vec<u
     }
 }
 
-/// How often each outcome was met: answers by group of the event day, refusals by number, listings, and files written again.
+/// How often each outcome was met: answers by group of the event day, refusals by number, what comes of moves, listings, and files written again.
 #[derive(Default, Debug, Clone)]
 pub struct Met {
     pub weekdays: u64,
     pub saturdays: u64,
     pub holidays: u64,
-    pub refused: [u64; 13],
+    pub refused: [u64; 15],
+    pub moves: Counts,
+    pub moved_events: Counts,
     pub listed: u64,
     pub written: u64,
 }
@@ -100,7 +112,7 @@ impl Met {
     fn count(&mut self, read: &Result<Contents, Refusal>, place: usize, answer: &Result<Answer, Refusal>) {
         match (read, answer) {
             (_, Err(refusal)) => self.refused[refusal.number() as usize] += 1,
-            (Ok(contents), Ok(_)) => match group_of(contents.events[place].d).expect("an answered day") {
+            (Ok(contents), Ok(_)) => match group_of(contents.events[place].d, &contents.moves).expect("an answered day") {
                 Group::Weekday => self.weekdays += 1,
                 Group::Saturday => self.saturdays += 1,
                 Group::Holiday => self.holidays += 1,
@@ -109,10 +121,15 @@ impl Met {
         }
     }
 
-    /// The least that was met of anything that can be.
+    /// The least that was met of anything that can be; 13 is the writer's.
     pub fn least(&self) -> u64 {
         let answers = [self.weekdays, self.saturdays, self.holidays];
-        *answers.iter().chain(&self.refused[1..]).min().unwrap()
+        *answers.iter().chain(&self.refused[1..=12]).chain(&self.refused[14..]).min().unwrap()
+    }
+
+    /// The least that was met of what comes of moves.
+    pub fn least_moves(&self) -> u64 {
+        self.moves.least().min(self.moved_events.least())
     }
 }
 
@@ -144,11 +161,26 @@ fn room(read: &Result<Contents, Refusal>, place: usize, seed: u64) -> usize {
     }
 }
 
+/// Compares what is told of a file's moves: both days of each, the first that is not there, and now and then one far off.
+fn compare_moves(file: &[u8], read: &Result<Contents, Refusal>, seed: u64) -> Result<(), String> {
+    let count = read.as_ref().map_or(0, |contents| contents.moves.len() / MOVE_NUMBERS);
+    let far = (seed % 64 == 2).then(|| usize::MAX - seed as usize % 3);
+    for place in (0..=count).chain(far) {
+        let days = [MOVE, MOVE + 1].map(|name| name as u32);
+        let names = if count == 0 { some_names(seed) } else { [&days[..], &some_names(seed)].concat() };
+        let what = format!("hp_move at place {place}");
+        Told::of_move(read, place).check(&what, &names, |name| proved_move(file, place, name))?;
+    }
+    Ok(())
+}
+
 /// Compares every entry over a file with the reference; the seed only picks places, rooms and names.
 pub fn compare(file: &[u8], seed: u64, met: &mut Met) -> Result<(), String> {
     let read = read(file);
     let events = read.as_ref().map_or(0, |contents| contents.events.len());
     Told::of_file(&read).check("hp_file", &some_names(seed), |name| proved_file(file, name))?;
+    compare_moves(file, &read, seed)?;
+    count_file(file, &read, &mut met.moves);
     for (turn, place) in places(events, seed).into_iter().enumerate() {
         let seed = seed + 5 * turn as u64;
         let room = room(&read, place, seed);
@@ -156,6 +188,9 @@ pub fn compare(file: &[u8], seed: u64, met: &mut Met) -> Result<(), String> {
         let at = |entry: &str| format!("{entry} at place {place} with {room} bytes");
         same(&at("hp_baseline"), &proved(file, place, room), &expected_output(&result, room))?;
         met.count(&read, place, &result);
+        if let Ok(contents) = &read {
+            count_event(contents, place, room / 4, &result, &mut met.moved_events);
+        }
         let told = match result {
             Err(Refusal::Room) => Told::of(&expected_result(&read, place, 4 * QUARTERS)),
             _ => Told::of(&result),

@@ -1,13 +1,16 @@
 //! The proved calls, through the archive's C entries, and the plain C version, beside the reference.
 
 pub mod files;
+pub mod lists;
+pub mod met;
 pub mod probe;
 pub mod program;
 pub mod shrink;
 pub mod told;
 pub mod writing;
 
-use reference::{verdict, Answer, Refusal, Request, Table};
+use met::Counts;
+use reference::{verdict, Answer, Draft, Refusal, Request, Table};
 use told::{some_names, Told, NOTHING};
 
 /// What an output holds before a call.
@@ -46,10 +49,12 @@ macro_rules! over_a_table {
 }
 
 over_a_table! {
-    hp_baseline_table(p: u32, d: u32, s: u32, e: u32, n: u32, out: *mut u32, room: usize) -> u32;
-    hp_told_table(p: u32, d: u32, s: u32, e: u32, n: u32, name: u32) -> i64;
+    hp_baseline_table(moves: *const u32, moves_len: usize, p: u32, d: u32, s: u32, e: u32, n: u32, out: *mut u32, room: usize) -> u32;
+    hp_told_table(moves: *const u32, moves_len: usize, p: u32, d: u32, s: u32, e: u32, n: u32, name: u32) -> i64;
     hp_day_part(day: u32) -> i64;
-    plain_baseline(p: u32, d: u32, s: u32, e: u32, n: u32, out: *mut u32, room: usize, answer: *mut PlainAnswer) -> u32;
+    plain_baseline(
+        moves: *const u32, moves_len: usize, p: u32, d: u32, s: u32, e: u32, n: u32, out: *mut u32, room: usize, answer: *mut PlainAnswer
+    ) -> u32;
 }
 
 extern "C" {
@@ -87,18 +92,27 @@ macro_rules! call {
     }};
 }
 
+/// A list as C lends it: where there is none, no address either.
+fn lent(moves: &[u32]) -> *const u32 {
+    if moves.is_empty() {
+        std::ptr::null()
+    } else {
+        moves.as_ptr()
+    }
+}
+
 /// 0 or the refusal number, and an output of so many words after the call.
-pub fn proved(table: &Table, request: &Request, room: usize) -> (u32, Vec<u32>) {
+pub fn proved(table: &Table, moves: &[u32], request: &Request, room: usize) -> (u32, Vec<u32>) {
     let Request { p, d, s, e, n } = *request;
     let mut out = vec![UNTOUCHED; room];
-    let number = call!(hp_baseline_table, table, p, d, s, e, n, out.as_mut_ptr(), room);
+    let number = call!(hp_baseline_table, table, lent(moves), moves.len(), p, d, s, e, n, out.as_mut_ptr(), room);
     (number, out)
 }
 
 /// What is told of the result by a name.
-pub fn proved_told(table: &Table, request: &Request, name: u32) -> i64 {
+pub fn proved_told(table: &Table, moves: &[u32], request: &Request, name: u32) -> i64 {
     let Request { p, d, s, e, n } = *request;
-    call!(hp_told_table, table, p, d, s, e, n, name)
+    call!(hp_told_table, table, lent(moves), moves.len(), p, d, s, e, n, name)
 }
 
 /// The place of a day's first reading, or nothing.
@@ -107,11 +121,12 @@ pub fn proved_part(table: &Table, day: u32) -> i64 {
 }
 
 /// The plain C version: its number and output, and what it tells.
-pub fn plain(table: &Table, request: &Request, room: usize) -> ((u32, Vec<u32>), Told) {
+pub fn plain(call: &Draft) -> ((u32, Vec<u32>), Told) {
+    let Draft { table, moves, request, room } = call;
     let Request { p, d, s, e, n } = *request;
-    let mut out = vec![UNTOUCHED; room];
+    let mut out = vec![UNTOUCHED; *room];
     let mut answer = PlainAnswer::default();
-    let number = call!(plain_baseline, table, p, d, s, e, n, out.as_mut_ptr(), room, &mut answer);
+    let number = call!(plain_baseline, table, lent(moves), moves.len(), p, d, s, e, n, out.as_mut_ptr(), *room, &mut answer);
     ((number, out), Told::of_plain(number, &answer))
 }
 
@@ -144,19 +159,25 @@ fn expected_part(table: &Table, day: u32) -> i64 {
 }
 
 /// Compares one generated call, what is told of it and the part of a day; gives its number, 0 for an answer.
-pub fn compare(seed: u64) -> Result<u32, String> {
-    let (table, request, room) = reference::gen_call(seed);
-    compare_call(&table, &request, room, seed).map_err(|difference| format!("seed {seed}: {request:?}: {difference}"))
+pub fn compare(seed: u64, met: &mut Counts) -> Result<u32, String> {
+    let call = reference::gen_call(seed);
+    let number = compare_call(&call, seed).map_err(|difference| {
+        let Draft { request, moves, .. } = &call;
+        format!("seed {seed}: {request:?}, moves {moves:?}: {difference}")
+    })?;
+    lists::count_call(&call, number, met);
+    Ok(number)
 }
 
-fn compare_call(table: &Table, request: &Request, room: usize, seed: u64) -> Result<u32, String> {
-    let mut result = verdict(table.view(), request, room);
-    let (number, output) = expected_output(&result, room);
-    same("hp_baseline_table", &proved(table, request, room), &(number, output))?;
+fn compare_call(call: &Draft, seed: u64) -> Result<u32, String> {
+    let Draft { table, moves, request, room } = call;
+    let mut result = verdict(table.view(), moves, request, *room);
+    let (number, output) = expected_output(&result, *room);
+    same("hp_baseline_table", &proved(table, moves, request, *room), &(number, output))?;
     if result == Err(Refusal::Room) {
-        result = verdict(table.view(), request, QUARTERS);
+        result = verdict(table.view(), moves, request, QUARTERS);
     }
-    Told::of(&result).check("hp_told_table", &some_names(seed), |name| proved_told(table, request, name))?;
+    Told::of(&result).check("hp_told_table", &some_names(seed), |name| proved_told(table, moves, request, name))?;
     if seed % 16 == 0 {
         for day in some_days(table, request, seed / 16) {
             same(&format!("hp_day_part of {day}"), &proved_part(table, day), &expected_part(table, day))?;

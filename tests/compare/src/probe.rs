@@ -41,13 +41,14 @@ pub enum Standing {
 #[derive(Clone)]
 pub struct Event {
     pub table: Table,
+    pub moves: Vec<u32>,
     pub request: Request,
 }
 
 /// Replies.
 impl Event {
     fn told(&self, name: u32) -> i64 {
-        let told = proved_told(&self.table, &self.request, name);
+        let told = proved_told(&self.table, &self.moves, &self.request, name);
         assert_ne!(told, NOTHING, "name {name} of {:?}", self.request);
         told
     }
@@ -77,7 +78,7 @@ impl Event {
     }
 
     pub fn numerators(&self) -> Vec<i64> {
-        let (number, out) = proved(&self.table, &self.request, (self.request.e - self.request.s) as usize);
+        let (number, out) = proved(&self.table, &self.moves, &self.request, (self.request.e - self.request.s) as usize);
         assert_eq!(number, 0, "{:?}", self.request);
         out.into_iter().map(i64::from).collect()
     }

@@ -1,12 +1,14 @@
 //! A smaller file that still fails, kept under build/failures/.
 
+use reference::moves::MOST_MOVES;
+use reference::record::{MV_LENGTH, PF_LENGTH};
 use std::path::PathBuf;
 use std::time::{Duration, Instant};
 
 /// How long smaller files are tried.
 const LONGEST: Duration = Duration::from_secs(20);
 
-/// Takes out ever smaller stretches, then sets bytes to zero, as long as the file still fails.
+/// Takes out moves, then ever smaller stretches, then sets bytes to zero, as long as the file still fails.
 pub fn shrink(file: &[u8], fails: impl Fn(&[u8]) -> bool) -> Vec<u8> {
     let mut best = file.to_vec();
     let began = Instant::now();
@@ -15,7 +17,14 @@ pub fn shrink(file: &[u8], fails: impl Fn(&[u8]) -> bool) -> Vec<u8> {
             *best = smaller;
         }
     };
-    for stretch in [390 * 64, 390 * 16, 390 * 4, 390, 8, 1] {
+    for place in (0..MOST_MOVES).rev() {
+        let at = PF_LENGTH + MV_LENGTH * place;
+        if best.get(at..).is_some_and(|rest| rest.starts_with(b"MV")) {
+            let smaller = [&best[..at], &best[(at + MV_LENGTH).min(best.len())..]].concat();
+            attempt(&mut best, smaller);
+        }
+    }
+    for stretch in [390 * 64, 390 * 16, 390 * 4, 390, 8, 6, 1] {
         let mut at = best.len();
         while at > 0 {
             at = at.saturating_sub(stretch);

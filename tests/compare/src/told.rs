@@ -1,6 +1,7 @@
-//! What is told of a result, of a file and of an event, one number a name (include/honeyplank.h).
+//! What is told of a result, of a file, of an event and of a move, one number a name (include/honeyplank.h).
 
 use crate::PlainAnswer;
+use reference::moves::MOVE_NUMBERS;
 use reference::record::Contents;
 use reference::{Answer, Refusal};
 
@@ -8,7 +9,7 @@ use reference::{Answer, Refusal};
 pub const NOTHING: i64 = i64::MIN;
 
 /// How many names there are, from 0 on.
-pub const NAMES: usize = 21;
+pub const NAMES: usize = 24;
 
 /// The first names of each kind; those of a kind follow one another. tests/c/header.cpp holds the header to the same numbers.
 const RESULT: usize = 0;
@@ -18,6 +19,8 @@ pub const DAYS: usize = 4;
 const REACH: usize = 9;
 const FILE: usize = 12;
 const EVENT: usize = 17;
+const FILE_MOVES: usize = 21;
+pub const MOVE: usize = 22;
 
 /// The numbers by name.
 #[derive(Clone, Copy, PartialEq, Eq, Debug)]
@@ -59,9 +62,10 @@ impl Told {
     /// Of a file.
     pub fn of_file(read: &Result<Contents, Refusal>) -> Told {
         let mut told = Told::of_refusal(read.as_ref().err());
-        if let Ok(Contents { p, portfolio, table, events }) = read {
+        if let Ok(Contents { p, portfolio, moves, table, events }) = read {
             let (days, events) = (table.marks.len() as i64, events.len() as i64);
             told.put(FILE, [i64::from(*p), i64::from(*portfolio), i64::from(table.first), days, events]);
+            told.put(FILE_MOVES, [(moves.len() / MOVE_NUMBERS) as i64]);
         }
         told
     }
@@ -73,6 +77,14 @@ impl Told {
         if let Ok(r) = event {
             told.put(EVENT, [r.d, r.s, r.e, r.n].map(i64::from));
         }
+        told
+    }
+
+    /// Of the move at a place of a file: nothing past the last one, and no refusal either.
+    pub fn of_move(read: &Result<Contents, Refusal>, place: usize) -> Told {
+        let mut told = Told::of_refusal(read.as_ref().err());
+        let pair = read.as_ref().ok().and_then(|c| c.moves.chunks(MOVE_NUMBERS).nth(place));
+        told.put(MOVE, pair.into_iter().flatten().map(|&day| i64::from(day)));
         told
     }
 

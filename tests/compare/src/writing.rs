@@ -1,12 +1,14 @@
 //! The writers of the record file, the proved one and plain C's, beside the reference's.
 
 use crate::files::{self, FILL};
+use crate::lent;
+use crate::met::Counts;
 use reference::calendar::LAST_DAY;
-use reference::record::{Contents, MOST_EVENTS};
+use reference::moves::{first_days, second_days, MOST_MOVES, MOVE_NUMBERS};
+use reference::record::{Contents, MOST_EVENTS, MV_LENGTH};
 use reference::table::{EVENT, HIGHEST, MISSING, MOST_DAYS, OUTAGE, QUARTERS};
 use reference::writer::{Reason, Values, EVENT_NUMBERS};
 use reference::{gen_writing, write};
-use std::fmt;
 
 /// Declares C writers, and makes of each a function that gives back the length, or minus the refusal number.
 macro_rules! writers {
@@ -20,6 +22,8 @@ macro_rules! writers {
                 days: usize,
                 readings: *const u32,
                 count: usize,
+                moves: *const u32,
+                moves_len: usize,
                 events: *const u32,
                 events_len: usize,
                 out: *mut u8,
@@ -27,7 +31,7 @@ macro_rules! writers {
             ) -> i64;)*
         }
         $(pub fn $safe(values: &Values, out: &mut [u8]) -> i64 {
-            let Values { p, portfolio, table, events } = values;
+            let Values { p, portfolio, table, moves, events } = values;
             let (marks, readings) = (&table.marks, &table.readings);
             // SAFETY: every pointer is lent with its own length, and no two overlap.
             unsafe {
@@ -39,6 +43,8 @@ macro_rules! writers {
                     marks.len(),
                     readings.as_ptr(),
                     readings.len(),
+                    lent(moves),
+                    moves.len(),
                     events.as_ptr(),
                     events.len(),
                     out.as_mut_ptr(),
@@ -53,6 +59,9 @@ writers! {
     proved = hp_write;
     plain = plain_write;
 }
+
+/// No file is longer (include/honeyplank.h, HP_MOST_FILE).
+const MOST_FILE: usize = 50_536;
 
 /// So many bytes stand before and after what is lent.
 const AROUND: usize = 64;
@@ -105,7 +114,7 @@ fn compare_writing(values: &Values, room: usize, seed: u64, met: &mut Met) -> Re
     let due = Lent::by(|out| write(values, out), room, turn);
     due.check("hp_write", &Lent::by(|out| proved(values, out), room, turn))?;
     due.check("plain_write", &Lent::by(|out| plain(values, out), room, turn))?;
-    met.count(values, room, due.given);
+    count(&Case { values, room, given: due.given }, met);
     match due.file() {
         Some(file) if seed % 8 == 0 => files::compare(file, seed, &mut files::Met::default()),
         _ => Ok(()),
@@ -137,6 +146,18 @@ impl Case<'_> {
 
     fn events(&self) -> usize {
         self.values.events.len() / EVENT_NUMBERS
+    }
+
+    fn moves(&self) -> usize {
+        self.values.moves.len() / MOVE_NUMBERS
+    }
+
+    fn first_day(&self, day: u32) -> bool {
+        first_days(&self.values.moves).any(|other| other == day)
+    }
+
+    fn second_day(&self, day: u32) -> bool {
+        second_days(&self.values.moves).any(|other| other == day)
     }
 
     /// The last day held, which need not be one of 32 bits.
@@ -173,7 +194,7 @@ impl Case<'_> {
 type Outcome = (&'static str, fn(&Case) -> bool);
 
 /// What has to come up: each side of each edge, each reason alone, and refusals that go before others.
-const OUTCOMES: [Outcome; 39] = [
+const OUTCOMES: [Outcome; 53] = [
     ("written with just enough room", |c| c.written() && c.room == c.values.length()),
     ("with more", |c| c.written() && c.room > c.values.length()),
     ("with no days", |c| c.written() && c.days() == 0),
@@ -181,6 +202,12 @@ const OUTCOMES: [Outcome; 39] = [
     ("with 128 days", |c| c.written() && c.days() == MOST_DAYS),
     ("with 64 events", |c| c.written() && c.events() == MOST_EVENTS),
     ("with both", |c| c.written() && c.days() == MOST_DAYS && c.events() == MOST_EVENTS),
+    ("with a move", |c| c.written() && c.moves() == 1),
+    ("with 16 moves", |c| c.written() && c.moves() == MOST_MOVES),
+    ("with all three", |c| c.written() && c.room >= MOST_FILE && c.values.length() == MOST_FILE),
+    ("with moves and no days", |c| c.written() && c.moves() > 0 && c.days() == 0),
+    ("with first day 65,535", |c| c.written() && c.first_day(65_535)),
+    ("with second day 65,535", |c| c.written() && c.second_day(65_535)),
     ("with P 65,535", |c| c.written() && c.values.p == 65_535),
     ("with day 36,525", |c| c.written() && c.last_day() == Some(u64::from(LAST_DAY) + 1)),
     ("with day 65,535", |c| c.written() && c.last_day() == Some(65_535)),
@@ -197,6 +224,12 @@ const OUTCOMES: [Outcome; 39] = [
     ("1 for readings and no days", |c| c.days() == 0 && c.given == -1),
     ("13 for 65 events", |c| c.for_alone(Reason::Events) && c.events() == MOST_EVENTS + 1),
     ("13 for an event cut", |c| c.for_alone(Reason::Fours)),
+    ("13 for 17 moves", |c| c.for_alone(Reason::Moves) && c.moves() == MOST_MOVES + 1),
+    ("13 for a move cut", |c| c.for_alone(Reason::Twos)),
+    ("13 for first day 65,536", |c| c.for_alone(Reason::First) && c.first_day(65_536)),
+    ("13 for a higher first day", |c| c.for_alone(Reason::First) && c.first_day(u32::MAX)),
+    ("13 for second day 65,536", |c| c.for_alone(Reason::Second) && c.second_day(65_536)),
+    ("13 for a higher second day", |c| c.for_alone(Reason::Second) && c.second_day(u32::MAX)),
     ("13 for P 65,536", |c| c.for_alone(Reason::P) && c.values.p == 65_536),
     ("13 for a higher P", |c| c.for_alone(Reason::P) && c.values.p > 65_536),
     ("13 for day 65,536", |c| c.for_alone(Reason::Held) && c.last_day() == Some(65_536)),
@@ -208,6 +241,8 @@ const OUTCOMES: [Outcome; 39] = [
     ("13 for no days and F 1", |c| c.for_alone(Reason::NoDays) && c.values.table.first == 1),
     ("13 for no days and another F", |c| c.for_alone(Reason::NoDays) && c.values.table.first > 1),
     ("7 for one byte", |c| c.given == -7 && c.room + 1 == c.values.length()),
+    ("7 for one byte with moves", |c| c.given == -7 && c.moves() > 0 && c.room + 1 == c.values.length()),
+    ("7 for the moves alone", |c| c.given == -7 && c.room == c.values.length() - MV_LENGTH * c.moves()),
     ("7 for no room", |c| c.given == -7 && c.room == 0),
     ("1 before 13", |c| c.reasons() == [true, true, false]),
     ("1 before 7", |c| c.reasons() == [true, false, true]),
@@ -216,31 +251,8 @@ const OUTCOMES: [Outcome; 39] = [
 ];
 
 /// How often each outcome was met.
-pub struct Met([u64; OUTCOMES.len()]);
+pub type Met = Counts;
 
-impl Default for Met {
-    fn default() -> Met {
-        Met([0; OUTCOMES.len()])
-    }
-}
-
-impl Met {
-    fn count(&mut self, values: &Values, room: usize, given: i64) {
-        let case = Case { values, room, given };
-        for (count, (_, met)) in self.0.iter_mut().zip(OUTCOMES) {
-            *count += u64::from(met(&case));
-        }
-    }
-
-    /// The least that was met of any.
-    pub fn least(&self) -> u64 {
-        *self.0.iter().min().unwrap()
-    }
-}
-
-impl fmt::Debug for Met {
-    fn fmt(&self, f: &mut fmt::Formatter) -> fmt::Result {
-        let named = OUTCOMES.iter().zip(self.0).map(|((name, _), count)| format!("{name} {count}"));
-        f.write_str(&named.collect::<Vec<_>>().join(", "))
-    }
+fn count(case: &Case, met: &mut Met) {
+    met.count(OUTCOMES.iter().map(|(name, is)| (*name, is(case))));
 }

@@ -4,7 +4,7 @@
 use compare::files::{proved_event, proved_file, proved_listing, MOST_LISTING};
 use compare::probe::{Event, Standing};
 use compare::proved_date;
-use reference::record::read;
+use reference::record::{read, Contents};
 use reference::table::{EVENT, MISSING, OUTAGE};
 use reference::{Request, Table};
 
@@ -133,7 +133,7 @@ fn marks(event: &Event) -> Vec<String> {
 }
 
 fn portfolio(event: &Event) -> Vec<String> {
-    let Event { table: held, request } = event;
+    let Event { table: held, request, .. } = event;
     let last = held.first + held.marks.len() as u32 - 1;
     let days = [("participation starts, P", request.p), ("first day held, F", held.first), ("last day held", last)];
     let rows = days.map(|(what, day)| vec![what.to_string(), whole_date(day), day.to_string()]);
@@ -300,7 +300,8 @@ fn event(file: &[u8], place: usize) -> Event {
     let told = |name: u32| proved_event(file, place, name) as u32;
     let [d, s, e, n] = [0, 1, 2, 3].map(|name| told(EVENT_DAY + name));
     let p = proved_file(file, FILE_PARTICIPATION) as u32;
-    Event { table: read(file).expect("a record file").table, request: Request { p, d, s, e, n } }
+    let Contents { table, moves, .. } = read(file).expect("a record file");
+    Event { table, moves, request: Request { p, d, s, e, n } }
 }
 
 #[test]

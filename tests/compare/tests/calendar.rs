@@ -1,10 +1,11 @@
-//! The archive's days and dates against the reference's walk through the hundred years.
+//! The archive's days, dates and moved holidays against the reference's walk through the hundred years.
 
 use compare::program::root;
 use compare::told::NOTHING;
-use compare::{proved_date, proved_day, proved_version};
-use reference::calendar::{dates, Date};
-use std::collections::HashMap;
+use compare::{expected_output, proved, proved_date, proved_day, proved_version};
+use reference::calendar::{dates, fixed_holidays, Date, LAST_DAY};
+use reference::{verdict, Request, Table};
+use std::collections::{HashMap, HashSet};
 
 #[test]
 fn every_day_has_its_date() {
@@ -33,6 +34,40 @@ fn every_date_has_its_day() {
         }
     }
     assert_eq!(found, dates().len());
+}
+
+/// Every day as the first of a pair and as the second, with days past the calendar, by an event that is refused 9 where the list is taken.
+#[test]
+fn every_day_in_a_list() {
+    let table = Table { first: 0, marks: vec![0], readings: vec![1000; 96] };
+    let ask = Request { p: 0, d: 0, s: 152, e: 156, n: 148 };
+    let fixed: HashSet<u32> = fixed_holidays().iter().copied().collect();
+    let number = |moves: &[u32]| proved(&table, moves, &ask, 4).0;
+    for day in (0..=LAST_DAY + 1_000).chain([65_535, 65_536, 1 << 31, u32::MAX]) {
+        assert_eq!(number(&[day, 7]), if fixed.contains(&day) { 9 } else { 14 }, "first day {day}");
+        assert_eq!(number(&[fixed_holidays()[1], day]), if day <= LAST_DAY { 9 } else { 14 }, "second day {day}");
+    }
+}
+
+/// Each fixed-date holiday moved, with events on the day, right after it and at the ends of the look-back.
+#[test]
+fn every_fixed_holiday_moved() {
+    let mut answered = 0;
+    for &holiday in fixed_holidays() {
+        for d in [0, 1, 2, 7, 45, 46].map(|later| (holiday + later).min(LAST_DAY)) {
+            let first = d.saturating_sub(47);
+            let readings = (first..=d).flat_map(|day| [1000 + day % 10; 96]).collect();
+            let table = Table { first, marks: vec![0; (d - first + 1) as usize], readings };
+            let ask = Request { p: 0, d, s: 152, e: 156, n: 148 };
+            for second in [holiday, holiday + 1, d.saturating_sub(1), d, LAST_DAY] {
+                let moves = [holiday, second];
+                let due = expected_output(&verdict(table.view(), &moves, &ask, 4), 4);
+                assert_eq!(proved(&table, &moves, &ask, 4), due, "event day {d}, moves {moves:?}");
+                answered += u32::from(due.0 == 0);
+            }
+        }
+    }
+    assert!(answered > 20_000, "{answered}");
 }
 
 #[test]

@@ -1,5 +1,6 @@
 //! The proved call and the reference agree: every number, and every word of the output.
 
+use compare::met::Counts;
 use compare::told::{some_names, Told, NAMES};
 use compare::{compare, expected_output, plain};
 use reference::{gen_call, verdict};
@@ -9,15 +10,17 @@ const CALLS: u64 = 300_000;
 
 #[test]
 fn generated_calls_agree() {
-    let mut outcomes = [0u64; 11];
+    let mut outcomes = [0u64; 15];
+    let mut lists = Counts::default();
     for seed in 0..CALLS {
-        match compare(seed) {
+        match compare(seed, &mut lists) {
             Ok(number) => outcomes[number as usize] += 1,
             Err(difference) => panic!("{difference}"),
         }
     }
-    println!("{CALLS} calls from seed 0: {outcomes:?}");
-    assert!(outcomes.iter().all(|&n| n > 1000), "each outcome occurs: {outcomes:?}");
+    println!("{CALLS} calls from seed 0: {outcomes:?}; of those with a list: {lists:?}");
+    assert!(outcomes[..=10].iter().all(|&n| n > 1000) && outcomes[14] > 1000, "each outcome occurs: {outcomes:?}");
+    assert!(lists.least() > 100, "each outcome of a list occurs: {lists:?}");
 }
 
 /// Each name, and one that there is not, is asked for at thousands of calls.
@@ -34,9 +37,9 @@ fn every_name_is_asked() {
 #[test]
 fn plain_c_agrees() {
     for seed in 0..CALLS / 3 {
-        let (table, request, room) = gen_call(seed);
-        let result = verdict(table.view(), &request, room);
-        let expected = (expected_output(&result, room), Told::of(&result));
-        assert_eq!(plain(&table, &request, room), expected, "seed {seed}: {request:?}");
+        let call = gen_call(seed);
+        let result = verdict(call.table.view(), &call.moves, &call.request, call.room);
+        let expected = (expected_output(&result, call.room), Told::of(&result));
+        assert_eq!(plain(&call), expected, "seed {seed}: {:?}, moves {:?}", call.request, call.moves);
     }
 }

@@ -1,5 +1,5 @@
-//! 01, "Checks on both sides of each line", and the tables of 003, with their answers as they are written there, through every entry of the archive
-//! and through the program.
+//! 01, "Checks on both sides of each line", the tables of 003 and the lines of 02's order 2, with their answers as they are written there, through
+//! every entry of the archive and through the program.
 
 #[path = "../../reference/tests/common/mod.rs"]
 mod common;
@@ -9,7 +9,7 @@ use compare::program::{prints, program, run};
 use compare::told::{every_name, Told, DAYS};
 use compare::{begins, files, proved, proved_part, proved_told, UNTOUCHED};
 use reference::table::MISSING;
-use reference::writer::{day_records, event_record, head_record};
+use reference::writer::{day_records, event_record, head_record, move_records};
 use reference::{Request, Table};
 
 /// What a line says of a call.
@@ -62,17 +62,23 @@ impl Due<'_> {
     }
 }
 
-/// A call in every way: over the table, as the only event of a record file, in its listing, and through the program.
+/// A call with no list.
 fn check(table: &Table, request: &Request, due: &Due) {
+    check_by(&[], table, request, due);
+}
+
+/// A call in every way: over the table, as the only event of a record file, in its listing, and through the program.
+fn check_by(moves: &[u32], table: &Table, request: &Request, due: &Due) {
     let room = (request.e - request.s) as usize;
     let numerators = due.numerators();
     let words = begins(&numerators, UNTOUCHED, room);
-    assert_eq!(proved(table, request, room), (due.number(), words), "hp_baseline_table: {request:?}");
-    due.told().check("hp_told_table", &every_name(), |name| proved_told(table, request, name)).unwrap();
+    assert_eq!(proved(table, moves, request, room), (due.number(), words), "hp_baseline_table: {request:?}, moves {moves:?}");
+    due.told().check("hp_told_table", &every_name(), |name| proved_told(table, moves, request, name)).unwrap();
 
     let Request { p, d, s, e, n } = *request;
     let event = event_record(d as u16, s as u8, e as u8, n as u8);
-    let file = [head_record(p as u16, 77), day_records(table).concat(), event].concat();
+    let records = [move_records(moves), day_records(table), vec![event]].concat();
+    let file = [head_record(p as u16, 77), records.concat()].concat();
     let bytes = begins(&files::bytes_of(&numerators), files::FILL, 4 * room);
     assert_eq!(files::proved(&file, 0, 4 * room), (due.number(), bytes), "hp_baseline: {request:?}");
     due.told().check("hp_told", &every_name(), |name| files::proved_told(&file, 0, name)).unwrap();
@@ -116,12 +122,16 @@ const THOUSAND_OF_TWO: [(u32, u32); 4] = [(24_000, 1000); 4];
 
 /// Lets each of these days be the highest in turn: the ones of the window are then chosen first, the others are not chosen.
 fn check_window(table: &Table, d: u32, days: impl Iterator<Item = u32>, window: &[u32]) {
+    check_window_by(&[], table, d, days, window);
+}
+
+fn check_window_by(moves: &[u32], table: &Table, d: u32, days: impl Iterator<Item = u32>, window: &[u32]) {
     for day in days {
         let mut table = table.clone();
         for quarter in 56..60 {
             set_reading(&mut table, day, quarter, 1012);
         }
-        let chosen = [0, 1, 2, 3, 4].map(|rank| proved_told(&table, &at_three(6900, d), DAYS as u32 + rank));
+        let chosen = [0, 1, 2, 3, 4].map(|rank| proved_told(&table, moves, &at_three(6900, d), DAYS as u32 + rank));
         let rank = chosen.iter().position(|&other| other == i64::from(day));
         assert_eq!(rank, window.contains(&day).then_some(0), "{day} of {chosen:?}");
         assert_eq!(proved_part(&table, day), 96 * i64::from(day - table.first));
@@ -180,6 +190,64 @@ fn events_about_the_feasts() {
     among(8897, [8883, 8876], 28); // Saturday 11 May 2024: 27 and 20 April, not Holy Saturday; 13 April
     among(9242, [9241, 9240], 3); // Monday 21 April 2025, the day after Easter
     among(8996, [8993, 8989], 14); // Sunday 18 August 2024: Thursday the 15th, the 11th; the 4th
+}
+
+/// 1 May 2024 is 8887.
+fn of_may(date: u32) -> u32 {
+    8886 + date
+}
+
+fn of_april(date: u32) -> u32 {
+    8856 + date
+}
+
+/// The weekdays before Holy Week that the windows of 9 May 2024 share.
+const APRIL: [u32; 8] = [30, 29, 26, 25, 24, 23, 22, 19];
+
+/// 02, order 2: "in 2024 the day off was 7 May". A Thursday event on 9 May has 1 May and not 7 May in its window, and without the list 7 May and not
+/// 1 May.
+#[test]
+fn labour_day_of_2024() {
+    let table = flat(of_april(1) - 30, of_may(9), 1000);
+    let days = || of_april(1)..of_may(9);
+    let moves = [of_may(1), of_may(7)];
+    let due = |first: [u32; 2]| [&first[..], &APRIL.map(of_april)].concat();
+    let (with, without) = (due([of_may(2), of_may(1)]), due([of_may(7), of_may(2)]));
+    check_by(&moves, &table, &at_three(6900, of_may(9)), &Answered(&with[..5], 20, 60, 0, &THOUSAND));
+    check_window_by(&moves, &table, of_may(9), days(), &with);
+    check(&table, &at_three(6900, of_may(9)), &Answered(&without[..5], 20, 60, 0, &THOUSAND));
+    check_window(&table, of_may(9), days(), &without);
+}
+
+/// 1 May 2024 is a weekday by the list and 7 May in the holiday group, without it the other way round; 5 May stays Easter.
+#[test]
+fn days_about_labour_day() {
+    let moves = [of_may(1), of_may(7)];
+    let table = flat(of_april(1) - 30, of_may(10), 1000);
+    let weekdays = [29, 26, 25, 24, 23].map(of_april);
+    check_by(&moves, &table, &at_three(6900, of_may(1)), &Answered(&weekdays, 15, 60, 0, &THOUSAND));
+    check(&table, &at_three(6900, of_may(1)), &Answered(&[28, 21].map(of_april), 17, 24, 0, &THOUSAND_OF_TWO));
+    check_by(&moves, &table, &at_three(6900, of_may(7)), &Answered(&[6, 5].map(of_may), 3, 24, 0, &THOUSAND_OF_TWO));
+    let weekdays = [of_may(2), of_april(30), of_april(29), of_april(26), of_april(25)];
+    check(&table, &at_three(6900, of_may(7)), &Answered(&weekdays, 19, 60, 0, &THOUSAND));
+    for moves in [&moves[..], &[]] {
+        check_by(moves, &table, &at_three(6900, of_may(6)), &Answered(&[5, 4].map(of_may), 3, 24, 0, &THOUSAND_OF_TWO));
+    }
+}
+
+/// 25 March 2024 moved onto itself changes nothing; a first day that is no fixed-date holiday, and the same pair twice, are 14.
+#[test]
+fn lists_that_change_nothing_or_are_refused() {
+    let table = flat(of_april(1) - 30, of_may(9), 1000);
+    let ask = at_three(6900, of_may(9));
+    let days = [of_may(7), of_may(2), of_april(30), of_april(29), of_april(26)];
+    check_by(&[8850, 8850], &table, &ask, &Answered(&days, 20, 60, 0, &THOUSAND));
+    let (pair, other) = ([of_may(1), of_may(7)], [of_may(2), of_may(7)]);
+    check_by(&other, &table, &ask, &Refused(14, &[]));
+    check_by(&[pair, pair].concat(), &table, &ask, &Refused(14, &[]));
+    check_by(&[pair, [8850, 8850]].concat(), &table, &ask, &Answered(&[&[of_may(2), of_may(1)], &days[2..]].concat(), 20, 60, 0, &THOUSAND));
+    check_by(&[of_may(1), 36_525], &table, &ask, &Refused(14, &[]));
+    check_by(&[of_may(1), 36_524], &table, &ask, &Answered(&[&days[..2], &[of_may(1)], &days[2..4]].concat(), 17, 60, 0, &THOUSAND));
 }
 
 /// 01's worked listing, whole; its first numerator is the line "N 2, S 2507, A 15132, B 30000: numerator 30348".

@@ -2,7 +2,8 @@
 
 use compare::program::{prints, program, root, run};
 use compare::shrink::keep;
-use reference::writer::event_record;
+use reference::calendar::fixed_holidays;
+use reference::writer::{event_record, move_records};
 use reference::{gen_file, gen_small_file, listing};
 use std::fs::File;
 use std::io::Write;
@@ -49,17 +50,19 @@ fn generated_files_are_listed() {
     assert!(lines > 10_000);
 }
 
-/// A file of 128 days and 64 events, 50,440 bytes, with 96 lines for each event: every one is over the whole of the last day.
+/// A file of 16 moves, 128 days and 64 events, 50,536 bytes, with 96 lines for each event: every one is over the whole of the last day.
 fn largest() -> Vec<u8> {
-    const DAYS: usize = 8 + 128 * 390;
+    const HEAD: usize = 8;
+    const DAYS: usize = HEAD + 128 * 390;
+    let moves: Vec<u32> = fixed_holidays()[..16].iter().flat_map(|&day| [day, day + 1]).collect();
     let whole_days = |file: Vec<u8>| {
         let last = file.get(DAYS - 388..DAYS - 386)?;
         let event = event_record(u16::from_le_bytes([last[0], last[1]]), 96, 192, 96);
-        Some([&file[..DAYS], &event.repeat(64)].concat())
+        Some([&file[..HEAD], &move_records(&moves).concat(), &file[HEAD..DAYS], &event.repeat(64)].concat())
     };
     let lines = |file: &Vec<u8>| listing(file).iter().filter(|&&byte| byte == b'\n').count();
     let largest = (0..).map(gen_file).filter_map(whole_days).find(|file| lines(file) == 1 + 64 * 97).unwrap();
-    assert_eq!(largest.len(), 50_440);
+    assert_eq!(largest.len(), 50_536);
     largest
 }
 
@@ -91,7 +94,7 @@ fn slow_pipes_are_read() {
     assert!(agrees(&output, &file), "{output:?}");
 }
 
-/// What comes after 50,441 bytes changes nothing.
+/// What comes after 50,537 bytes changes nothing.
 #[test]
 fn longer_input_is_listed_alike() {
     let mut file = largest();

@@ -1,7 +1,8 @@
 //! search [FIRST [COUNT]]: compares COUNT generated calls (a million), and as many of the writer, from seed FIRST (0) on, and stops at the first that
 //! differs.
 
-use compare::writing::{self, Met};
+use compare::met::Counts;
+use compare::writing;
 
 fn main() {
     let mut words = std::env::args().skip(1);
@@ -13,10 +14,10 @@ fn main() {
         }),
     };
     let (first, count) = (number(0), number(1_000_000));
-    let mut outcomes = [0u64; 11];
-    let mut met = Met::default();
+    let mut outcomes = [0u64; 15];
+    let (mut lists, mut met) = (Counts::default(), Counts::default());
     for seed in first..first + count {
-        match compare::compare(seed).and_then(|number| writing::compare(seed, &mut met).map(|()| number)) {
+        match compare::compare(seed, &mut lists).and_then(|number| writing::compare(seed, &mut met).map(|()| number)) {
             Ok(number) => outcomes[number as usize] += 1,
             Err(difference) => {
                 println!("{difference}");
@@ -24,6 +25,7 @@ fn main() {
             }
         }
     }
-    println!("{count} calls from seed {first} agree: answers {}, refusals 1 to 10 {:?}", outcomes[0], &outcomes[1..]);
+    println!("{count} calls from seed {first} agree: answers {}, refusals 1 to 10 {:?}, 14 {}", outcomes[0], &outcomes[1..=10], outcomes[14]);
+    println!("of those with a list: {lists:?}");
     println!("{count} writings from seed {first} agree: {met:?}");
 }
