@@ -11,6 +11,7 @@
 #define MOST_LINE 4096
 #define USAGE "usage: pack [TEXT [FILE]]\n"
 #define PORTFOLIO "portfolio NUMBER from DAY"
+#define MOVE "move DAY DAY"
 #define DAY "day DAY MARK READING.."
 #define EVENT "event DAY START END NOTICE"
 
@@ -22,15 +23,17 @@
 static const char help[] = USAGE
     "Writes FILE, the record file that TEXT describes; they are standard output and\ninput where they are - or not given. One line a record:\n\n"
     "  " PORTFOLIO "    the first line; participation starts on that DAY\n"
+    "  " MOVE "                 a moved holiday, and the day that replaces it\n"
     "  " DAY "       a day that is held, and its 96 readings in kW\n"
     "  " EVENT "   an event; 96 is 01:00 of its DAY, 152 is 15:00\n\n"
-    "A DAY is a date, 2024-08-28, or its number, 9006; each day line is of the day\nafter the one before. MARK is 0, or 1 for an event recorded, "
-    "2 for an outage,\n3 for both. A reading may be `missing`; 1300*56 is 56 times 1300. What follows\na # is a remark.\n\n"
+    "A DAY is a date, 2024-08-28, or its number, 9006. Move lines stand before the\nfirst day or event line; each day line is of the day after the one "
+    "before. MARK\nis 0, or 1 for an event recorded, 2 for an outage, 3 for both. A reading may be\n`missing`; 1300*56 is 56 times 1300. "
+    "What follows a # is a remark.\n\n"
     "Exit status: 0 written; 1 a bad line, which is named, and nothing is written;\n2 a wrong call, or a file that can't be read or written.\n";
 
 /* What the text has said up to this line. */
-static size_t line, portfolio_line, days, events_len;
-static uint32_t portfolio, participation, first, readings[HP_MOST_DAYS * HP_QUARTERS], events[4 * HP_MOST_EVENTS];
+static size_t line, portfolio_line, days, moves_len, events_len;
+static uint32_t portfolio, participation, first, readings[HP_MOST_DAYS * HP_QUARTERS], moves[2 * HP_MOST_MOVES], events[4 * HP_MOST_EVENTS];
 static uint8_t marks[HP_MOST_DAYS];
 
 static uint32_t number(const char *word, unsigned long most, const char *what)
@@ -81,14 +84,20 @@ static void take_day(char **words, size_t count)
 
 static void take_record(char **words, size_t count)
 {
-    int opens = strcmp(words[0], "portfolio") == 0, event = strcmp(words[0], "event") == 0;
-    NEED(opens || event || strcmp(words[0], "day") == 0, "'%s' opens no line: portfolio, day and event do", words[0]);
+    int opens = strcmp(words[0], "portfolio") == 0, move = strcmp(words[0], "move") == 0, event = strcmp(words[0], "event") == 0;
+    NEED(opens || move || event || strcmp(words[0], "day") == 0, "'%s' opens no line: portfolio, move, day and event do", words[0]);
     NEED(opens != (portfolio_line > 0), "%s", opens ? "there is a portfolio line before it" : "there is no portfolio line before it");
     if (opens) {
         NEED(count == 4 && strcmp(words[2], "from") == 0, "a portfolio line is: %s", PORTFOLIO);
         portfolio = number(words[1], UINT32_MAX, "portfolio");
         participation = day(words[3]);
         portfolio_line = line;
+    } else if (move) {
+        NEED(count == 3, "a move line is: %s", MOVE);
+        NEED(days + events_len == 0, "%s", "there is a day or event line before it");
+        NEED(moves_len < 2 * HP_MOST_MOVES, "a file has at most %d moves", HP_MOST_MOVES);
+        for (size_t i = 1; i < count; i++)
+            moves[moves_len++] = day(words[i]);
     } else if (event) {
         NEED(count == 5, "an event line is: %s", EVENT);
         NEED(events_len < 4 * HP_MOST_EVENTS, "a file has at most %d events", HP_MOST_EVENTS);
@@ -141,7 +150,8 @@ int main(int argc, char **argv)
     WORKS(text == input || freopen(text, "r", stdin) != NULL, text, "");
     read_text(text);
     STOP_UNLESS(1, portfolio_line > 0, "pack: %s: no portfolio line\n", text);
-    int64_t length = hp_write(participation, portfolio, first, marks, days, readings, HP_QUARTERS * days, events, events_len, out, sizeof out);
+    int64_t length = hp_write(participation, portfolio, first, marks, days, readings, HP_QUARTERS * days, moves, moves_len,
+                              events, events_len, out, sizeof out);
     STOP_UNLESS(1, length >= 0, "pack: refused %d: %s\n", (int)-length, hp_refusal_text((uint32_t)-length));
     WORKS(file == output || freopen(file, "wb", stdout) != NULL, file, "");
     WORKS(fwrite(out, 1, (size_t)length, stdout) == (size_t)length && fclose(stdout) == 0, file, ", and what is there is not whole");
