@@ -1,7 +1,7 @@
 -- The laws of Easter, the holidays and the groups. A reader needs the statements and the definitions that they name; each is proved by what it cites.
 use Prim.Native.Nat.{ℕ, zero, suc, _+_, _/_, _%_, _≤_, _<_}
-use mathlib.Core.Path.{_≡_, refl}
-use mathlib.Core.Bool.{Bool, true, false, cond, not, _&&_, _||_, and-false, or-true}
+use mathlib.Core.Path.{_≡_, refl, sym}
+use mathlib.Core.Bool.{Bool, true, false, cond, not, _&&_, _||_, and-false}
 use mathlib.Core.List.{List, [], _∷_, map}
 use mathlib.Core.Logic.{_↔_}
 use native.Mathlib.Omega.{arith}
@@ -10,6 +10,7 @@ use Rattle.base_lists.specs.Lists.{sumOf, member}
 use Rattle.calendar_dates.specs.Days.{inCalendar, leap, months, newYear, dayNumber, yearOf, lastDay}
 use Rattle.calendar_groups.specs.Holidays.{easterQ, easter, holidays, isSaturday, isSunday, group}
 use Rattle.calendar_groups.specs.Holidays.{isFixedHoliday, isEasterHoliday, firstDays, secondDays, isHoliday, goodMoves}
+use Rattle.calendar_groups.specs.Steps.{daysAt}
 use Rattle.calendar_groups.specs.declared.Group.{Group}
 use Rattle.calendar_groups.specs.declared.Group.the-variants.{Weekday, Saturday, HolidayGroup}
 use Rattle.calendar_dates.proofs.Years.{in-calendar, year-of-day}
@@ -17,7 +18,7 @@ use Rattle.calendar_groups.proofs.EasterSum.{julian-sum, moon-le, easte
 use Rattle.calendar_groups.proofs.Holidays.{stays-in-year}
 use Rattle.calendar_groups.proofs.EasterDates.{easterDates}
 use Rattle.calendar_groups.proofs.Groups.{not-both, parted}
-use Rattle.calendar_groups.proofs.Moves.{unmoved, stays}
+use Rattle.calendar_groups.proofs.Moves.{replacing, unmoved, stays}
 
 -- Easter and the holidays
 
@@ -69,8 +70,8 @@ old-date moves d m = rw (m, and-false (isFixedHoliday d))
 
 -- "the day that replaces it"
 pub new-date : (moves : List ℕ) (d : ℕ) → member d (secondDays moves) ≡ true → isHoliday moves d ≡ true
-unfolding isHoliday
-new-date moves d m = rw (m, or-true ((isFixedHoliday d && not (member d (firstDays moves))) || isEasterHoliday d))
+unfolding daysAt
+new-date moves d m = sym (replacing moves d m)
 
 -- every other day is what it was
 pub other-days : (moves : List ℕ) (d : ℕ) → member d (firstDays moves) ≡ false → member d (secondDays moves) ≡ false

@@ -1,5 +1,5 @@
-// Which days are relevant to an event, and how far back they go (document 01, "Choosing the days"). The calendar and the list
-// of moves alone decide: no reading and no mark plays a part.
+// Which days are relevant to an event, and how far back they go (document 01, "Choosing the days"). The calendar and the
+// list of moves alone decide: no reading and no mark plays a part.
 ghost use mathlib.Core.Path.{_≡_};
 ghost use Rattle.calendar_groups.specs.Holidays.{group as groupOf};
 ghost use Rattle.method.specs.Relevant.{groupNumber, sameGroup};

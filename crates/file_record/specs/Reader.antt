@@ -1,5 +1,5 @@
--- 01, "Record file, listing, host entry": which files are as laid down, and what they say. MV is of document 02, order 2. A test or a number of a record looks at the bytes
--- that are left from the record's start on; a byte past the end counts as 0.
+-- 01, "Record file, listing, host entry": which files are as laid down, and what they say. MV is of document 02, order 2. A test or a number of a
+-- record looks at the bytes that are left from the record's start on; a byte past the end counts as 0.
 use Prim.Native.Nat.{ℕ, zero, suc, _+_, _*_, _/_}
 use mathlib.Core.Bool.{Bool, cond, _&&_}
 use mathlib.Core.List.{List, [], _∷_, _++_}

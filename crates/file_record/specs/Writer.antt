@@ -58,7 +58,7 @@ matching first days readings = leb days 128 && eqb readings (offset first days)
 unfoldable pub daysInBounds : ℕ → ℕ → ℕ → Bool
 daysInBounds participation first days = ltb participation (256 ^ 2) && leb (first + days) (256 ^ 2) && (ltb 0 days || eqb first 0)
 
--- so many numbers are `each` for every one of at most so many
+-- `numbers` numbers are whole moves or events, `each` numbers for one, and at most `most` of them
 unfoldable pub fewOf : ℕ → ℕ → ℕ → Bool
 fewOf each most numbers = eqb (numbers % each) 0 && leb (numbers / each) most
 

@@ -58,7 +58,7 @@ fn moves_fit(moves: &[u32]) -> bool
     fit
 }
 
-// Whether so many numbers are `each` for every one of at most so many.
+// Whether so many numbers are whole moves or events, `each` numbers for one, and at most `most` of them.
 fn few_of(each: usize, most: usize, numbers: usize) -> bool
     requires { ⌜ 0 < each ⌝ }
     ensures { λ r. ⌜ r ≡ fewOf each most numbers ⌝ }

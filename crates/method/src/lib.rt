@@ -47,6 +47,6 @@ pub enum Refusal {
     NoAdjustmentWindow(u32),
     // 13: no record file says what is to be written
     Unwritable,
-    // 14: the list of moves is none
+    // 14: the list of moves can't be right
     BadMoves,
 }
