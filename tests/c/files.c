@@ -42,33 +42,25 @@ static void expect_file(int line, struct told due)
     give_back(&in);
 }
 
-static void expect_event(int line, size_t place, struct told due)
+/* What stands at a place: an event or a move, by the check of it. */
+static void expect_at(int line, const char *what, void (*check)(const uint8_t *, size_t, size_t, const struct told *), size_t place,
+                      struct told due)
 {
     struct lent in = lend_copy(file.bytes, file.length, at_end);
     int before = failures;
-    check_event(in.bytes, in.length, place, &due);
+    check(in.bytes, in.length, place, &due);
     if (failures != before)
-        printf("  of the event of line %d\n", line);
-    give_back(&in);
-}
-
-static void expect_move(int line, size_t place, struct told due)
-{
-    struct lent in = lend_copy(file.bytes, file.length, at_end);
-    int before = failures;
-    check_move(in.bytes, in.length, place, &due);
-    if (failures != before)
-        printf("  of the move of line %d\n", line);
+        printf("  of the %s of line %d\n", what, line);
     give_back(&in);
 }
 
 #define FILE_HOLDS(p, portfolio, moves, first, days, events) expect_file(__LINE__, held(p, portfolio, moves, first, days, events))
-#define EVENT_IS(place, d, s, e, n) expect_event(__LINE__, place, event_of(d, s, e, n))
-#define MOVE_IS(place, from, to) expect_move(__LINE__, place, move_of(from, to))
+#define EVENT_IS(place, d, s, e, n) expect_at(__LINE__, "event", check_event, place, event_of(d, s, e, n))
+#define MOVE_IS(place, from, to) expect_at(__LINE__, "move", check_move, place, move_of(from, to))
 #define NO_MOVE(place) MOVE_IS(place, NONE, NONE)
 #define FILE_REFUSED(offset) expect_file(__LINE__, told_refusal(HP_BAD_FILE, offset, NONE))
-#define EVENT_REFUSED(place, number, first) expect_event(__LINE__, place, told_refusal(number, first, NONE))
-#define MOVE_REFUSED(place, offset) expect_move(__LINE__, place, told_refusal(HP_BAD_FILE, offset, NONE))
+#define EVENT_REFUSED(place, number, first) expect_at(__LINE__, "event", check_event, place, told_refusal(number, first, NONE))
+#define MOVE_REFUSED(place, offset) expect_at(__LINE__, "move", check_move, place, told_refusal(HP_BAD_FILE, offset, NONE))
 
 static void worked_case(void)
 {

@@ -157,13 +157,13 @@ static void every_first_day(void)
     }
 }
 
-/* The worked case with a list that is none: 2 May 2024 is no fixed-date holiday. */
+/* The worked case with a bad list: 2 May 2024 is no fixed-date holiday. */
 static void unlisted(void)
 {
     worked(), add_move(8888, 8893);
 }
 
-/* A list that is none comes after 3 and before 4. */
+/* A bad list is refused after 3 and before 4. */
 static void place_of_14(void)
 {
     int i;
