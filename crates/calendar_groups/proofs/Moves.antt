@@ -9,12 +9,13 @@ use native.Mathlib.Numerals.{add-one}
 use borrow.Author.Tests.{eq-eqb, ne-eqb, eqb-true, le-leb, lt-leb, ltb-true}
 use lib.Dec.{leb, ltb, eqb}
 use lib.ListN.{length, getD, take, drop, length-drop}
-use lib.Seq.{drop-cons, drop-drop, take-all}
+use lib.Seq.{drop-cons, take-all}
 use Rattle.base_lists.specs.Lists.{member}
 use Rattle.base_lists.proofs.Bools.{bool-cases, both, and-left, and-right}
 use Rattle.base_lists.proofs.Members.{member-append}
 use Rattle.calendar_dates.specs.Days.{lastDay, yearOf}
-use Rattle.calendar_groups.specs.Holidays.{fixedHolidays, easterHolidays, holidays, isFixedHoliday, isEasterHoliday, firstDays, secondDays, isHoliday, goodPairs, repeated, goodMoves}
+use Rattle.calendar_holidays.specs.Yearly.{fixedHolidays, easterHolidays, holidays, isFixedHoliday, isEasterHoliday}
+use Rattle.calendar_groups.specs.Holidays.{firstDays, secondDays, isHoliday, goodPairs, repeated, goodMoves}
 use Rattle.calendar_groups.specs.Steps.{daysAt, rising}
 
 -- ---- one pair after the other: `k` are passed
@@ -154,37 +155,26 @@ module _ (moves : List ℕ) where
 
 -- ---- a holiday by the tests of the code, one law for each way out
 module _ (moves : List ℕ) (d : ℕ) where
-  abbrev of-date : Bool
-  of-date = member d (fixedHolidays (yearOf d))
-
-  abbrev of-easter : Bool
-  of-easter = member d (easterHolidays (yearOf d))
-
-  within : d ≤ lastDay → isHoliday moves d ≡ ((of-date && not (member d (daysAt 0 moves))) || of-easter || member d (daysAt 1 moves))
-  unfolding isHoliday isFixedHoliday isEasterHoliday daysAt
-  within h = rw (le-leb d lastDay h) refl
-
   pub replacing : member d (daysAt 1 moves) ≡ true → true ≡ isHoliday moves d
   unfolding isHoliday daysAt
   replacing m = rw (m, or-true ((isFixedHoliday d && not (member d (firstDays moves))) || isEasterHoliday d))
 
   module _ (replaces : member d (daysAt 1 moves) ≡ false) where
-    pub beyond : lastDay < d → false ≡ isHoliday moves d
-    unfolding isHoliday isFixedHoliday isEasterHoliday daysAt
-    beyond h = rw (lt-leb d lastDay h, replaces) refl
+    pub by-easter : isEasterHoliday d ≡ true → true ≡ isHoliday moves d
+    unfolding isHoliday
+    by-easter e = rw (e, or-true (isFixedHoliday d && not (member d (firstDays moves)))) refl
 
-    pub by-easter : d ≤ lastDay → of-easter ≡ true → true ≡ isHoliday moves d
-    by-easter h e = rw (within h, e, or-true (of-date && not (member d (daysAt 0 moves)))) refl
-
-    pub by-date : d ≤ lastDay → of-easter ≡ false → of-date ≡ true → {away : Bool} → away ≡ member d (daysAt 0 moves) → not away ≡ isHoliday moves d
-    by-date h e f a = rw (a, within h, e, f, replaces) (go (not (member d (daysAt 0 moves))))
+    pub by-date : isEasterHoliday d ≡ false → isFixedHoliday d ≡ true → {away : Bool} → away ≡ member d (daysAt 0 moves) → not away ≡ isHoliday moves d
+    unfolding isHoliday daysAt
+    by-date e f a = rw (a, e, f, replaces) (go (not (member d (firstDays moves))))
       where
         go : (b : Bool) → b ≡ (b || false || false)
         go true = refl
         go false = refl
 
-    pub by-none : d ≤ lastDay → of-easter ≡ false → of-date ≡ false → false ≡ isHoliday moves d
-    by-none h e f = rw (within h, e, f, replaces) refl
+    pub by-none : isEasterHoliday d ≡ false → isFixedHoliday d ≡ false → false ≡ isHoliday moves d
+    unfolding isHoliday daysAt
+    by-none e f = rw (e, f, replaces) refl
 
 -- ---- what a list makes of the holidays
 pub unmoved : (d : ℕ) → isHoliday [] d ≡ (leb d lastDay && member d (holidays (yearOf d)))

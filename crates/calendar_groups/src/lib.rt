@@ -1,14 +1,13 @@
-// Easter, the holidays and the groups of document 01, "Days and groups", with the holidays that are moved (document 02, order 2).
+// The groups of document 01, "Days and groups", with the holidays that are moved (document 02, order 2).
 ghost use mathlib.Core.Path.{_≡_};
 ghost use mathlib.Core.Bool.{_&&_};
-ghost use Prim.Native.Nat.{_+_, _≤_, _<_};
+ghost use Prim.Native.Nat.{_<_};
 ghost use lib.Dec.{leb};
 ghost use Rattle.base_lists.specs.Lists.{member};
-ghost use Rattle.calendar_dates.specs.Days.{lastDay, yearOf};
-ghost use Rattle.calendar_groups.specs.Holidays.{easterD, easterE, easter as easterOf, fixedHolidays, easterHolidays, isFixedHoliday, firstDays, isHoliday, goodPairs, repeated, goodMoves, group};
+ghost use Rattle.calendar_dates.specs.Days.{lastDay};
+ghost use Rattle.calendar_holidays.specs.Yearly.{isFixedHoliday};
+ghost use Rattle.calendar_groups.specs.Holidays.{firstDays, isHoliday, goodPairs, repeated, goodMoves, group};
 ghost use Rattle.calendar_groups.specs.Steps.{daysAt, rising};
-use calendar_dates::Date;
-use calendar_dates::Numbered;
 
 // The most moves of a list.
 pub const MOST_MOVES: usize = 16;
@@ -18,68 +17,6 @@ pub enum Group {
     Weekday,
     Saturday,
     HolidayGroup,
-}
-
-// How many days after 1 March Easter Sunday lies. The Julian month and day need not be told apart: the days of March and April are counted
-// on from 1 March, and 34 is what stands before 22 March and the thirteen days to the Gregorian date.
-fn easter_from_march(year: u32) -> u32
-    ensures { λ r. ⌜ (r ≡ 34 + easterD year + easterE year) × (r ≤ 69) ⌝ }
-{
-    let d = (19 * (year % 19) + 15) % 30;
-    let e = (2 * (year % 4) + 4 * (year % 7) + 34 - d) % 7;
-    34 + d + e
-}
-
-// The day number of Easter Sunday, and 0 outside the calendar.
-pub fn easter(year: u32) -> u32
-    ensures { λ r. ⌜ r ≡ easterOf year ⌝ }
-{
-    let march = Date {
-        year,
-        month: 3,
-        day: 1,
-    };
-    match calendar_dates::day_number(march) {
-        Numbered::Day(day) => day + easter_from_march(year),
-        Numbered::NoSuchDate => 0,
-    }
-}
-
-// `day` is one of the eight holidays of its year that have a fixed date: two before March, six after February.
-fn is_fixed_holiday(day: u32) -> bool
-    ensures { λ r. ⌜ r ≡ member day (fixedHolidays (yearOf day)) ⌝ }
-{
-    let place = calendar_dates::place_of(day);
-    let passed = place.passed;
-    if passed < 59 {
-        return (passed == 0) | (passed == 5);
-    }
-    let later = passed - place.leap;
-    (later == 83)
-        | ((later == 120) | ((later == 226) | ((later == 300) | ((later == 358) | (later == 359)))))
-}
-
-// `day` is one of the six holidays of its year that are counted from Easter Sunday. They begin with Clean Monday, 48 days before it: 11 is
-// the 59 days before March of a common year less those 48. Easter is worked out only where they can lie, from 15 February to the end of June.
-fn is_easter_holiday(day: u32) -> bool
-    requires { ⌜ day ≤ lastDay ⌝ }
-    ensures { λ r. ⌜ r ≡ member day (easterHolidays (yearOf day)) ⌝ }
-{
-    let place = calendar_dates::place_of(day);
-    let passed = place.passed;
-    if passed < 45 {
-        return false;
-    }
-    if 178 < passed {
-        return false;
-    }
-    let monday = 11 + place.leap + easter_from_march(place.year);
-    if passed < monday {
-        return false;
-    }
-    let after = passed - monday;
-    (after == 0)
-        | ((after == 46) | ((after == 47) | ((after == 48) | ((after == 49) | (after == 98)))))
 }
 
 // Whether a pair of a list of moves has `day` at this place of it: 0 is the holiday that is moved, 1 the day that replaces it.
@@ -94,20 +31,17 @@ fn names(moves: &[u32], place: usize, day: u32) -> bool
     found
 }
 
-// `day` is a holiday by the rules of the calendar and a list of moves. The rules know none past the calendar.
+// `day` is a holiday by the rules of the calendar and a list of moves.
 pub fn is_holiday(moves: &[u32], day: u32) -> bool
     ensures { λ r. ⌜ r ≡ isHoliday (now (moves .entry)) day ⌝ }
 {
     if names(moves, 1, day) {
         return true;
     }
-    if calendar_dates::LAST_DAY < day {
-        return false;
-    }
-    if is_easter_holiday(day) {
+    if calendar_holidays::is_easter_holiday(day) {
         return true;
     }
-    if is_fixed_holiday(day) {
+    if calendar_holidays::is_fixed_holiday(day) {
         !names(moves, 0, day)
     } else {
         false
@@ -118,7 +52,7 @@ pub fn is_holiday(moves: &[u32], day: u32) -> bool
 fn is_good_pair(old: u32, new: u32) -> bool
     ensures { λ r. ⌜ r ≡ (isFixedHoliday old && leb new lastDay) ⌝ }
 {
-    ((old <= calendar_dates::LAST_DAY) & is_fixed_holiday(old)) & (new <= calendar_dates::LAST_DAY)
+    calendar_holidays::is_fixed_holiday(old) & (new <= calendar_dates::LAST_DAY)
 }
 
 // Whether every pair of a list is, and none is half a pair.

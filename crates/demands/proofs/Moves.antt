@@ -11,7 +11,8 @@ use borrow.Author.Tests.{le-ltb, lt-ltb, le-leb, lt-leb, leb-true, eq-eqb}
 use Rattle.base_lists.specs.Lists.{any, member}
 use Rattle.base_lists.proofs.Bools.{and-left, lt-or-le}
 use Rattle.calendar_dates.specs.Days.{lastDay, yearOf}
-use Rattle.calendar_groups.specs.Holidays.{fixedHolidays, isFixedHoliday, firstDays, goodPairs, repeated, goodMoves}
+use Rattle.calendar_holidays.specs.Yearly.{fixedHolidays, isFixedHoliday}
+use Rattle.calendar_groups.specs.Holidays.{firstDays, goodPairs, repeated, goodMoves}
 use Rattle.method.specs.declared.Refusal.the-variants.{BadMoves}
 use Rattle.method.specs.Verdict.{listRefusals}
 use Rattle.demands.specs.Rows.{listRows}

@@ -7,7 +7,8 @@ use lib.ListN.{length, getD, take}
 use lib.Dec.{leb, ltb, eqb}
 use Rattle.base_lists.specs.Lists.{any, leading, leastOf, places}
 use Rattle.calendar_dates.specs.Days.{lastDay}
-use Rattle.calendar_groups.specs.Holidays.{isFixedHoliday, firstDays, repeated, group}
+use Rattle.calendar_holidays.specs.Yearly.{isFixedHoliday}
+use Rattle.calendar_groups.specs.Holidays.{firstDays, repeated, group}
 use Rattle.method.specs.declared.Request.{Request}
 use Rattle.method.specs.declared.Refusal.{Refusal}
 use Rattle.method.specs.declared.Refusal.the-variants.{BadFile, NoEvent, BadTable, BadMark, BadReading, BadRequest, NotHeld}

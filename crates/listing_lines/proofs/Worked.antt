@@ -3,7 +3,8 @@ use Prim.Native.Nat.{ℕ}
 use mathlib.Core.Path.{_≡_, refl}
 use Rattle.base_lists.specs.Lists.{keep, all, any, leading, member, sumOf, leastOf, places}
 use Rattle.calendar_dates.specs.Days.{leap, months, newYear, dayNumber, yearOf}
-use Rattle.calendar_groups.specs.Holidays.{easter, fixedHolidays, easterHolidays, isFixedHoliday, isEasterHoliday, firstDays, secondDays, isHoliday}
+use Rattle.calendar_holidays.specs.Yearly.{easter, fixedHolidays, easterHolidays, isFixedHoliday, isEasterHoliday}
+use Rattle.calendar_groups.specs.Holidays.{firstDays, secondDays, isHoliday}
 use Rattle.calendar_groups.specs.Holidays.{goodPairs, repeated, goodMoves, group}
 use Rattle.base_digits.specs.Digits.{digits, dec, decimal}
 use Rattle.method.specs.Table.{size, offset, dayOf, held, shaped, isExtract}

@@ -3,7 +3,8 @@ use mathlib.Core.Path.{refl}
 use Prim.Native.Nat.{ℕ}
 use Rattle.base_lists.specs.Lists.{keep, all, any, leading, member, sumOf, leastOf, places}
 use Rattle.calendar_dates.specs.Days.{leap, months, newYear, dayNumber, yearOf}
-use Rattle.calendar_groups.specs.Holidays.{easter, fixedHolidays, easterHolidays, holidays, isFixedHoliday, isEasterHoliday, firstDays, secondDays, isHoliday}
+use Rattle.calendar_holidays.specs.Yearly.{easter, fixedHolidays, easterHolidays, holidays, isFixedHoliday, isEasterHoliday}
+use Rattle.calendar_groups.specs.Holidays.{firstDays, secondDays, isHoliday}
 use Rattle.calendar_groups.specs.Holidays.{goodPairs, repeated, goodMoves, group}
 use Rattle.method.specs.Table.{size, offset, dayOf, held, shaped, isExtract, dayPart}
 use Rattle.method.specs.Relevant.{daysBefore, relevant, relevantDays}

@@ -7,7 +7,8 @@ use lib.ListN.{take, replicate, set}
 use lib.IntN.{pos}
 use Rattle.base_lists.specs.Lists.{member, places}
 use Rattle.calendar_dates.specs.Days.{dayNumber}
-use Rattle.calendar_groups.specs.Holidays.{easter, group}
+use Rattle.calendar_holidays.specs.Yearly.{easter}
+use Rattle.calendar_groups.specs.Holidays.{group}
 use Rattle.calendar_groups.specs.declared.Group.the-variants.{Saturday, HolidayGroup}
 use Rattle.method.specs.declared.Request.{Request}
 use Rattle.method.specs.declared.Refusal.the-variants.{MarginTooShort}

@@ -6,7 +6,8 @@ use Prim.Native.Nat.{ℕ}
 use lib.ListN.{replicate}
 use lib.IntN.{pos}
 use Rattle.calendar_dates.specs.Days.{dayNumber, lastDay}
-use Rattle.calendar_groups.specs.Holidays.{fixedHolidays, isEasterHoliday, isHoliday, goodMoves, group}
+use Rattle.calendar_holidays.specs.Yearly.{fixedHolidays, isEasterHoliday}
+use Rattle.calendar_groups.specs.Holidays.{isHoliday, goodMoves, group}
 use Rattle.calendar_groups.specs.declared.Group.the-variants.{Weekday, Saturday, HolidayGroup}
 use Rattle.method.specs.declared.Request.{Request}
 use Rattle.method.specs.declared.Refusal.the-variants.{BadReading, BadRequest, BadMoves}

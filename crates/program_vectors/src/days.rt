@@ -87,7 +87,7 @@ fn date_line(day: u32) {
 pub(crate) fn easters() {
     io::write_all(STDOUT_FILENO, b"Orthodox Easter\n");
     for year in 2000..=2099 {
-        date_line(calendar_groups::easter(year));
+        date_line(calendar_holidays::easter(year));
     }
 }
 

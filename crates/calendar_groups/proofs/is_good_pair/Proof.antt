@@ -1,6 +1,5 @@
 -- `calendar_groups::is_good_pair` meets its contract.
 use mathlib.Core.Path.{refl}
-use Rattle.calendar_groups.specs.Holidays.{isFixedHoliday}
 use borrow.Author.Needs.{needs}
 use Rattle.calendar_groups.proofs.is_good_pair.Statement.{statement}
 use Rattle.calendar_groups.proofs.is_good_pair.Tie as tie
@@ -9,7 +8,6 @@ is-fixed-holiday-requires : tie.Need-is-fixed-holiday-requires
 is-fixed-holiday-requires c κs = search needs
 
 returns : tie.Need-returns
-unfolding isFixedHoliday
 returns c = rw (c .is-fixed-holiday .ensures) refl
 
 pub is-good-pair-spec : {M : Type 1} → statement M

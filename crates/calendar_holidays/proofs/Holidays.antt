@@ -10,9 +10,9 @@ use Rattle.base_lists.specs.Lists.{sumOf, member}
 use Rattle.base_lists.proofs.Bools.{same-eqb}
 use Rattle.base_lists.proofs.Members.{Each, each-member}
 use Rattle.calendar_dates.specs.Days.{inCalendar, leap, months, newYear, dayNumber}
-use Rattle.calendar_groups.specs.Holidays.{easterD, easterE, easter, fixedHolidays, easterHolidays, holidays}
+use Rattle.calendar_holidays.specs.Yearly.{easterD, easterE, easter, fixedHolidays, easterHolidays, holidays}
 use Rattle.calendar_dates.proofs.Years.{in-calendar, next-year, leap-le}
-use Rattle.calendar_groups.proofs.EasterSum.{easter-sum, easter-bounds}
+use Rattle.calendar_holidays.proofs.EasterSum.{easter-sum, easter-bounds}
 
 pub fixed-sums : (y : ℕ) →
     fixedHolidays y ≡

@@ -5,13 +5,13 @@ use mathlib.Core.Bool.{Bool, true, and-true}
 use mathlib.Core.Logic.{⊎-elim}
 use native.Mathlib.Omega.{arith}
 use borrow.Author.Tests.{leb-true}
-use lib.Dec.{leb}
+use lib.Dec.{leb, eqb}
 use Rattle.base_lists.proofs.Below.{at-each}
 use Rattle.base_lists.proofs.Bools.{lt-or-le}
 use Rattle.base_lists.specs.Lists.{sumOf}
 use Rattle.calendar_dates.specs.Days.{lastDay, inCalendar, leap, months, newYear, dayNumber, isDate, numbered}
 use Rattle.calendar_dates.specs.declared.Numbered.the-variants.{Day, NoSuchDate}
-use Rattle.calendar_groups.specs.Holidays.{easterD, easterE, easterQ, easter, isSunday}
+use Rattle.calendar_holidays.specs.Yearly.{easterD, easterE, easterQ, easter}
 use Rattle.calendar_dates.proofs.Years.{in-calendar}
 use Rattle.calendar_dates.proofs.Dates.{on, numbered-is, not-numbered}
 use Rattle.calendar_dates.proofs.Laws.{date-of-day}
@@ -70,10 +70,11 @@ easter-bounds y h = omega (arith, easter-sum y h, moon-le y)
 pub julian-sum : (y : ℕ) → dayNumber y (easterQ y / 31) (easterQ y % 31 + 1) ≡ newYear y + leap y + 80 + easterD y + easterE y
 julian-sum y = omega (arith, march-or-april y (easterQ y) (omega arith) (omega arith))
 
+-- day 0 is a Saturday, and Easter a Sunday
 sunday : ℕ → Bool
-sunday k = isSunday (easter (2000 + k))
+sunday k = eqb (easter (2000 + k) % 7) 1
 
-pub on-sunday : (y : ℕ) → inCalendar y ≡ true → isSunday (easter y) ≡ true
+pub on-sunday : (y : ℕ) → inCalendar y ≡ true → eqb (easter y % 7) 1 ≡ true
 unfolding sunday easter dayNumber months newYear leap sumOf
 on-sunday y h =
     let b = in-calendar y h in

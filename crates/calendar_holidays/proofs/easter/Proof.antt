@@ -1,10 +1,10 @@
--- `calendar_groups::easter` meets its contract: 1 March is a date where the definition is not 0, and Easter so many days after it.
+-- `calendar_holidays::easter` meets its contract: 1 March is a date where the definition is not 0, and Easter so many days after it.
 use mathlib.Core.Path.{sym, _∙_}
 use native.Mathlib.Omega.{arith}
 use borrow.Author.Needs.{needs}
-use Rattle.calendar_groups.proofs.EasterSum.{from-march, no-march}
-use Rattle.calendar_groups.proofs.easter.Statement.{statement}
-use Rattle.calendar_groups.proofs.easter.Tie as tie
+use Rattle.calendar_holidays.proofs.EasterSum.{from-march, no-march}
+use Rattle.calendar_holidays.proofs.easter.Statement.{statement}
+use Rattle.calendar_holidays.proofs.easter.Tie as tie
 
 day-number-requires : tie.Need-day-number-requires
 day-number-requires c κs = search needs

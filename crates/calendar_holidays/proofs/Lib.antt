@@ -1,0 +1,4 @@
+pub mod EasterSum
+pub mod EasterDates
+pub mod Holidays
+pub mod Laws

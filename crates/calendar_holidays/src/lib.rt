@@ -1,0 +1,73 @@
+// Easter and the fourteen holidays of a year, of document 01, "Days and groups". None is known past the calendar.
+ghost use mathlib.Core.Path.{_≡_};
+ghost use Prim.Native.Nat.{_+_, _≤_};
+ghost use Rattle.calendar_holidays.specs.Yearly.{easterD, easterE, easter as easterOf, isFixedHoliday, isEasterHoliday};
+use calendar_dates::Date;
+use calendar_dates::Numbered;
+
+// How many days after 1 March Easter Sunday lies. The Julian month and day need not be told apart: the days of March and April are counted
+// on from 1 March, and 34 is what stands before 22 March and the thirteen days to the Gregorian date.
+fn easter_from_march(year: u32) -> u32
+    ensures { λ r. ⌜ (r ≡ 34 + easterD year + easterE year) × (r ≤ 69) ⌝ }
+{
+    let d = (19 * (year % 19) + 15) % 30;
+    let e = (2 * (year % 4) + 4 * (year % 7) + 34 - d) % 7;
+    34 + d + e
+}
+
+// The day number of Easter Sunday, and 0 outside the calendar.
+pub fn easter(year: u32) -> u32
+    ensures { λ r. ⌜ r ≡ easterOf year ⌝ }
+{
+    let march = Date {
+        year,
+        month: 3,
+        day: 1,
+    };
+    match calendar_dates::day_number(march) {
+        Numbered::Day(day) => day + easter_from_march(year),
+        Numbered::NoSuchDate => 0,
+    }
+}
+
+// `day` is one of the eight holidays of its year that have a fixed date: two before March, six after February.
+pub fn is_fixed_holiday(day: u32) -> bool
+    ensures { λ r. ⌜ r ≡ isFixedHoliday day ⌝ }
+{
+    if calendar_dates::LAST_DAY < day {
+        return false;
+    }
+    let place = calendar_dates::place_of(day);
+    let passed = place.passed;
+    if passed < 59 {
+        return (passed == 0) | (passed == 5);
+    }
+    let later = passed - place.leap;
+    (later == 83)
+        | ((later == 120) | ((later == 226) | ((later == 300) | ((later == 358) | (later == 359)))))
+}
+
+// `day` is one of the six holidays of its year that are counted from Easter Sunday. They begin with Clean Monday, 48 days before it: 11 is
+// the 59 days before March of a common year less those 48. Easter is worked out only where they can lie, from 15 February to the end of June.
+pub fn is_easter_holiday(day: u32) -> bool
+    ensures { λ r. ⌜ r ≡ isEasterHoliday day ⌝ }
+{
+    if calendar_dates::LAST_DAY < day {
+        return false;
+    }
+    let place = calendar_dates::place_of(day);
+    let passed = place.passed;
+    if passed < 45 {
+        return false;
+    }
+    if 178 < passed {
+        return false;
+    }
+    let monday = 11 + place.leap + easter_from_march(place.year);
+    if passed < monday {
+        return false;
+    }
+    let after = passed - monday;
+    (after == 0)
+        | ((after == 46) | ((after == 47) | ((after == 48) | ((after == 49) | (after == 98)))))
+}
