@@ -9,9 +9,10 @@ use Rattle.calendar_groups.specs.Holidays.{goodPairs, repeated, goodMoves, grou
 use Rattle.method.specs.Table.{size, offset, dayOf, held, shaped, isExtract, dayPart}
 use Rattle.method.specs.Relevant.{daysBefore, relevant, relevantDays}
 use Rattle.method.specs.Method.{wholeReach, seen, eligibles, spares, window, chosen, reach, isShort, outcome}
-use Rattle.method.specs.Adjustment.{windowEnds, latestEnd, adjustmentEnd, S, A, B, baselineAt, baseline}
+use Rattle.method.specs.Adjustment.{windowEnds, latestEnd, adjustmentEnd, S, A, B, adjusting, adjustingBy, baselineAt, baseline}
 use Rattle.method.specs.Eligible.{complete, eligible, spare, eventSum, higher, insertBy, sortBy}
 use Rattle.method.specs.HighXofY.{highXofY}
+use Rattle.method.specs.AverageXofY.{averageXofY}
 use Rattle.method.specs.Requested.{rulesOf, methodOf}
 use Rattle.method.specs.Rules.{methodBy}
 use Rattle.method.specs.Ruler.{rulerStart, rulerEnd, quarterOf, against}
@@ -24,8 +25,8 @@ use Rattle.method.proofs.Ruler.{start-is, end-is, mod-96}
 unfoldable pub definitions : ℕ
 unfolding keep all any leading member sumOf leastOf leap months newYear dayNumber yearOf easter fixedHolidays easterHolidays holidays
     isFixedHoliday isEasterHoliday firstDays secondDays isHoliday goodPairs repeated goodMoves group size offset dayOf held shaped isExtract dayPart daysBefore relevant relevantDays wholeReach seen eligibles spares window chosen
-    reach isShort outcome windowEnds latestEnd adjustmentEnd places S A B baselineAt baseline complete eligible spare eventSum higher insertBy
-    sortBy methodOf methodBy rulesOf highXofY rulerStart rulerEnd quarterOf against tableRefusals goodRequest requestRefusals closing firstOf methodology listRefusals byList verdict written wellFormed
+    reach isShort outcome windowEnds latestEnd adjustmentEnd places S A B adjusting adjustingBy baselineAt baseline complete eligible spare eventSum higher insertBy
+    sortBy methodOf methodBy rulesOf highXofY averageXofY rulerStart rulerEnd quarterOf against tableRefusals goodRequest requestRefusals closing firstOf methodology listRefusals byList verdict written wellFormed
 definitions = 0
 
 pub checks : Checks

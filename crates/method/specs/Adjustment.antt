@@ -1,9 +1,9 @@
--- 01, "Adjustment and baseline".
+-- 01, "Adjustment and baseline"; 02, order 3: the baseline without adjustment.
 use Prim.Native.Nat.{ℕ, zero, suc, _+_, _-_, _*_, _/_}
 use mathlib.Core.Bool.{Bool, cond, _&&_}
 use mathlib.Core.List.{List, _++_, map}
 use mathlib.Core.Option.{Option, none, some}
-use lib.ListN.{getD, take, drop}
+use lib.ListN.{length, getD, take, drop}
 use lib.IntN.{ℤ, pos, negsuc, _+ℤ_, _-ℤ_}
 use lib.Dec.{leb, eqb}
 use Rattle.base_lists.specs.Lists.{all, sumOf, places}
@@ -48,33 +48,54 @@ B event chosen end = sumOf (map (S event chosen) (places 12 (end - 12)))
 abbrev pub adjustment : ℕ → ℕ → ℕ → ℤ
 adjustment n a b = pos (n * a) -ℤ pos b
 
--- "The baseline at event quarter t is max(0, 12·S(t) + N·A - B)/(12N).": its numerator before the floor, and floored at zero
-abbrev pub unfloored : ℕ → ℤ → ℤ
-unfloored s adj = pos (12 * s) +ℤ adj
+-- its numerator for the chosen days, D-1 and D; none where there is no adjustment window
+unfoldable pub adjusting : Request → List (ℕ × Day) → Day → Day → Option ℤ
+adjusting r chosen yesterday today =
+    let end = adjustmentEnd r (ruler yesterday today) in
+    cond (eqb end 0) none (some (adjustment (length chosen) (A (ruler yesterday today) end) (B (r .event) chosen end)))
+
+-- 02, order 3: "`EV`'s zero byte becomes the request's method: 0 High X of Y, 1 this one."
+abbrev pub isAverage : Request → Bool
+isAverage r = eqb (r .method) 1
+
+-- "average them per quarter, without adjustment"; "the listing's adj is 0"
+unfoldable pub adjustingBy : Request → List (ℕ × Day) → Day → Day → Option ℤ
+adjustingBy r chosen yesterday today = cond (isAverage r) (some (pos 0)) (adjusting r chosen yesterday today)
+
+-- "Numerators are over the number averaged", and 01's are over 12 times the number chosen
+abbrev pub partsOf : Request → ℕ
+partsOf r = cond (isAverage r) 1 12
+
+-- "The baseline at event quarter t is max(0, 12·S(t) + N·A - B)/(12N).": its numerator before the floor, with these parts for 12; and floored at zero
+abbrev pub unfloored : ℕ → ℕ → ℤ → ℤ
+unfloored parts s adj = pos (parts * s) +ℤ adj
 
 abbrev pub floored : ℤ → ℕ
 floored (pos k) = k
 floored (negsuc k) = 0
 
--- what is worked out of the chosen days: 12N, the adjustment's numerator, and the numerators of the event's quarters before the floor
+-- what is worked out of the chosen days: the denominator, the adjustment's numerator, and the numerators of the event's quarters before the floor
 pub record Baseline : Type 0 where
   pub denominator : ℕ
   pub adjusted : ℤ
   pub numerators : List ℤ
 
-unfoldable pub baselineAt : Request → ℕ → List (ℕ × Day) → ℤ → Baseline
-baselineAt r n chosen adj =
+unfoldable pub baselineAt : Request → List (ℕ × Day) → ℤ → Baseline
+baselineAt r chosen adj =
     record {
-      denominator = 12 * n;
+      denominator = partsOf r * length chosen;
       adjusted = adj;
-      numerators = map (λ t. unfloored (S (r .event) chosen t) adj) (places (r .e - r .s) (r .s));
+      numerators = map (λ t. unfloored (partsOf r) (S (r .event) chosen t) adj) (places (r .e - r .s) (r .s));
     }
 
--- none where there is no adjustment window
-unfoldable pub baseline : Request → ℕ → List (ℕ × Day) → Day → Day → Option Baseline
-baseline r n chosen yesterday today =
-    let end = adjustmentEnd r (ruler yesterday today) in
-    cond (eqb end 0) none (some (baselineAt r n chosen (adjustment n (A (ruler yesterday today) end) (B (r .event) chosen end))))
+-- none where there is no adjustment
+abbrev pub baselineBy : Request → List (ℕ × Day) → Option ℤ → Option Baseline
+baselineBy r chosen none = none
+baselineBy r chosen (some adj) = some (baselineAt r chosen adj)
+
+-- of the chosen days in rank order, of D-1 and of D, by the request's method
+unfoldable pub baseline : Request → List (ℕ × Day) → Day → Day → Option Baseline
+baseline r chosen yesterday today = baselineBy r chosen (adjustingBy r chosen yesterday today)
 
 -- "Rounded kW is the nearest whole number, halves up"
 abbrev pub rounded : ℕ → ℕ → ℕ

@@ -42,7 +42,7 @@ d August y = dayNumber y 8 d
 
 -- a request for the hour from 15:00 (quarter 56 of its day), notified an hour before
 abbrev pub at15 : ℕ → ℕ → Request
-at15 p d = record { participation = p; event = d; s = 152; e = 156; n = 148 }
+at15 p d = record { participation = p; event = d; s = 152; e = 156; n = 148; method = 0 }
 
 -- the table of the days from `first` to `last` with events marked on the days given, all complete, every reading 1000
 abbrev pub marked : ℕ → ℕ → List ℕ → Table
@@ -131,9 +131,9 @@ pub record Checks : Type 0 where
   pub table-6-sums : map (S 100 table6) (places 4 152) ≡ 30500 ∷ 36300 ∷ 32900 ∷ 28200 ∷ []
   pub table-6-averages : map (λ q. 5 * q) (6100 ∷ 7260 ∷ 6580 ∷ 5640 ∷ []) ≡ 30500 ∷ 36300 ∷ 32900 ∷ 28200 ∷ []
   -- "N 2, S 2507, A 15132, B 30000: numerator 30348."
-  pub numerator-30348 : floored (unfloored 2507 (adjustment 2 15132 30000)) ≡ 30348
+  pub numerator-30348 : floored (unfloored 12 2507 (adjustment 2 15132 30000)) ≡ 30348
   -- "N 2, S 10, A 0, B 1200: numerator 0."
-  pub numerator-0 : floored (unfloored 10 (adjustment 2 0 1200)) ≡ 0
+  pub numerator-0 : floored (unfloored 12 10 (adjustment 2 0 1200)) ≡ 0
   -- "6972 152 156 days 2 6951 6965 reach 21 over 24 adj 264", and the numerators of quarters 152 to 155 with their rounded kW
   pub worked-answer : verdict [] worked (at15 6900 6972) 4 ≡
       answered

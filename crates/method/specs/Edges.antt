@@ -24,7 +24,7 @@ abbrev pub chosenOf : Table → Request → List ℕ
 chosenOf t r = daysOf (chosen (methodOf (group []) r) (history t))
 
 abbrev pub notified : ℕ → Request
-notified n = record { participation = 0; event = 1; s = 152; e = 156; n = n }
+notified n = record { participation = 0; event = 1; s = 152; e = 156; n = n; method = 0 }
 
 -- from Tuesday 20 to Wednesday 28 August 2024, with this mark on Friday the 23rd, and with this reading at its quarter 0
 abbrev pub fiveDays : ℕ → ℕ → Table
@@ -49,7 +49,7 @@ silent = record { first = 11 January 2019; marks = replicate 23 0; readings = re
 
 -- a request for day 9006 with these P, s, e and n
 abbrev pub asked : ℕ → ℕ → ℕ → ℕ → Request
-asked p s e n = record { participation = p; event = 9006; s = s; e = e; n = n }
+asked p s e n = record { participation = p; event = 9006; s = s; e = e; n = n; method = 0 }
 
 -- the table of `h` days from `first` on, with so many readings
 abbrev pub lent : ℕ → ℕ → ℕ → Table

@@ -7,7 +7,6 @@ use Rattle.calendar_groups.specs.declared.Group.the-variants.{Weekday, Saturday
 use Rattle.method.specs.declared.Request.{Request}
 use Rattle.method.specs.Eligible.{higher, sortBy}
 use Rattle.method.specs.Rules.{Rules}
-use Rattle.method.specs.Adjustment.{baseline}
 
 -- "Y and N are 10 and 5 for a weekday, 3 and 2 otherwise."
 abbrev pub Y : Group → ℕ
@@ -30,5 +29,4 @@ highXofY own r =
       order = sortBy (higher r);
       passed = λ size. 0;
       taken = λ size. cond (ltb size (N own)) 0 (N own);
-      finish = baseline r (N own);
     }

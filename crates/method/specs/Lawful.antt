@@ -1,4 +1,4 @@
--- What a method has to show so that demand 3 holds of it: the one list that an instance answers. High X of Y does (`lawful` of `method_laws`).
+-- What a method has to show so that demand 3 holds of it: the one list that an instance answers. Both methods do (`lawful` of `method_laws`).
 use mathlib.Core.Path.{_≡_}
 use mathlib.Core.Bool.{true}
 use mathlib.Core.List.{List, [], _∷_}

@@ -6,6 +6,7 @@ pub mod Adjustment
 pub mod Eligible
 pub mod Rules
 pub mod HighXofY
+pub mod AverageXofY
 pub mod Requested
 pub mod Verdict
 pub mod Lawful

@@ -1,5 +1,5 @@
 -- 01, "Choosing the days": window, chosen days, reach and margin, for any method of choosing and any finish. A method is what one request
--- asks of the days; `HighXofY` is the methodology's. `A` is what is held of a day, `O` what comes after the choice.
+-- asks of the days; `HighXofY` and `AverageXofY` are the methodology's. `A` is what is held of a day, `O` what comes after the choice.
 use Prim.Native.Nat.{ℕ, _-_}
 use mathlib.Core.Bool.{Bool, cond, _&&_}
 use mathlib.Core.List.{List, _++_, map}

@@ -72,11 +72,11 @@ tableRefusals t =
     (not (all goodMark (t .marks)), BadMark (leading goodMark (t .marks))) ∷
     (not (all goodReading (t .readings)), BadReading (leading goodReading (t .readings))) ∷ []
 
--- "P above 36,524; s outside 96..191; e outside s+1..192; n above s": none of these
+-- "P above 36,524; s outside 96..191; e outside s+1..192; n above s": none of these; 02, order 3: "an unknown method is 4"
 unfoldable pub goodRequest : Request → Bool
 goodRequest r =
     leb (r .participation) lastDay && (leb (rulerStart (r .event)) (r .s) && ltb (r .s) (rulerEnd (r .event))) &&
-    (leb (r .s + 1) (r .e) && leb (r .e) (rulerEnd (r .event))) && leb (r .n) (r .s)
+    (leb (r .s + 1) (r .e) && leb (r .e) (rulerEnd (r .event))) && leb (r .n) (r .s) && leb (r .method) 1
 
 -- 4 to 7 over a history, where `room` is the output's length
 unfoldable pub requestRefusals : History Day → Request → ℕ → List (Bool × Refusal)

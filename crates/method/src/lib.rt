@@ -1,6 +1,11 @@
 // The methodology as document 01 fixes it: definitions and theorems, no code. The types that definitions and code share are
 // declared here.
 
+// The methods that a request may ask for: High X of Y, and Average X of Y (document 02, order 3).
+pub const HIGH_X_OF_Y: u32 = 0;
+
+pub const AVERAGE_X_OF_Y: u32 = 1;
+
 // How many quarters a day has.
 pub const QUARTERS: usize = 96;
 
@@ -10,13 +15,14 @@ pub const LOOK_BACK: u32 = 45;
 // 01: "4,294,967,295 means missing"
 pub const MISSING: u32 = 4294967295;
 
-// What is asked: participation start P, event day D, and the places s, e and n on the two-day ruler.
+// What is asked: participation start P, event day D, the places s, e and n on the two-day ruler, and the method.
 pub struct Request {
     pub participation: u32,
     pub event: u32,
     pub s: u32,
     pub e: u32,
     pub n: u32,
+    pub method: u32,
 }
 
 // The refusals of 01, in the order in which they are tested, each with the numbers that it carries; then those of the orders after it, which carry none.
@@ -31,7 +37,7 @@ pub enum Refusal {
     BadMark(u32),
     // 3: the place of the first reading out of range
     BadReading(u32),
-    // 4: P, s, e or n out of range
+    // 4: P, s, e or n out of range, or an unknown method
     BadRequest,
     // 5: the event day is not held
     NotHeld,

@@ -1,4 +1,4 @@
--- Demand 3 for High X of Y over tables: the abstract part (`Stable`, `Reach`, `Undecided`) at the histories of tables, behind the refusals
+-- Demand 3 over tables, by either method: the abstract part (`Stable`, `Reach`, `Undecided`) at the histories of tables, behind the refusals
 -- that come before the margin's (`Replies`).
 use mathlib.Core.Path.{_≡_, sym, ap, _∙_}
 use mathlib.Core.Logic.{⊎-elim}

@@ -19,10 +19,9 @@ use Rattle.method.specs.declared.Request.{Request}
 use Rattle.method.specs.declared.Refusal.{Refusal}
 use Rattle.method.specs.Table.{Table, Day, dayOf, held, history, isExtract}
 use Rattle.method.specs.Method.{outcome}
-use Rattle.method.specs.Adjustment.{baseline, ruler, twelve, windowEnds, latestEnd, adjustmentEnd, A}
-use Rattle.method.specs.HighXofY.{highXofY, N}
+use Rattle.method.specs.Adjustment.{baseline, adjusting, adjustingBy, ruler, twelve, windowEnds, latestEnd, adjustmentEnd, A}
 use Rattle.method.specs.Rules.{methodBy}
-use Rattle.method.specs.Requested.{rulesOf, methodOf}
+use Rattle.method.specs.Requested.{methodOf}
 use Rattle.method.specs.Ruler.{rulerStart}
 use Rattle.method.proofs.Ruler.{start-size, window-before}
 use Rattle.method.specs.Verdict.{closing, goodRequest, requestRefusals, firstOf, methodology, listRefusals, byList, verdict, wellFormed}
@@ -71,10 +70,10 @@ module _ (r : Request) (ordered : r .n ≤ r .s) (enough : 12 ≤ r .s) where
       rw (ends-same (r .s) enough xs ys alike (r .n) ordered, latest-same (r .s) enough xs ys alike (r .s) (omega arith))
 
   -- the baseline sees the ruler's readings before s alone
-  baseline-same : (n : ℕ) (chosen : List (ℕ × Day)) (yesterday a b : Day)
-      → take (r .s) (ruler yesterday a) ≡ take (r .s) (ruler yesterday b) → baseline r n chosen yesterday a ≡ baseline r n chosen yesterday b
-  unfolding baseline A
-  baseline-same n chosen yesterday a b alike =
+  baseline-same : (chosen : List (ℕ × Day)) (yesterday a b : Day)
+      → take (r .s) (ruler yesterday a) ≡ take (r .s) (ruler yesterday b) → baseline r chosen yesterday a ≡ baseline r chosen yesterday b
+  unfolding baseline adjustingBy adjusting A
+  baseline-same chosen yesterday a b alike =
       rw (end-same xs ys alike, twelve-same (r .s) enough xs ys alike (adjustmentEnd r ys) (end-below ys))
     where
       xs : List ℕ
@@ -117,12 +116,6 @@ known-quarters r e =
     let ordered : leb (r .n) (r .s) ≡ true = search (and-left, and-right) in
     (leb-true (rulerStart (r .event)) (r .s) on-D, leb-true (r .n) (r .s) ordered)
 
--- what comes of the chosen days looks at day D before s alone
-finish-same : (g : Group) (r : Request) → 12 ≤ r .s → r .n ≤ r .s → (chosen : List (ℕ × Day)) (yesterday a b : Day)
-    → take (r .s) (ruler yesterday a) ≡ take (r .s) (ruler yesterday b) → rulesOf g r .finish chosen yesterday a ≡ rulesOf g r .finish chosen yesterday b
-unfolding rulesOf highXofY
-finish-same g r enough ordered = baseline-same r ordered enough (N g)
-
 module _ (group : ℕ → Group) (t u : Table) (r : Request) (well : wellFormed t ≡ true)
     (starts : u .first ≡ t .first) (both : held (history u) (r .event) ≡ held (history t) (r .event))
     (agrees : (d : ℕ) → held (history t) d ≡ true → d < r .event → dayOf u d ≡ dayOf t d)
@@ -132,7 +125,7 @@ module _ (group : ℕ → Group) (t u : Table) (r : Request) (well : wellFormed 
   unfolding methodOf methodBy
   outcomes good holds =
       before-same (methodOf group r) (lawful group r) (history t) (history u) starts holds (both ∙ holds) agrees
-      (λ days e. finish-same (group (r .event)) r (omega (arith, q .0, window-before (r .event))) (q .1) days yesterday (dayOf u (r .event)) (dayOf t (r .event))
+      (λ days e. baseline-same r (q .1) (omega (arith, q .0, window-before (r .event))) days yesterday (dayOf u (r .event)) (dayOf t (r .event))
       (rulers (day-size t well (r .event - 1) e ∙ start-size (r .event))))
     where
       q : (rulerStart (r .event) ≤ r .s) × (r .n ≤ r .s)
