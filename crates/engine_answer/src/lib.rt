@@ -23,7 +23,7 @@ pub struct Chosen {
 pub struct Answer {
     pub given: Given,
     pub chosen: Chosen,
-    // 12N, under every numerator
+    // what every numerator is over: 12N, or the number averaged
     pub denominator: u32,
     // the adjustment's numerator
     pub adjustment: i64,

@@ -1,21 +1,22 @@
--- What every answer of the methodology has: its chosen days and adjustment window, a numerator for each of the event's quarters, a good
--- request, and room.
+-- What every answer of the methodology has: its chosen days and their adjustment, a numerator for each of the event's quarters, a good request,
+-- and room.
 use Prim.Native.Nat.{ℕ, _-_, _≤_}
 use mathlib.Core.Path.{_≡_, refl, ap, sym, _∙_}
 use mathlib.Core.Bool.{Bool, true, false, cond}
 use mathlib.Core.List.{List, map}
 use mathlib.Core.Option.{Option, none, some}
+use mathlib.Core.Logic.{_⊎_, inl, inr}
 use native.Mathlib.Omega.{arith}
 use lib.ListN.{length, length-map}
-use lib.IntN.{ℤ}
+use lib.IntN.{ℤ, pos}
 use lib.Dec.{eqb}
 use borrow.Author.Tests.{eqb-false}
 use Rattle.calendar_groups.specs.declared.Group.{Group}
 use Rattle.method.specs.declared.Request.{Request}
 use Rattle.method.specs.Table.{Day, History}
 use Rattle.method.specs.Method.{Method, short, few, chose, outcome, window, chosen, reach, isShort, wholeReach, daysOf}
-use Rattle.method.specs.Adjustment.{ruler, adjustmentEnd, A, B, S, adjustment, unfloored, Baseline, floored, baseline, baselineAt}
-use Rattle.method.specs.HighXofY.{N}
+use Rattle.method.specs.Adjustment.{ruler, adjustmentEnd, A, B, S, adjustment, adjusting, isAverage, adjustingBy, partsOf, unfloored, floored}
+use Rattle.method.specs.Adjustment.{Baseline, baselineAt, baselineBy, baseline}
 use Rattle.method.specs.Rules.{methodBy}
 use Rattle.method.specs.Requested.{methodOf}
 use Rattle.method.specs.Verdict.{Answer, answered, requestRefusals, closing, methodology}
@@ -25,7 +26,6 @@ use Rattle.engine_refusals.specs.Steps.{tested}
 use Rattle.engine_refusals.proofs.FirstRefusal.{GoodRequest, good-request, Fits, request-passed}
 use Rattle.engine_refusals.proofs.Replies.{never-both, answered-past}
 use Rattle.engine_choice.proofs.Requested.{chosen-five}
-use Rattle.engine_baseline.proofs.HighXofY.{finish-is, chosen-size}
 use Rattle.base_lists.specs.Lists.{places}
 
 -- an answer is of chosen days and of what was worked out of them
@@ -46,28 +46,48 @@ closed false false k p q days n none e = absurd (never-both refl e)
 closed false false k p q days n (some b) e =
     record { its = b; found = refl; enough = refl; same-days = cc; same-adjusted = cc; same-numerators = cc }
 
-some-window : (x : Bool) {v b : Baseline} → cond x none (some v) ≡ some b → (x ≡ false) × (v ≡ b)
-some-window true e = let z : _≡_ {A = ℕ} 0 1 = cc in absurd (omega arith)
-some-window false e = (refl, cc)
+-- what is worked out of days is so with their adjustment
+record Worked (r : Request) (days : List (ℕ × Day)) (moved : Option ℤ) (its : Baseline) : Type 0 where
+  found : moved ≡ some (its .adjusted)
+  numerators : its .numerators ≡ map (λ t. unfloored (partsOf r) (S (r .event) days t) (its .adjusted)) (places (r .e - r .s) (r .s))
+
+worked : (r : Request) (days : List (ℕ × Day)) (moved : Option ℤ) (its : Baseline) → baselineBy r days moved ≡ some its → Worked r days moved its
+unfolding baselineAt
+worked r days none its e = let z : _≡_ {A = ℕ} 0 1 = cc in absurd (omega arith)
+worked r days (some adj) its e =
+    let same : baselineAt r days adj ≡ its = cc in
+    rw (← same) (record { found = refl; numerators = refl })
+
+-- an adjustment is 0, where the method has none, or that of an adjustment window
+module _ (r : Request) (days : List (ℕ × Day)) (yesterday today : Day) where
+  abbrev line : List ℕ
+  line = ruler yesterday today
+
+  abbrev end : ℕ
+  end = adjustmentEnd r line
+
+  pub record InWindow (adj : ℤ) : Type 0 where
+    pub some-end : end ≡ 0 → ⊥
+    pub adjusted-is : adj ≡ adjustment (length days) (A line end) (B (r .event) days end)
+
+  pub adjustments : {adj : ℤ} → adjustingBy r days yesterday today ≡ some adj → (adj ≡ pos 0) ⊎ InWindow adj
+  unfolding adjustingBy adjusting
+  adjustments {adj} e = go (isAverage r) (eqb end 0) refl refl
+    where
+      go : (b x : Bool) → isAverage r ≡ b → eqb end 0 ≡ x → (adj ≡ pos 0) ⊎ InWindow adj
+      go true x p q = inl (let z = rw p at e in cc)
+      go false true p q = let f = rw (p, q) at e in let z : _≡_ {A = ℕ} 0 1 = cc in absurd (omega arith)
+      go false false p q = inr (let f = rw (p, q) at e in record { some-end = eqb-false end 0 q; adjusted-is = cc })
 
 module _ (group : ℕ → Group) (h : History Day) (r : Request) where
   abbrev pub how : Method Day (Option Baseline)
   how = methodOf group r
 
-  abbrev pub n : ℕ
-  n = N (group (r .event))
-
   abbrev pub ch : List (ℕ × Day)
   ch = chosen how h
 
-  abbrev pub line : List ℕ
-  line = ruler (h .day (r .event - 1)) (h .day (r .event))
-
-  abbrev pub end : ℕ
-  end = adjustmentEnd r line
-
-  abbrev pub adj : ℤ
-  adj = adjustment n (A line end) (B (r .event) ch end)
+  abbrev moved : Option ℤ
+  moved = adjustingBy r ch (h .day (r .event - 1)) (h .day (r .event))
 
   module _ (room : ℕ) {a : Answer} (e : methodology group h r room ≡ answered a) where
     past : (tested (requestRefusals h r room) ≡ Passed) × (closing (outcome how h) ≡ answered a)
@@ -77,38 +97,29 @@ module _ (group : ℕ → Group) (h : History Day) (r : Request) where
     pub fits : Fits h r room
     fits = request-passed h r room (past .0)
 
-    its-days : Closed a (eqb (how .taken (length (window how h))) 0) (daysOf ch) (baseline r n ch (h .day (r .event - 1)) (h .day (r .event)))
+    its-days : Closed a (eqb (how .taken (length (window how h))) 0) (daysOf ch) (baseline r ch (h .day (r .event - 1)) (h .day (r .event)))
     unfolding outcome methodOf methodBy
     its-days =
         closed (isShort how h) (eqb (how .taken (length (window how h))) 0) (wholeReach how) (length (window how h)) (reach how h) (daysOf ch)
-        (reach how h) (baseline r n ch (h .day (r .event - 1)) (h .day (r .event)))
-        (rw (sym (finish-is group r ch (h .day (r .event - 1)) (h .day (r .event)))) (past .1))
+        (reach how h) (baseline r ch (h .day (r .event - 1)) (h .day (r .event))) (past .1)
 
-    -- days are chosen, N of them
+    -- days are chosen
     pub enough : eqb (how .taken (length (window how h))) 0 ≡ false
     enough = its-days .enough
-
-    pub size : length ch ≡ n
-    size = chosen-size group r h enough
 
     pub days-are : a .days ≡ daysOf ch
     days-are = its-days .same-days
 
-    -- there is an adjustment window
-    worked : (eqb end 0 ≡ false) × (baselineAt r n ch adj ≡ its-days .its)
+    -- and the adjustment is theirs
+    its-worked : Worked r ch moved (its-days .its)
     unfolding baseline
-    worked = some-window (eqb end 0) (its-days .found)
+    its-worked = worked r ch moved (its-days .its) (its-days .found)
 
-    pub some-end : end ≡ 0 → ⊥
-    some-end = eqb-false end 0 (worked .0)
+    pub adjusts : adjustingBy r ch (h .day (r .event - 1)) (h .day (r .event)) ≡ some (a .adjusted)
+    adjusts = its-worked .found ∙ ap (λ (z : ℤ). some z) (sym (its-days .same-adjusted))
 
-    pub adjusted-is : a .adjusted ≡ adj
-    unfolding baselineAt
-    adjusted-is = its-days .same-adjusted ∙ sym (ap (λ (b : Baseline). b .adjusted) (worked .1))
-
-    pub numerators-are : a .numerators ≡ map floored (map (λ t. unfloored (S (r .event) ch t) adj) (places (r .e - r .s) (r .s)))
-    unfolding baselineAt
-    numerators-are = its-days .same-numerators ∙ ap (λ (b : Baseline). map floored (b .numerators)) (sym (worked .1))
+    pub numerators-are : a .numerators ≡ map floored (map (λ t. unfloored (partsOf r) (S (r .event) ch t) (a .adjusted)) (places (r .e - r .s) (r .s)))
+    numerators-are = rw (its-days .same-adjusted) (its-days .same-numerators ∙ ap (map floored) (its-worked .numerators))
 
 -- what callers ask of an answer
 pub record Sound (r : Request) (room : ℕ) (a : Answer) : Type 0 where

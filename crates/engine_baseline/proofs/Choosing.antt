@@ -13,11 +13,12 @@ use Rattle.base_lists.proofs.Bools.{both}
 use Rattle.calendar_groups.specs.declared.Group.{Group}
 use Rattle.method.specs.declared.Request.{Request}
 use Rattle.method.specs.Table.{Day, History, held, eventBit, outageBit}
-use Rattle.method.specs.Adjustment.{Baseline, baseline}
+use Rattle.method.specs.Adjustment.{Baseline, isAverage, baseline}
 use Rattle.method.specs.Eligible.{higher, insertBy, sortBy, eligible, spare, complete}
-use Rattle.method.specs.HighXofY.{N}
+use Rattle.method.specs.HighXofY.{highXofY}
+use Rattle.method.specs.AverageXofY.{averageXofY}
 use Rattle.method.specs.Rules.{methodBy}
-use Rattle.method.specs.Requested.{methodOf}
+use Rattle.method.specs.Requested.{rulesOf, methodOf}
 use Rattle.method.specs.Method.{Method, Outcome, short, few, chose, outcome, daysOf, wholeReach, seen, eligibles, spares, window, chosen}
 use Rattle.method.specs.Method.{reach, isShort}
 use Rattle.method_laws.proofs.Requested.{lawful}
@@ -31,7 +32,6 @@ use Rattle.engine_choice.specs.Steps.{choiceOf, noDays}
 use Rattle.engine_choice.proofs.Requested.{chosen-five}
 use Rattle.engine_baseline.specs.Engine.{withDays}
 use Rattle.engine_baseline.specs.Steps.{Fit, Ready, replyOf}
-use Rattle.engine_baseline.proofs.HighXofY.{order-is, finish-is, chosen-size}
 
 -- ---- a choice and its outcome
 module _ {A O : Type 0} (m : Method A O) (h : History A) where
@@ -134,6 +134,15 @@ every-keep P Q q f (x ∷ xs) e = go (q x) refl (every-keep P Q q f xs (e .1))
     go true t later = (f x (e .0) t, later)
     go false t later = later
 
+-- spares fill a window in an order that adds no day, whatever the method
+every-ordered : (P : ℕ × Day → Type 0) (g : Group) (r : Request) (days : List (ℕ × Day)) → Every P days → Every P (rulesOf g r .order days)
+unfolding rulesOf highXofY averageXofY
+every-ordered P g r days e = go (isAverage r)
+  where
+    go : (b : Bool) → Every P ((cond b (averageXofY g r) (highXofY g r)) .order days)
+    go true = e
+    go false = every-sorted P (higher r) days e
+
 -- ---- the chosen days of a history
 module _ (h : History Day) where
   -- a day with what is held of it
@@ -188,10 +197,8 @@ module _ (group : ℕ → Group) (r : Request) (h : History Day) where
   kept-whole = every-keep (Known h) (Whole h) (λ (p : ℕ × Day). spare (p .1)) (spare-whole h) (seen method h) seen-known
 
   spares-whole : Every (Whole h) (spares method h)
-  unfolding spares
-  spares-whole =
-      rw (order-is group r (keep (λ (p : ℕ × Day). method .spare (p .1)) (seen method h)))
-      (every-sorted (Whole h) (higher r) (keep (λ (p : ℕ × Day). method .spare (p .1)) (seen method h)) kept-whole)
+  unfolding spares methodOf methodBy
+  spares-whole = every-ordered (Whole h) (group (r .event)) r (keep (λ (p : ℕ × Day). spare (p .1)) (seen method h)) kept-whole
 
   window-whole : Every (Whole h) (window method h)
   unfolding window
@@ -248,15 +255,10 @@ module _ (group : ℕ → Group) (r : Request) (h : History Day) (room : ℕ) (f
       reaches : c .chosen .reach ≡ reach (methodOf group r) h
       reaches = ap (λ (k : Chosen). k .reach) (x .chosen)
 
-      counted : c .chosen .count ≡ N (group (r .event))
-      counted = ap (λ (k : Chosen). k .count) (x .chosen) ∙ chosen-size group r h (x .taken)
-
       days : withDays h (take (c .chosen .count) (c .chosen .days)) ≡ ch
       days = ap (withDays h) listed ∙ chosen-again group r h
 
       same : chose (take (c .chosen .count) (c .chosen .days)) (c .chosen .reach)
-          (baseline r (c .chosen .count) (withDays h (take (c .chosen .count) (c .chosen .days))) (h .day (r .event - 1)) (h .day (r .event)))
-          ≡ chose (daysOf ch) (reach (methodOf group r) h) (methodOf group r .finish ch (h .day (r .event - 1)) (h .day (r .event)))
-      same =
-          (λ i. chose (listed i) (reaches i) (baseline r (counted i) (days i) (h .day (r .event - 1)) (h .day (r .event)))) ∙
-          ap (chose (daysOf ch) (reach (methodOf group r) h)) (sym (finish-is group r ch (h .day (r .event - 1)) (h .day (r .event))))
+          (baseline r (withDays h (take (c .chosen .count) (c .chosen .days))) (h .day (r .event - 1)) (h .day (r .event)))
+          ≡ chose (daysOf ch) (reach (methodOf group r) h) (baseline r ch (h .day (r .event - 1)) (h .day (r .event)))
+      same = λ i. chose (listed i) (reaches i) (baseline r (days i) (h .day (r .event - 1)) (h .day (r .event)))

@@ -1,21 +1,21 @@
 -- Over good readings no sum and no numerator wraps: each stays below 1,200,000,001.
 use Prim.Native.Nat.{ℕ, _-_, _*_, _%_, _^_, _≤_}
 use mathlib.Core.Path.{_≡_, refl, sym, _∙_}
-use mathlib.Core.Bool.{Bool, true}
+use mathlib.Core.Bool.{Bool, true, false, cond}
 use mathlib.Core.List.{List, [], _∷_, map, map-map}
+use mathlib.Core.Logic.{⊎-elim}
 use native.Mathlib.Nat.{mul-suc, mul-le-mul-right}
 use native.Mathlib.Omega.{arith}
 use borrow.Author.Tests.{leb-true, le-leb}
 use lib.Dec.{leb}
 use lib.ListN.{length, getD}
-use lib.IntN.{ℤ}
 use Rattle.base_lists.specs.Lists.{all, sumOf, places}
 use Rattle.base_lists.proofs.All.{all-at, all-append}
 use Rattle.calendar_groups.specs.declared.Group.{Group}
 use Rattle.method.specs.declared.Request.{Request}
 use Rattle.method.specs.Table.{Day, History, goodReading}
 use Rattle.method.specs.Ruler.{against}
-use Rattle.method.specs.Adjustment.{S, A, B, unfloored, floored}
+use Rattle.method.specs.Adjustment.{ruler, adjustmentEnd, S, A, B, adjustment, isAverage, partsOf, unfloored, floored}
 use Rattle.method.specs.Eligible.{complete}
 use Rattle.method.specs.Rules.{methodBy}
 use Rattle.method.specs.Requested.{methodOf}
@@ -29,13 +29,18 @@ use Rattle.engine_choice.proofs.Requested.{chosen-five}
 use Rattle.engine_baseline.specs.Engine.{withDays, inWords}
 use Rattle.engine_baseline.specs.Store.{GoodDays}
 use Rattle.engine_baseline.proofs.Choosing.{Every, Whole, chosen-whole, chosen-again}
-use Rattle.engine_baseline.proofs.Answered.{line, end, adj, ch, n, fits, enough, size, days-are, some-end, adjusted-is, numerators-are}
+use Rattle.engine_baseline.proofs.Answered.{adjustments, ch, fits, enough, days-are, adjusts, numerators-are}
 
 -- a rule of every value
 all-map : {A : Type 0} (p : ℕ → Bool) (f : A → ℕ) → ((x : A) → p (f x) ≡ true) → (xs : List A) → all p (map f xs) ≡ true
 unfolding all
 all-map p f h [] = refl
 all-map p f h (x ∷ xs) = rw (h x) (all-map p f h xs)
+
+-- the parts are 1 or 12
+parts-most : (b : Bool) → cond b 1 12 ≤ 12
+parts-most true = omega arith
+parts-most false = omega arith
 
 module _ (h : History Day) (good : GoodDays h) where
   -- a whole day's readings are in range
@@ -56,10 +61,24 @@ module _ (h : History Day) (good : GoodDays h) where
     abbrev days : List (ℕ × Day)
     days = ch group h r
 
-    abbrev moved : ℤ
-    moved = adj group h r
+    abbrev line : List ℕ
+    line = ruler (h .day (r .event - 1)) (h .day (r .event))
 
-    line-good : all goodReading (line group h r) ≡ true
+    abbrev end : ℕ
+    end = adjustmentEnd r line
+
+    sum-most : (t : ℕ) → S (r .event) days t ≤ 50000000
+    sum-most t = omega (arith, S-most (r .event) t days (chosen-whole group r h), chosen-five group r h)
+
+    -- an adjustment n·a - b takes it no further than n·a
+    adjusted-most : (n own usual : ℕ) → n * own ≤ 600000000 → a .adjusted ≡ adjustment n own usual
+        → (t : ℕ) → floored (unfloored (partsOf r) (S (r .event) days t) (a .adjusted)) ≤ 1200000000
+    adjusted-most n own usual most is t =
+        let parts : partsOf r * S (r .event) days t ≤ 12 * S (r .event) days t = mul-le-mul-right (S (r .event) days t) (parts-most (isAverage r)) in
+        rw (is, numerator-is (partsOf r) (S (r .event) days t) n own usual) (omega (arith, sum-most t, parts, most))
+
+    -- that of a window has N·A at most 600,000,000
+    line-good : all goodReading line ≡ true
     unfolding methodOf methodBy
     line-good =
         rw (
@@ -68,38 +87,35 @@ module _ (h : History Day) (good : GoodDays h) where
           good (r .event) (fits group h r room e .holds),
         )
 
-    own-most : A (line group h r) (end group h r) ≤ 120000000
-    own-most =
-        window-most (line group h r) (end group h r) line-good (adjustment-holds (line group h r) r (some-end group h r room e))
+    own-most : (end ≡ 0 → ⊥) → length days * A line end ≤ 600000000
+    own-most some =
+        let scaled : length days * A line end ≤ 5 * A line end = mul-le-mul-right (A line end) (chosen-five group r h) in
+        omega (arith, scaled, window-most line end line-good (adjustment-holds line r some))
 
-    sum-most : (t : ℕ) → S (r .event) days t ≤ 50000000
-    sum-most t = omega (arith, S-most (r .event) t days (chosen-whole group r h), chosen-five group r h)
-
-    numerator : (t : ℕ) → floored (unfloored (S (r .event) days t) moved) ≤ 1200000000
-    numerator t =
-        let own = A (line group h r) (end group h r) in
-        let scaled : n group h r * own ≤ 5 * own = mul-le-mul-right own (omega (arith, size group h r room e, chosen-five group r h)) in
-        rw (numerator-is (S (r .event) days t) (n group h r) own (B (r .event) days (end group h r)))
-        (omega (arith, sum-most t, scaled, own-most))
+    numerator : (t : ℕ) → floored (unfloored (partsOf r) (S (r .event) days t) (a .adjusted)) ≤ 1200000000
+    numerator =
+        ⊎-elim (adjusted-most 0 0 0 (omega arith))
+        (λ w. adjusted-most (length days) (A line end) (B (r .event) days end) (own-most (w .some-end)) (w .adjusted-is))
+        (adjustments r days (h .day (r .event - 1)) (h .day (r .event)) (adjusts group h r room e))
 
     pub numerators-most : all (λ x. leb x 1200000000) (a .numerators) ≡ true
     numerators-most =
-        rw (numerators-are group h r room e, map-map floored (λ t. unfloored (S (r .event) days t) moved) (places (r .e - r .s) (r .s)))
-        (all-map (λ x. leb x 1200000000) (λ t. floored (unfloored (S (r .event) days t) moved))
-        (λ t. le-leb (floored (unfloored (S (r .event) days t) moved)) 1200000000 (numerator t)) (places (r .e - r .s) (r .s)))
+        rw (numerators-are group h r room e, map-map floored (λ t. unfloored (partsOf r) (S (r .event) days t) (a .adjusted)) (places (r .e - r .s) (r .s)))
+        (all-map (λ x. leb x 1200000000) (λ t. floored (unfloored (partsOf r) (S (r .event) days t) (a .adjusted)))
+        (λ t. le-leb (floored (unfloored (partsOf r) (S (r .event) days t) (a .adjusted))) 1200000000 (numerator t)) (places (r .e - r .s) (r .s)))
 
     -- nothing wraps
-    exact-at : (t : ℕ) → floored (unfloored (S (r .event) days t % 2 ^ 32) moved) % 2 ^ 32 ≡ floored (unfloored (S (r .event) days t) moved)
+    exact-at : (t : ℕ) → floored (unfloored (partsOf r) (S (r .event) days t % 2 ^ 32) (a .adjusted)) % 2 ^ 32 ≡ floored (unfloored (partsOf r) (S (r .event) days t) (a .adjusted))
     exact-at t =
         let s : S (r .event) days t % 2 ^ 32 ≡ S (r .event) days t = omega (arith, sum-most t) in
         rw s (omega (arith, numerator t))
 
-    same : map (λ t. floored (unfloored (S (r .event) (withDays h (a .days)) t % 2 ^ 32) (a .adjusted)) % 2 ^ 32) (places (r .e - r .s) (r .s))
+    same : map (λ t. floored (unfloored (partsOf r) (S (r .event) (withDays h (a .days)) t % 2 ^ 32) (a .adjusted)) % 2 ^ 32) (places (r .e - r .s) (r .s))
         ≡ a .numerators
     same =
-        rw (days-are group h r room e, chosen-again group r h, adjusted-is group h r room e, numerators-are group h r room e)
+        rw (days-are group h r room e, chosen-again group r h, numerators-are group h r room e)
         (over-same _ _ (r .e - r .s) (r .s) (λ t a b. exact-at t) ∙
-        sym (map-map floored (λ t. unfloored (S (r .event) days t) moved) (places (r .e - r .s) (r .s))))
+        sym (map-map floored (λ t. unfloored (partsOf r) (S (r .event) days t) (a .adjusted)) (places (r .e - r .s) (r .s))))
 
     pub exact-answer : inWords r h (answered a) ≡ answered a
     unfolding inWords

@@ -1,4 +1,3 @@
-pub mod HighXofY
 pub mod Choosing
 pub mod Answered
 pub mod Exact

@@ -1,14 +1,15 @@
 -- The steps of the engine, over plain variables: what each asks and gives.
 use Prim.Native.Nat.{ℕ, _+_, _-_, _*_, _%_, _^_, _≤_, _<_, min}
-use mathlib.Core.Path.{_≡_, sym, ap, ap₂, _∙_}
+use mathlib.Core.Path.{_≡_, refl, sym, ap, ap₂, _∙_}
 use mathlib.Core.Bool.{Bool, true, false}
 use mathlib.Core.List.{List, _++_, map}
+use mathlib.Core.Option.{Option, some}
 use native.Mathlib.Nat.{mul-le-mul-right}
 use native.Mathlib.Omega.{arith}
 use borrow.Author.Needs.{sfits-of}
 use borrow.Author.Tests.{eq-eqb, ne-eqb}
 use lib.ListN.{length, getD, take, drop, length-take, length-append, length-replicate, length-map}
-use lib.IntN.{ℤ}
+use lib.IntN.{ℤ, pos}
 use lib.Signed.{mag}
 use mir.Syntax.{w64}
 use mir.Val.{toZ, ofZ}
@@ -21,7 +22,8 @@ use Rattle.method.specs.declared.Refusal.{Refusal}
 use Rattle.method.specs.declared.Refusal.the-variants.{NoAdjustmentWindow, BadMoves}
 use Rattle.method.specs.Table.{Day, History, size}
 use Rattle.method.specs.Ruler.{against}
-use Rattle.method.specs.Adjustment.{ruler, adjustmentEnd, A, B, S, adjustment, unfloored, floored, baselineAt, baseline}
+use Rattle.method.specs.Adjustment.{ruler, adjustmentEnd, A, B, S, adjustment, adjusting, isAverage, adjustingBy, partsOf, unfloored, floored}
+use Rattle.method.specs.Adjustment.{baselineAt, baseline}
 use Rattle.method.specs.Method.{outcome}
 use Rattle.method.specs.Requested.{methodOf}
 use Rattle.method.specs.Verdict.{Reply, refused, answered, requestRefusals, closing, methodology, written}
@@ -124,8 +126,111 @@ module _ (r : Request) (rooms : Directory) (readings : List ℕ) (room : ℕ) (c
   day-part d =
       ap (λ n. readingsAt n readings (start d)) (size-is (r .event - (r .event - d)) ∙ sym (size-is (getD (chosen .days) 0 0)))
 
-  -- yesterday's and today's readings, and the ruler
-  module _ {y z : List ℕ} (ey : y ≡ readingsAt (size (r .event - 1)) readings (getD (rooms .at) 1 0))
+  -- the chosen days with what is held of them: how many they are, and their sums
+  abbrev known : List (ℕ × Day)
+  known = withDays h days
+
+  known-long : length known ≡ chosen .count
+  unfolding withDays
+  known-long = length-map days (λ d. (d, h .day d)) ∙ days-long
+
+  S-is : (t : ℕ) → S (r .event) known t ≡ quarterSum wide readings at (against (r .event) t)
+  unfolding withDays
+  S-is t = S-placed (r .event) wide readings (h .day) start day-part days t
+
+  abbrev from : ℕ
+  from = against (r .event) (r .s)
+
+  against-next : (q : ℕ) → against (r .event) (r .s + q) ≡ from + q
+  unfolding against
+  against-next q =
+      quarter-from (r .event) (r .s + q) (omega (arith, ranges .from)) ∙
+      omega (arith, quarter-from (r .event) (r .s) (ranges .from), ranges .from)
+
+  -- where they stand
+  count-is : min (chosen .count) 5 ≡ chosen .count
+  count-is = omega (arith, k .few)
+
+  placed-is : (end : ℕ) → chosenAt (placedOf r (rooms .at) (chosen .days) (chosen .count) end) ≡ at
+  placed-is end = rw (count-is, map-take start (chosen .count) (chosen .days)) (ap (take (chosen .count)) starts)
+    where
+      starts : map (λ k. start (getD (chosen .days) k 0)) (places 5 0) ≡ map start (chosen .days)
+      starts = rw five-long at (over-list start (chosen .days))
+
+  -- ---- the answer of an adjustment, whatever the method
+  abbrev moved : Option ℤ
+  moved = adjustingBy r known (h .day (r .event - 1)) (h .day (r .event))
+
+  -- a numerator of a sum, in words
+  abbrev inWord : ℤ → ℕ → ℕ
+  inWord adj sum = floored (unfloored (partsOf r) (sum % 2 ^ 32) adj) % 2 ^ 32
+
+  -- the numerators, quarter by quarter
+  abbrev numbers : ℤ → List ℕ
+  numbers adj = map (λ q. inWord adj (quarterSum wide readings at (from + q))) (places (r .e - r .s) 0)
+
+  module _ {adj : ℤ} (adjusts : moved ≡ some adj) where
+    numbers-are : map (λ t. inWord adj (S (r .event) known t)) (places (r .e - r .s) (r .s)) ≡ numbers adj
+    numbers-are =
+        rw zero-s at (over-shift (λ t. inWord adj (S (r .event) known t)) (r .s) (r .e - r .s) 0) ∙
+        over-same (λ q. inWord adj (S (r .event) known (r .s + q))) (λ q. inWord adj (quarterSum wide readings at (from + q))) (r .e - r .s) 0 each
+      where
+        zero-s : r .s + 0 ≡ r .s
+        zero-s = omega arith
+
+        each : (q : ℕ) → 0 ≤ q → q < 0 + (r .e - r .s) → inWord adj (S (r .event) known (r .s + q)) ≡ inWord adj (quarterSum wide readings at (from + q))
+        each q a b = ap (inWord adj) (S-is (r .s + q) ∙ ap (quarterSum wide readings at) (against-next q))
+
+    reply-is : inWords r h (replyOf r h chosen) ≡ answered (record {
+      days = days;
+      reach = chosen .reach;
+      denominator = partsOf r * chosen .count;
+      adjusted = adj;
+      numerators = numbers adj;
+    })
+    unfolding inWords baseline baselineAt closing
+    reply-is = rw (adjusts, known-long, ← numbers-are)
+
+    numbers-long : length (numbers adj) ≡ r .e - r .s
+    numbers-long = length-over (λ q. inWord adj (quarterSum wide readings at (from + q))) (r .e - r .s) 0
+
+    answers : {answer : Answer} {ys out : List ℕ} {over : ℕ} {given : ℤ} → ys ≡ numbers adj → over ≡ partsOf r * chosen .count → given ≡ adj
+        → answer ≡ record { given = Answered; chosen = chosen; denominator = over; adjustment = given }
+        → Answers (inWords r h (replyOf r h chosen)) answer out (ys ++ drop (r .e - r .s) out)
+    unfolding answerOf written
+    answers {answer} {ys} {out} w o g e =
+        record {
+          answer = e ∙ rw reply-is (λ i. record {
+            given = Answered;
+            chosen = record { days = k .five i; count = sym days-long i; reach = chosen .reach };
+            denominator = o i;
+            adjustment = g i;
+          });
+          output = rw (reply-is, numbers-long) (ap (λ l. l ++ drop (r .e - r .s) out) w);
+        }
+
+  -- ---- Average X of Y
+  module _ (average : isAverage r ≡ true) {placed : Places} (es : placed ≡ placedOf r (rooms .at) (chosen .days) (chosen .count) 0) where
+    unadjusted : moved ≡ some (pos 0)
+    unfolding adjustingBy
+    unadjusted = rw average
+
+    sums-are : {n : ℕ} {ys : List ℕ} → n ≡ r .e - r .s
+        → ys ≡ map (λ q. quarterSum (placed .quarters) readings (chosenAt placed) (placed .start + q) % 2 ^ 32) (places n 0) → ys ≡ numbers (pos 0)
+    sums-are {n} {ys} l e = rw (es, placed-is 0, l) at e ∙ rw average (over-same _ _ (r .e - r .s) 0 each)
+      where
+        each : (q : ℕ) → 0 ≤ q → q < 0 + (r .e - r .s)
+            → quarterSum wide readings at (from + q) % 2 ^ 32 ≡ floored (unfloored 1 (quarterSum wide readings at (from + q) % 2 ^ 32) (pos 0)) % 2 ^ 32
+        each q a b = omega arith
+
+    pub averages : {n : ℕ} {ys : List ℕ} {answer : Answer} (out : List ℕ) → n ≡ r .e - r .s
+        → ys ≡ map (λ q. quarterSum (placed .quarters) readings (chosenAt placed) (placed .start + q) % 2 ^ 32) (places n 0)
+        → answer ≡ record { given = Answered; chosen = chosen; denominator = chosen .count; adjustment = pos 0 }
+        → Answers (inWords r h (replyOf r h chosen)) answer out (ys ++ drop (r .e - r .s) out)
+    averages out l s e = answers unadjusted (sums-are l s) (rw average (omega arith)) refl e
+
+  -- ---- High X of Y: yesterday's and today's readings, and the ruler
+  module _ (high : isAverage r ≡ false) {y z : List ℕ} (ey : y ≡ readingsAt (size (r .event - 1)) readings (getD (rooms .at) 1 0))
       (ez : z ≡ readingsAt (size (r .event)) readings (getD (rooms .at) 0 0)) {end : ℕ} (ee : end ≡ adjustmentEnd r (y ++ z)) where
     abbrev line : List ℕ
     line = ruler (h .day (r .event - 1)) (h .day (r .event))
@@ -142,8 +247,8 @@ module _ (r : Request) (rooms : Directory) (readings : List ℕ) (room : ℕ) (c
     end-is = ee ∙ ap (adjustmentEnd r) line-is
 
     pub no-window : end ≡ 0 → inWords r h (replyOf r h chosen) ≡ refused (NoAdjustmentWindow (chosen .reach))
-    unfolding inWords baseline closing
-    no-window e = rw (eq-eqb (adjustmentEnd r line) 0 (sym end-is ∙ e))
+    unfolding inWords baseline adjustingBy adjusting closing
+    no-window e = rw (high, eq-eqb (adjustmentEnd r line) 0 (sym end-is ∙ e))
 
     module _ (n : end ≡ 0 → ⊥) where
       some-end : adjustmentEnd r line ≡ 0 → ⊥
@@ -158,74 +263,24 @@ module _ (r : Request) (rooms : Directory) (readings : List ℕ) (room : ℕ) (c
       abbrev adj : ℤ
       adj = adjustment (chosen .count) own usual
 
-      B-is : B (r .event) (withDays h days) end ≡ usual
+      B-is : B (r .event) known end ≡ usual
       unfolding withDays
       B-is =
           B-placed (r .event) wide readings (h .day) start day-part (size-is (getD (chosen .days) 0 0) ∙ sym (size-is (r .event - 1)) ∙
           start-size (r .event)) days end
 
-      S-is : (t : ℕ) → S (r .event) (withDays h days) t ≡ quarterSum wide readings at (against (r .event) t)
-      unfolding withDays
-      S-is t = S-placed (r .event) wide readings (h .day) start day-part days t
+      adj-is : adj ≡ adjustment (chosen .count) (A line (adjustmentEnd r line)) (B (r .event) known (adjustmentEnd r line))
+      adj-is = ap₂ (λ a b. adjustment (chosen .count) a b) (ap₂ A line-is end-is) (sym B-is ∙ ap (B (r .event) known) end-is)
 
-      adj-is : adj ≡ adjustment (chosen .count) (A line (adjustmentEnd r line)) (B (r .event) (withDays h days) (adjustmentEnd r line))
-      adj-is =
-          ap₂ (λ a b. adjustment (chosen .count) a b) (ap₂ A line-is end-is) (sym B-is ∙ ap (B (r .event) (withDays h days)) end-is)
-
-      abbrev numbers : List ℕ
-      numbers = map (λ t. floored (unfloored (S (r .event) (withDays h days) t % 2 ^ 32) adj) % 2 ^ 32) (places (r .e - r .s) (r .s))
-
-      reply-is : inWords r h (replyOf r h chosen) ≡ answered (record {
-        days = days;
-        reach = chosen .reach;
-        denominator = 12 * chosen .count;
-        adjusted = adj;
-        numerators = numbers;
-      })
-      unfolding inWords baseline baselineAt closing
-      reply-is = rw (ne-eqb (adjustmentEnd r line) 0 some-end, ← adj-is)
-
-      -- the numerators, quarter by quarter
-      abbrev from : ℕ
-      from = against (r .event) (r .s)
-
-      against-next : (q : ℕ) → against (r .event) (r .s + q) ≡ from + q
-      unfolding against
-      against-next q =
-          quarter-from (r .event) (r .s + q) (omega (arith, ranges .from)) ∙
-          omega (arith, quarter-from (r .event) (r .s) (ranges .from), ranges .from)
-
-      numbers-are : numbers ≡ map (λ q. floored (unfloored (quarterSum wide readings at (from + q) % 2 ^ 32) adj) % 2 ^ 32) (places (r .e - r .s) 0)
-      numbers-are =
-          rw zero-s at (over-shift (λ t. floored (unfloored (S (r .event) (withDays h days) t % 2 ^ 32) adj) % 2 ^ 32) (r .s) (r .e - r .s) 0) ∙
-          over-same (λ q. floored (unfloored (S (r .event) (withDays h days) (r .s + q) % 2 ^ 32) adj) % 2 ^ 32)
-          (λ q. floored (unfloored (quarterSum wide readings at (from + q) % 2 ^ 32) adj) % 2 ^ 32) (r .e - r .s) 0 each
-        where
-          zero-s : r .s + 0 ≡ r .s
-          zero-s = omega arith
-
-          each : (q : ℕ) → 0 ≤ q → q < 0 + (r .e - r .s) → floored (unfloored (S (r .event) (withDays h days) (r .s + q) % 2 ^ 32) adj) % 2 ^ 32
-              ≡ floored (unfloored (quarterSum wide readings at (from + q) % 2 ^ 32) adj) % 2 ^ 32
-          each q a b =
-              ap (λ n. floored (unfloored (n % 2 ^ 32) adj) % 2 ^ 32) (S-is (r .s + q) ∙ ap (quarterSum wide readings at) (against-next q))
-
-      numbers-long : length numbers ≡ r .e - r .s
-      numbers-long = length-over (λ t. floored (unfloored (S (r .event) (withDays h days) t % 2 ^ 32) adj) % 2 ^ 32) (r .e - r .s) (r .s)
+      adjusts : moved ≡ some adj
+      unfolding adjustingBy adjusting
+      adjusts = rw (high, ne-eqb (adjustmentEnd r line) 0 some-end, known-long, ← adj-is)
 
       -- what is worked out from the places of the days
       module _ {placed : Places} (es : placed ≡ placedOf r (rooms .at) (chosen .days) (chosen .count) end) where
-        count-is : min (chosen .count) 5 ≡ chosen .count
-        count-is = omega (arith, k .few)
-
-        placed-is : chosenAt (placedOf r (rooms .at) (chosen .days) (chosen .count) end) ≡ at
-        placed-is = rw (count-is, map-take start (chosen .count) (chosen .days)) (ap (take (chosen .count)) starts)
-          where
-            starts : map (λ k. start (getD (chosen .days) k 0)) (places 5 0) ≡ map start (chosen .days)
-            starts = rw five-long at (over-list start (chosen .days))
-
         given-is : adjustmentOf readings placed y z ≡ adj
         unfolding adjustmentOf
-        given-is = rw (es, placed-is, count-is)
+        given-is = rw (es, placed-is end, count-is)
 
         module _ {length′ : ℕ} {given : ℤ} {ys : List ℕ} (w : Written readings placed y z length′ given ys) where
           -- the adjustment as a number of 64 bits: the readings are numbers of 32
@@ -245,21 +300,11 @@ module _ (r : Request) (rooms : Directory) (readings : List ℕ) (room : ℕ) (c
                   rw (w .adjusted, given-is)
                   (mag-difference (chosen .count * own) usual (2 ^ 63) (omega (arith, mul-le-mul-right own (k .few), own-most)) usual-most)
 
-          written-is : length′ ≡ r .e - r .s → ys ≡ numbers
+          written-is : length′ ≡ r .e - r .s → ys ≡ numbers adj
           unfolding numeratorsOf
-          written-is e = w .output ∙ rw (e, given-is, es, placed-is) (sym numbers-are)
+          written-is e = w .output ∙ rw (e, given-is, es, placed-is end, high)
 
-          pub answers : {answer : Answer} {out : List ℕ} → length′ ≡ r .e - r .s
+          pub adjusted-answers : {answer : Answer} {out : List ℕ} → length′ ≡ r .e - r .s
               → answer ≡ record { given = Answered; chosen = chosen; denominator = 12 * chosen .count; adjustment = given }
               → Answers (inWords r h (replyOf r h chosen)) answer out (ys ++ drop (r .e - r .s) out)
-          unfolding answerOf written
-          answers {answer} {out} l e =
-              record {
-                answer = e ∙ rw reply-is (λ i. record {
-                  given = Answered;
-                  chosen = record { days = k .five i; count = sym days-long i; reach = chosen .reach };
-                  denominator = 12 * chosen .count;
-                  adjustment = (w .adjusted ∙ given-is) i;
-                });
-                output = rw (reply-is, numbers-long) (ap (λ l. l ++ drop (r .e - r .s) out) (written-is l));
-              }
+          adjusted-answers l e = answers adjusts (written-is l) (rw high) (w .adjusted ∙ given-is) e

@@ -4,7 +4,7 @@ use Prim.Native.Nat.{ℕ, _-_, _%_, _^_}
 use mathlib.Core.List.{List, map}
 use Rattle.method.specs.declared.Request.{Request}
 use Rattle.method.specs.Table.{Day, History}
-use Rattle.method.specs.Adjustment.{S, unfloored, floored}
+use Rattle.method.specs.Adjustment.{S, partsOf, unfloored, floored}
 use Rattle.method.specs.Verdict.{Reply, refused, answered, byList}
 use Rattle.engine_rooms.specs.declared.Directory.{Directory}
 use Rattle.engine_rooms.specs.Rooms.{roomHistory}
@@ -14,8 +14,8 @@ use Rattle.base_lists.specs.Lists.{places}
 unfoldable pub withDays : History Day → List ℕ → List (ℕ × Day)
 withDays h days = map {B = ℕ × Day} (λ d. (d, h .day d)) days
 
--- a reply over a history with its numerators in words of 32 bits: S(t) of the chosen days wraps, and so does "max(0, 12·S(t) + N·A - B)". Days,
--- reach and adjustment are exact. Where the history's readings are good nothing wraps (`Store`)
+-- a reply over a history with its numerators in words of 32 bits: S(t) of the chosen days wraps, and so does "max(0, 12·S(t) + N·A - B)", or S(t) of
+-- order 3. Days, reach and adjustment are exact. Where the history's readings are good nothing wraps (`Store`)
 unfoldable pub inWords : Request → History Day → Reply → Reply
 inWords r h (refused w) = refused w
 inWords r h (answered a) =
@@ -26,7 +26,7 @@ inWords r h (answered a) =
       denominator = a .denominator;
       adjusted = a .adjusted;
       numerators =
-          map (λ t. floored (unfloored (S (r .event) (withDays h (a .days)) t % 2 ^ 32) (a .adjusted)) % 2 ^ 32) (places (r .e - r .s) (r .s));
+          map (λ t. floored (unfloored (partsOf r) (S (r .event) (withDays h (a .days)) t % 2 ^ 32) (a .adjusted)) % 2 ^ 32) (places (r .e - r .s) (r .s));
     })
 
 -- refusal 14, refusals 4 to 10, or the answer, by a list of moves over rooms, where `room` is the output's length

@@ -35,4 +35,4 @@ pub record Ready (r : Request) (room : ℕ) (chosen : Chosen) : Type 0 where
 abbrev pub replyOf : Request → History Day → Chosen → Reply
 replyOf r h chosen =
     let days = take (chosen .count) (chosen .days) in
-    closing (chose days (chosen .reach) (baseline r (chosen .count) (withDays h days) (h .day (r .event - 1)) (h .day (r .event))))
+    closing (chose days (chosen .reach) (baseline r (withDays h days) (h .day (r .event - 1)) (h .day (r .event))))

@@ -1,7 +1,10 @@
 // The baseline over any list of moves, any directory of rooms and any lent readings: refusal 14, refusals 4 to 10, or the answer. A table, a ring
 // and a shared store call it with their own directory.
+ghost use mathlib.Core.Path.{_≡_};
+ghost use mathlib.Core.Bool.{true, false};
 ghost use lib.ListN.{length};
 ghost use Rattle.calendar_groups.specs.Holidays.{group};
+ghost use Rattle.method.specs.Adjustment.{isAverage};
 ghost use Rattle.method.specs.Method.{outcome};
 ghost use Rattle.method.specs.Requested.{methodOf};
 ghost use Rattle.method.specs.Verdict.{closing};
@@ -18,15 +21,15 @@ use engine_rooms::Directory;
 use method::Refusal;
 use method::Request;
 
-// Days are chosen: refusal 10, or the answer, with the numerators in the output.
-fn finish(
+// The answer of High X of Y: refusal 10, or the adjustment, with the numerators in the output.
+fn adjusted(
     request: Request,
     rooms: Directory,
     readings: &[u32],
     chosen: Chosen,
     out: &mut [u32],
 ) -> Answer
-    requires { ⌜ Ready request (length (now out)) chosen ⌝ }
+    requires { ⌜ Ready request (length (now out)) chosen × (isAverage request ≡ false) ⌝ }
     ensures { λ r. ⌜ Answers (inWords request (roomHistory request rooms (now (readings .entry))) (replyOf request (roomHistory request rooms (now (readings .entry))) chosen)) r (now (out .entry)) (now (out .exit)) ⌝ }
 {
     let event = request.event;
@@ -46,6 +49,55 @@ fn finish(
         chosen: chosen,
         denominator: 12 * chosen.count,
         adjustment: adjustment,
+    }
+}
+
+// The answer of Average X of Y: the sums of the averaged days, over their number.
+fn average(
+    request: Request,
+    rooms: Directory,
+    readings: &[u32],
+    chosen: Chosen,
+    out: &mut [u32],
+) -> Answer
+    requires { ⌜ Ready request (length (now out)) chosen × (isAverage request ≡ true) ⌝ }
+    ensures { λ r. ⌜ Answers (inWords request (roomHistory request rooms (now (readings .entry))) (replyOf request (roomHistory request rooms (now (readings .entry))) chosen)) r (now (out .entry)) (now (out .exit)) ⌝ }
+{
+    let days = chosen.days;
+    let places = engine_places::placed(request, rooms, days, chosen.count, 0);
+    let part = &mut out[..(request.e - request.s) as usize];
+    let at = places.at;
+    engine_sums::sum_days(
+        readings,
+        at,
+        places.count as usize,
+        places.quarters,
+        places.start as usize,
+        part,
+    );
+    Answer {
+        given: Given::Answered,
+        chosen: chosen,
+        denominator: chosen.count,
+        adjustment: 0,
+    }
+}
+
+// Days are chosen: the answer of the method that is asked for.
+fn finish(
+    request: Request,
+    rooms: Directory,
+    readings: &[u32],
+    chosen: Chosen,
+    out: &mut [u32],
+) -> Answer
+    requires { ⌜ Ready request (length (now out)) chosen ⌝ }
+    ensures { λ r. ⌜ Answers (inWords request (roomHistory request rooms (now (readings .entry))) (replyOf request (roomHistory request rooms (now (readings .entry))) chosen)) r (now (out .entry)) (now (out .exit)) ⌝ }
+{
+    if request.method == method::AVERAGE_X_OF_Y {
+        average(request, rooms, readings, chosen, out)
+    } else {
+        adjusted(request, rooms, readings, chosen, out)
     }
 }
 

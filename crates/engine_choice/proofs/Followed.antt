@@ -1,15 +1,13 @@
 -- Numbers that follow rules: what they say of each size of a window, and that such rules make a lawful method.
 use Prim.Native.Nat.{ℕ, _+_, _≤_, _<_}
 use mathlib.Core.Path.{_≡_, refl, sym, ap, _∙_, subst}
-use mathlib.Core.Bool.{Bool, true}
-use mathlib.Core.List.{List, map}
+use mathlib.Core.Bool.{true}
+use mathlib.Core.List.{List}
 use mathlib.Core.Logic.{⊎-elim}
 use native.Mathlib.Nat.{zero-add}
 use native.Mathlib.Omega.{arith}
-use lib.Dec.{leb}
-use borrow.Author.Tests.{leb-true}
-use lib.ListN.{length, getD, replicate, getD-replicate, length-take}
-use Rattle.base_lists.specs.Lists.{member, places}
+use lib.ListN.{length, getD, length-take, length-drop}
+use Rattle.base_lists.specs.Lists.{member}
 use Rattle.base_lists.proofs.Bools.{lt-or-le}
 use Rattle.calendar_groups.specs.declared.Group.{Group}
 use Rattle.method.specs.declared.Request.{Request}
@@ -23,34 +21,13 @@ use Rattle.method_laws.proofs.Window.{full-size, size-below}
 use Rattle.method_laws.proofs.Sort.{member-sorted, length-sorted}
 use Rattle.method_laws.proofs.Requested.{lawful}
 use Rattle.base_lists.proofs.Places.{at-place}
-use Rattle.engine_look_back.specs.declared.SpareOrder.{SpareOrder}
-use Rattle.engine_look_back.specs.declared.SpareOrder.the-variants.{Highest, Latest}
-use Rattle.engine_choice.specs.declared.Rules.{Rules as Numbers}
-use Rattle.engine_choice.specs.Steps.{inOrder, bySize, Sound, Follows}
-
--- what is tested of each size holds of each
-pub each-size : (test : ℕ → Bool) → map test (places 11 0) ≡ replicate 11 true → (size : ℕ) → size ≤ 10 → test size ≡ true
-each-size test e size o =
-    ap test (sym (zero-add size)) ∙ sym (at-place test true 11 0 size (omega arith)) ∙ ap (λ (l : List Bool). getD l size true) e
-    ∙ getD-replicate 11 size true true (omega arith)
+use Rattle.engine_rules.specs.declared.SpareOrder.{SpareOrder}
+use Rattle.engine_rules.specs.declared.SpareOrder.the-variants.{Highest, Latest}
+use Rattle.engine_rules.specs.declared.Rules.{Rules as Numbers}
+use Rattle.engine_rules.specs.Steps.{inOrder, bySize, Follows}
 
 pub at-size : (f : ℕ → ℕ) (size : ℕ) → size ≤ 10 → getD (bySize f) size 0 ≡ f size
 at-size f size o = at-place f 0 11 0 size (omega arith) ∙ ap f (zero-add size)
-
--- numbers that are tested at each size are sound
-pub sound-by : (numbers : Numbers) → numbers .most ≤ 10 → numbers .fill < numbers .most
-    → map (λ size. leb (getD (numbers .passed) size 0 + getD (numbers .taken) size 0) size) (places 11 0) ≡ replicate 11 true
-    → map (λ size. leb (getD (numbers .taken) size 0) 5) (places 11 0) ≡ replicate 11 true
-    → Sound numbers
-sound-by numbers ten fills within five =
-    record {
-      ten = ten;
-      fills = fills;
-      within = λ size o.
-          leb-true (getD (numbers .passed) size 0 + getD (numbers .taken) size 0) size
-          (each-size (λ size. leb (getD (numbers .passed) size 0 + getD (numbers .taken) size 0) size) within size o);
-      five = λ size o. leb-true (getD (numbers .taken) size 0) 5 (each-size (λ size. leb (getD (numbers .taken) size 0) 5) five size o);
-    }
 
 -- an order only permutes
 module _ (r : Request) where
@@ -87,12 +64,19 @@ module _ {r : Request} {rules : Rules} {numbers : Numbers} (f : Follows r rules 
 
   -- a window has at most ten days, and of it at most five are chosen
   module _ (group : ℕ → Group) (h : History Day) where
-    window-most : length (window (methodBy group r rules) h) ≤ 10
+    pub window-most : length (window (methodBy group r rules) h) ≤ 10
     unfolding methodBy
     window-most =
         ⊎-elim (λ few. omega (arith, size-below (methodBy group r rules) (lawful-by group) h few, f .most, f .sound .ten))
         (λ full. omega (arith, full-size (methodBy group r rules) (lawful-by group) h full, f .most, f .sound .ten))
         (lt-or-le (length (eligibles (methodBy group r rules) h)) (rules .most))
+
+    -- as many are chosen as are taken
+    pub taken-chosen : length (chosen (methodBy group r rules) h) ≡ rules .taken (length (window (methodBy group r rules) h))
+    unfolding chosen methodBy
+    taken-chosen =
+        let size : ℕ = length (window (methodBy group r rules) h) in
+        rw (length-take, length-drop, length-sorted (higher r) (window (methodBy group r rules) h)) (omega (arith, taken-within size window-most))
 
     pub chosen-most : length (chosen (methodBy group r rules) h) ≤ 5
     unfolding chosen methodBy

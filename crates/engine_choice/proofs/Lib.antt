@@ -1,6 +1,5 @@
 pub mod Five
 pub mod Followed
-pub mod HighXofY
 pub mod Requested
 pub mod WholeChoice
 pub mod Rooms

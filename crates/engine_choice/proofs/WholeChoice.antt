@@ -1,6 +1,6 @@
 -- The choice by any rules: what was found gives the window, its size, its ranks and the reach.
 use Prim.Native.Nat.{ℕ, _+_, _-_, _≤_, _<_, min}
-use mathlib.Core.Path.{_≡_, sym, ap, _∙_}
+use mathlib.Core.Path.{_≡_, refl, sym, ap, _∙_}
 use mathlib.Core.Bool.{true, false, cond}
 use mathlib.Core.Logic.{⊎-elim}
 use mathlib.Core.List.{List, _++_, map}
@@ -34,16 +34,17 @@ use Rattle.engine_rooms.specs.declared.Directory.{Directory}
 use Rattle.engine_rooms.specs.Rooms.{heldRooms, roomHistory}
 use Rattle.engine_relevant.proofs.Relevance.{relevant-to}
 use Rattle.engine_relevant.proofs.Reaching.{short-of-reach, reach-most}
-use Rattle.engine_look_back.specs.declared.SpareOrder.{SpareOrder}
-use Rattle.engine_look_back.specs.declared.SpareOrder.the-variants.{Highest, Latest}
-use Rattle.engine_choice.specs.declared.Rules.{Rules as Numbers}
+use Rattle.engine_rules.specs.declared.SpareOrder.{SpareOrder}
+use Rattle.engine_rules.specs.declared.SpareOrder.the-variants.{Highest, Latest}
+use Rattle.engine_rules.specs.declared.Rules.{Rules as Numbers}
 use Rattle.engine_look_back.specs.declared.Found.{Found}
 use Rattle.engine_choice.specs.declared.Choosing.the-variants.{Short, Few, Days}
 use Rattle.engine_choice.specs.declared.Choice.{Choice}
 use Rattle.engine_answer.specs.Answer.{inFive}
 use Rattle.engine_choice.specs.Steps.{choiceOf, noDays}
-use Rattle.engine_choice.specs.Steps.{Follows, inOrder, daysIn, picked, fillers, amongFew}
-use Rattle.engine_look_back.specs.Steps.{roomsOf, roomsBefore, nearest, heldDays, upTo, eligibleOf, spareOf, rowOf, spareRow, Looked}
+use Rattle.engine_rules.specs.Steps.{Follows, inOrder}
+use Rattle.engine_choice.specs.Steps.{daysIn, picked, fillers, amongFew}
+use Rattle.engine_look_back.specs.Steps.{roomsOf, roomsBefore, nearest, heldDays, upTo, eligibleOf, spareOf, rowOf, spareRow, sparesOf, Looked}
 use Rattle.engine_look_back.proofs.Held.{before-is, before-most}
 use Rattle.engine_look_back.proofs.Enough.{Enough, enough}
 use Rattle.engine_look_back.proofs.Days.{seen-nearest, nearest-back}
@@ -63,6 +64,11 @@ module _ (r : Request) where
       ∙ first-words r k days h
   spare-words Latest k days h l t =
       take-padded k 10 (map (word r) days) (omega (arith, length-map days (word r))) t ∙ sym (map-take (word r) k days)
+
+-- the spares that are known fill any shortage as all would
+known-fill : (o : SpareOrder) (k n : ℕ) → k ≤ 10 → min k (sparesOf o n) ≡ min k n
+known-fill Highest k n h = refl
+known-fill Latest k n h = omega arith
 
 -- The two ways out of a window
 
@@ -199,6 +205,11 @@ module _ (group : ℕ → Group) {r : Request} {rules : Rules} {numbers : Number
       count-eligible : found .count ≡ length (eligibleOf days)
       count-eligible = omega (arith, q .count, fewer)
 
+      fillers-are : fillers numbers found ≡ min (rules .fill - length (eligibleOf days)) (length (spareOf days))
+      fillers-are =
+          rw (q .spares fewer, count-eligible, f .fill)
+          (known-fill (numbers .spares) (rules .fill - length (eligibleOf days)) (length (spareOf days)) (omega (arith, f .fill, f .sound .ten, f .sound .fills)))
+
       filling : List (ℕ × Day)
       filling = take (fillers numbers found) (inOrder r (numbers .spares) (spareOf days))
 
@@ -206,7 +217,7 @@ module _ (group : ℕ → Group) {r : Request} {rules : Rules} {numbers : Number
       unfolding filling
       filling-is =
           sym (take-within (rules .fill - length (eligibleOf days)) (inOrder r (numbers .spares) (spareOf days)))
-          ∙ rw (order-length r (numbers .spares) (spareOf days), f .fill, count-eligible, q .spares fewer)
+          ∙ rw (order-length r (numbers .spares) (spareOf days), fillers-are)
 
       window-is : window m h ≡ eligibleOf days ++ filling
       unfolding window methodBy
@@ -217,7 +228,7 @@ module _ (group : ℕ → Group) {r : Request} {rules : Rules} {numbers : Number
       sized-few : found .count + fillers numbers found ≡ length (window m h)
       unfolding filling
       sized-few =
-          rw (window-is, length-append, length-take, order-length r (numbers .spares) (spareOf days), ← count-eligible, ← q .spares fewer) (omega arith)
+          rw (window-is, length-append, length-take, order-length r (numbers .spares) (spareOf days)) (omega (arith, count-eligible, fillers-are))
 
       few-back : all (lookedBack r) (window m h) ≡ true
       unfolding filling
@@ -232,7 +243,7 @@ module _ (group : ℕ → Group) {r : Request} {rules : Rules} {numbers : Number
           rw (q .sparing fewer, q .row, take-all (numbers .most) (eligibleOf days) (omega (arith, fewer)), window-is)
           (ap (λ (l : List ℕ). insertAll l (rowOf r (eligibleOf days)))
           (spare-words r (numbers .spares) (fillers numbers found) (spareOf days) spare-back
-          (omega (arith, q .spares fewer)) (omega (arith, f .sound .ten, f .sound .fills)))
+          (omega (arith, fillers-are)) (omega (arith, f .sound .ten, f .sound .fills)))
           ∙ row-with r (eligibleOf days) filling)
 
       few-eligible : length (eligibles m h) < m .most

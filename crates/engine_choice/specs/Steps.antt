@@ -1,20 +1,14 @@
 -- What the choice of days gives (`choiceOf`), and what its private functions give on the way, for any rules.
-use Prim.Native.Nat.{ℕ, _+_, _-_, _%_, _≤_, _<_, min}
-use mathlib.Core.Path.{_≡_}
+use Prim.Native.Nat.{ℕ, _+_, _-_, _%_, min}
 use mathlib.Core.Bool.{cond}
 use mathlib.Core.List.{List, [], map}
-use lib.ListN.{length, getD, take, drop, replicate}
+use lib.ListN.{length, getD, take, drop}
 use lib.Dec.{ltb, eqb}
-use Rattle.base_lists.specs.Lists.{places}
 use Rattle.method.specs.declared.Request.{Request}
-use Rattle.method.specs.Table.{Day, History}
+use Rattle.method.specs.Table.{History}
 use Rattle.method.specs.Method.{daysOf, Method, wholeReach, window, chosen, reach, isShort}
-use Rattle.method.specs.Eligible.{higher, sortBy}
-use Rattle.method.specs.Rules.{Rules}
 use Rattle.engine_ranking.specs.Steps.{insertAll}
-use Rattle.engine_look_back.specs.declared.SpareOrder.{SpareOrder}
-use Rattle.engine_look_back.specs.declared.SpareOrder.the-variants.{Highest, Latest}
-use Rattle.engine_choice.specs.declared.Rules.{Rules as Numbers}
+use Rattle.engine_rules.specs.declared.Rules.{Rules as Numbers}
 use Rattle.engine_look_back.specs.declared.Found.{Found}
 use Rattle.engine_choice.specs.declared.Choosing.the-variants.{Short, Few, Days}
 use Rattle.engine_choice.specs.declared.Choice.{Choice}
@@ -32,37 +26,6 @@ choiceOf m h =
       choosing = Days;
       chosen = record { days = inFive (daysOf (chosen m h)); count = length (chosen m h); reach = reach m h };
     }))
-
--- Rules as numbers
-
--- the order that spare days fill a shortage in, given nearest first
-abbrev pub inOrder : Request → SpareOrder → List (ℕ × Day) → List (ℕ × Day)
-inOrder r Highest = sortBy (higher r)
-inOrder r Latest = λ days. days
-
--- a number for each size of a window, 0 to 10
-abbrev pub bySize : (ℕ → ℕ) → List ℕ
-bySize f = map f (places 11 0)
-
--- at most ten days stand in a window, fewer are filled up to, and of a window at most five are taken, none that is not there
-pub record Sound (numbers : Numbers) : Type 0 where
-  pub ten : numbers .most ≤ 10
-  pub fills : numbers .fill < numbers .most
-  pub within : (size : ℕ) → size ≤ 10 → getD (numbers .passed) size 0 + getD (numbers .taken) size 0 ≤ size
-  pub five : (size : ℕ) → size ≤ 10 → getD (numbers .taken) size 0 ≤ 5
-
--- these numbers say what the rules do
-pub record Follows (r : Request) (rules : Rules) (numbers : Numbers) : Type 0 where
-  pub most : numbers .most ≡ rules .most
-  pub fill : numbers .fill ≡ rules .fill
-  pub order : inOrder r (numbers .spares) ≡ rules .order
-  pub passed : numbers .passed ≡ bySize (rules .passed)
-  pub taken : numbers .taken ≡ bySize (rules .taken)
-  pub sound : Sound numbers
-
--- numbers by which no rank is passed over, and the highest spares fill first
-abbrev pub firstRanks : ℕ → ℕ → List ℕ → Numbers
-firstRanks most fill taken = record { most = most; fill = fill; spares = Highest; passed = replicate 11 0; taken = taken }
 
 -- The choice
 

@@ -4,17 +4,18 @@ ghost use mathlib.Core.Path.{_≡_};
 ghost use Prim.Native.Nat.{_+_, _≤_, _<_};
 ghost use Rattle.calendar_groups.specs.Holidays.{group as groupOf};
 ghost use Rattle.method.specs.Method.{wholeReach};
-ghost use Rattle.method.specs.Requested.{rulesOf, methodOf};
+ghost use Rattle.method.specs.Requested.{methodOf};
 ghost use Rattle.engine_rooms.specs.Rooms.{roomHistory};
 ghost use Rattle.engine_answer.specs.Answer.{inFive};
 ghost use Rattle.engine_choice.specs.Steps.{choiceOf, noDays};
-ghost use Rattle.engine_choice.specs.Steps.{Sound, Follows, firstRanks, wordDay, daysIn, picked, amongFew};
+ghost use Rattle.engine_rules.specs.Steps.{Sound};
+ghost use Rattle.engine_choice.specs.Steps.{wordDay, daysIn, picked, amongFew};
 use base_numbers::counts;
 use calendar_groups::Group;
 use engine_answer::Chosen;
 use engine_look_back::Found;
-use engine_look_back::SpareOrder;
 use engine_rooms::Directory;
+use engine_rules::Rules;
 use method::Request;
 
 // What the choice ends in: refusal 8 or 9 with what it carries, or days.
@@ -28,40 +29,6 @@ pub enum Choosing {
 pub struct Choice {
     pub choosing: Choosing,
     pub chosen: Chosen,
-}
-
-// The rules of a request as numbers: Y; up to how many days spares fill the window, and in which order; and by the window's size, 0 to 10, the
-// ranks passed over and the days taken.
-struct Rules {
-    most: u32,
-    fill: u32,
-    spares: SpareOrder,
-    passed: [u32; 11],
-    taken: [u32; 11],
-}
-
-// Rules by which no rank is passed over, and the highest spares fill first.
-fn first_ranks(most: u32, fill: u32, taken: [u32; 11]) -> Rules
-    ensures { λ r. ⌜ r ≡ firstRanks most fill taken ⌝ }
-{
-    Rules {
-        most,
-        fill,
-        spares: SpareOrder::Highest,
-        passed: [0; 11],
-        taken,
-    }
-}
-
-// The rules of a request on a day of this group.
-fn rules_of(request: Request, group: Group) -> Rules
-    ensures { λ r. ⌜ Follows request (rulesOf group request) r ⌝ }
-{
-    match group {
-        Group::Weekday => first_ranks(10, 5, [0, 0, 0, 0, 0, 5, 5, 5, 5, 5, 5]),
-        Group::Saturday => first_ranks(3, 2, [0, 0, 2, 2, 2, 2, 2, 2, 2, 2, 2]),
-        Group::HolidayGroup => first_ranks(3, 2, [0, 0, 2, 2, 2, 2, 2, 2, 2, 2, 2]),
-    }
 }
 
 // The day of a word.
@@ -147,12 +114,13 @@ pub fn choose(moves: &[u32], request: Request, rooms: Directory, readings: &[u32
     ensures { λ r. ⌜ r ≡ choiceOf (methodOf (groupOf (now (moves .entry))) request) (roomHistory request rooms (now (readings .entry))) ⌝ }
 {
     let event = request.event;
+    let before = counts::minus(rooms.held, 1);
     let group = calendar_groups::group_of(moves, event);
-    let rules = rules_of(request, group);
+    let rules = engine_rules::rules_of(request, group);
     let spares = rules.spares;
     let found = engine_look_back::look(moves, request, group, rules.most, spares, rooms, readings);
     if found.count < rules.most {
-        choose_among_few(moves, request, rules, found, counts::minus(rooms.held, 1))
+        choose_among_few(moves, request, rules, found, before)
     } else {
         let eligible = found.eligible;
         pick(event, rules, eligible, rules.most, found.oldest)

@@ -10,9 +10,9 @@ use Rattle.base_lists.proofs.Unique.{unique}
 use Rattle.method.specs.declared.Request.{Request}
 use Rattle.method.specs.Table.{Day}
 use Rattle.method.specs.Eligible.{eligible}
-use Rattle.engine_look_back.specs.declared.SpareOrder.{SpareOrder}
+use Rattle.engine_rules.specs.declared.SpareOrder.{SpareOrder}
 use Rattle.engine_look_back.specs.declared.Found.{Found}
-use Rattle.engine_look_back.specs.Steps.{upTo, eligibleOf, spareOf, rowOf, spareRow, oldestOf, Looked}
+use Rattle.engine_look_back.specs.Steps.{upTo, eligibleOf, spareOf, rowOf, spareRow, sparesOf, oldestOf, Looked}
 
 -- no two results meet the contract of `look`
 pub looked-unique : {r : Request} {order : SpareOrder} {days : List (ℕ × Day)} {found found′ : Found}
@@ -52,13 +52,13 @@ all-days (suc n) (p ∷ days) h = go (eligible (p .1)) (all-days n days) (all-da
     go true here later h = ap (λ (l : List (ℕ × Day)). p ∷ l) (here (omega arith))
     go false here later h = ap (λ (l : List (ℕ × Day)). p ∷ l) (later h)
 
--- the most recent eligible days up to `most`, and all spare days where there are fewer
+-- the most recent eligible days up to `most`, and the spare days where there are fewer
 pub record Enough (r : Request) (most : ℕ) (order : SpareOrder) (days : List (ℕ × Day)) (found : Found) : Type 0 where
   pub row : found .eligible ≡ rowOf r (take most (eligibleOf days))
   pub count : found .count ≡ min most (length (eligibleOf days))
   pub oldest : found .oldest ≡ oldestOf r (take most (eligibleOf days))
   pub sparing : length (eligibleOf days) < most → found .spare ≡ spareRow r order (spareOf days)
-  pub spares : length (eligibleOf days) < most → found .spares ≡ length (spareOf days)
+  pub spares : length (eligibleOf days) < most → found .spares ≡ sparesOf order (length (spareOf days))
 
 pub enough : {r : Request} {most : ℕ} {order : SpareOrder} {days : List (ℕ × Day)} {found : Found} → Looked r order (upTo most days) found
     → Enough r most order days found
@@ -69,5 +69,5 @@ enough {r} {most} {order} {days} q =
       count = q .count ∙ rw (e, length-take) refl;
       oldest = q .oldest ∙ ap (oldestOf r) e;
       sparing = λ few. q .sparing ∙ ap (λ (l : List (ℕ × Day)). spareRow r order (spareOf l)) (all-days most days few);
-      spares = λ few. q .spares ∙ ap (λ (l : List (ℕ × Day)). length (spareOf l)) (all-days most days few);
+      spares = λ few. q .spares ∙ ap (λ (l : List (ℕ × Day)). sparesOf order (length (spareOf l))) (all-days most days few);
     }

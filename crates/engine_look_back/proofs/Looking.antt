@@ -1,13 +1,15 @@
 -- What is found of the days looked at, as one more of them is judged, up to the one that fills the window.
-use Prim.Native.Nat.{ℕ, zero, suc, _+_, _-_, _≤_, _<_}
+use Prim.Native.Nat.{ℕ, zero, suc, _+_, _-_, _≤_, _<_, min}
 use mathlib.Core.Path.{_≡_, refl, sym, ap, _∙_}
 use mathlib.Core.Bool.{Bool, true, false, cond, not, _&&_, false≢true}
 use mathlib.Core.List.{List, [], _∷_, _++_, map, map-append, append-nil, append-assoc}
 use mathlib.Core.Logic.{⊎-elim}
 use native.Mathlib.Omega.{arith}
 use lib.ListN.{length, set, replicate, length-append, length-map}
+use lib.Dec.{leb}
+use borrow.Author.Tests.{leb-true, leb-false}
 use Rattle.base_lists.specs.Lists.{keep, leastOf}
-use Rattle.base_lists.proofs.Bools.{bool-cases}
+use Rattle.base_lists.proofs.Bools.{bool-cases, clash, and-left, and-right, and-cases}
 use Rattle.base_lists.proofs.Keep.{keep-append, keep-yes, keep-no, leastOf-top}
 use Rattle.method.specs.declared.Request.{Request}
 use Rattle.method.specs.Table.{Day, eventBit, outageBit}
@@ -16,11 +18,11 @@ use Rattle.method.specs.Eligible.{complete, eligible, spare, sortBy}
 use Rattle.engine_ranking.specs.Steps.{word, sortDown, padded, pushed}
 use Rattle.engine_ranking.proofs.Rank.{insert-sorts}
 use Rattle.engine_judging.specs.declared.Judged.the-variants.{Eligible, Spare, Neither}
-use Rattle.engine_look_back.specs.declared.SpareOrder.{SpareOrder}
-use Rattle.engine_look_back.specs.declared.SpareOrder.the-variants.{Highest, Latest}
+use Rattle.engine_rules.specs.declared.SpareOrder.{SpareOrder}
+use Rattle.engine_rules.specs.declared.SpareOrder.the-variants.{Highest, Latest}
 use Rattle.engine_look_back.specs.declared.Found.{Found}
-use Rattle.engine_look_back.specs.Steps.{judged, nearest, ifRelevant, upTo, eligibleOf, spareOf, rowOf, spareRow, withSpare, oldestOf, Looked, Further, Adds}
-use Rattle.engine_look_back.proofs.Padded.{set-padded}
+use Rattle.engine_look_back.specs.Steps.{judged, nearest, ifRelevant, upTo, eligibleOf, spareOf, rowOf, spareRow, withSpare, sparesOf, needless, oldestOf, Looked, Further, Adds}
+use Rattle.engine_look_back.proofs.Padded.{set-padded, padded-full}
 use Rattle.engine_look_back.proofs.Days.{nearest-none, nearest-one, nearest-more}
 use Rattle.engine_relevant.proofs.Reaching.{leastOf-snoc}
 
@@ -35,6 +37,40 @@ exclusive d = go (complete d) (eventBit (d .mark)) (outageBit (d .mark))
     go true true c e = absurd (false≢true e)
     go true false c e = refl
     go false b c e = refl
+
+-- a spare day has an event
+spare-event : (d : Day) → spare d ≡ true → eventBit (d .mark) ≡ true
+unfolding spare
+spare-event d = go (complete d) (eventBit (d .mark)) (outageBit (d .mark))
+  where
+    go : (a b c : Bool) → (a && b && not c) ≡ true → b ≡ true
+    go a true c e = refl
+    go true false c e = absurd (false≢true e)
+    go false false c e = absurd (false≢true e)
+
+-- a day with an event is not eligible
+event-not : (d : Day) → eventBit (d .mark) ≡ true → eligible d ≡ false
+unfolding eligible
+event-not d = go (complete d) (eventBit (d .mark)) (outageBit (d .mark))
+  where
+    go : (a b c : Bool) → b ≡ true → (a && not b && not c) ≡ false
+    go true true c e = refl
+    go true false c e = absurd (false≢true e)
+    go false b c e = refl
+
+needless-event : (order : SpareOrder) (count mark : ℕ) → needless order count mark ≡ true → eventBit mark ≡ true
+needless-event Highest count mark u = absurd (false≢true u)
+needless-event Latest count mark u = and-right (leb 10 count) (eventBit mark) u
+
+-- where a spare day is looked at, all before it are known, and it is known too
+all-known : (order : SpareOrder) (d : Day) (n : ℕ) {count : ℕ} → spare d ≡ true → needless order count (d .mark) ≡ false → count ≡ sparesOf order n
+    → (count ≡ n) × (count + 1 ≡ sparesOf order (n + 1))
+all-known Highest d n {count} s u c = (c, ap (λ (k : ℕ). k + 1) c)
+all-known Latest d n {count} s u c =
+    ⊎-elim (λ f. below c (leb-false 10 count f)) (λ f. absurd (clash (spare-event d s) f)) (and-cases (leb 10 count) (eventBit (d .mark)) u)
+  where
+    below : count ≡ min 10 n → count < 10 → (count ≡ n) × (count + 1 ≡ min 10 (n + 1))
+    below k h = (omega arith, omega arith)
 
 module _ (r : Request) (p : ℕ × Day) where
   pub judged-eligible : {w : ℕ} → judged r p ≡ Eligible w → (eligible (p .1) ≡ true) × (w ≡ word r p)
@@ -110,6 +146,16 @@ module _ (r : Request) (l : List (ℕ × Day)) (p : ℕ × Day) where
   count-more : {n : ℕ} → n ≡ length l → n + 1 ≡ length (l ++ (p ∷ []))
   count-more e = rw length-append (omega arith)
 
+  -- a day that need not be looked at
+  spares-same : (order : SpareOrder) {row : List ℕ} {count : ℕ} → needless order count (p .1 .mark) ≡ true → row ≡ spareRow r order l → count ≡ sparesOf order (length l)
+      → (row ≡ spareRow r order (l ++ (p ∷ []))) × (count ≡ sparesOf order (length (l ++ (p ∷ []))))
+  spares-same Highest u e c = absurd (false≢true u)
+  spares-same Latest {row} {count} u e c =
+      let ten = leb-true 10 count (and-left (leb 10 count) (eventBit (p .1 .mark)) u) in (
+        e ∙ padded-full 10 (map (word r) l) (word r p) (omega (arith, ten, c, length-map l (word r))) ∙ ap (padded 10) (sym (map-append (word r) l (p ∷ []))),
+        rw length-append (omega (arith, ten, c)),
+      )
+
   oldest-more : (back : ℕ) {o : ℕ} → p .0 ≡ r .event - back → back ≤ r .event → o ≡ oldestOf r l → o ≤ back → back ≡ oldestOf r (l ++ (p ∷ []))
   oldest-more back {o} e h f g =
       rw (map-append (λ (q : ℕ × Day). q .0) l (p ∷ []), leastOf-snoc (r .event) (daysOf l) (p .0)) (omega (arith, leastOf-top (r .event) (daysOf l)))
@@ -133,18 +179,19 @@ module _ {r : Request} {order : SpareOrder} {days : List (ℕ × Day)} {found : 
           spares = rw y (q .spares);
         }
 
-    pub looked-spare : {row : List ℕ} → eligible (p .1) ≡ false → spare (p .1) ≡ true
+    pub looked-spare : {row : List ℕ} → needless order (found .spares) (p .1 .mark) ≡ false → eligible (p .1) ≡ false → spare (p .1) ≡ true
         → row ≡ withSpare order (found .spare) (found .spares) (word r p)
         → Looked r order (days ++ (p ∷ [])) (record { eligible = found .eligible; count = found .count; oldest = found .oldest; spare = row; spares = found .spares + 1 })
-    looked-spare {row} e s n =
+    looked-spare {row} u e s n =
         let x = eligible-same days p e in
         let y = spare-more days p s in
+        let known = all-known order (p .1) (length (spareOf days)) s u (q .spares) in
         record {
           row = rw x (q .row);
           count = rw x (q .count);
           oldest = rw x (q .oldest);
-          sparing = rw y (spare-row-more r (spareOf days) p order (q .sparing) (q .spares) n);
-          spares = rw y (count-more r (spareOf days) p (q .spares));
+          sparing = rw y (spare-row-more r (spareOf days) p order (q .sparing) (known .0) n);
+          spares = rw (y, length-append) (known .1);
         }
 
     pub looked-neither : eligible (p .1) ≡ false → spare (p .1) ≡ false → Looked r order (days ++ (p ∷ [])) found
@@ -152,6 +199,19 @@ module _ {r : Request} {order : SpareOrder} {days : List (ℕ × Day)} {found : 
         let x = eligible-same days p e in
         let y = spare-same days p s in
         record { row = rw x (q .row); count = rw x (q .count); oldest = rw x (q .oldest); sparing = rw y (q .sparing); spares = rw y (q .spares) }
+
+    pub looked-needless : needless order (found .spares) (p .1 .mark) ≡ true → Looked r order (days ++ (p ∷ [])) found
+    looked-needless u = ⊎-elim one-more (looked-neither no) (bool-cases (spare (p .1)))
+      where
+        no : eligible (p .1) ≡ false
+        no = event-not (p .1) (needless-event order (found .spares) (p .1 .mark) u)
+
+        one-more : spare (p .1) ≡ true → Looked r order (days ++ (p ∷ [])) found
+        one-more s =
+            let x = eligible-same days p no in
+            let y = spare-more days p s in
+            let z = spares-same r (spareOf days) p order u (q .sparing) (q .spares) in
+            record { row = rw x (q .row); count = rw x (q .count); oldest = rw x (q .oldest); sparing = rw y (z .0); spares = rw y (z .1) }
 
 -- One day before the event looked at
 
@@ -171,6 +231,9 @@ module _ (test : ℕ → Bool) (p : ℕ × Day) {r : Request} {order : SpareOrde
   pub adds-none : test (p .0) ≡ false → Adds r order back (ifRelevant test p) found found
   adds-none e = rw (none test p e) (same (λ days q. looked-none q))
 
+  pub adds-needless : needless order (found .spares) (p .1 .mark) ≡ true → Adds r order back (ifRelevant test p) found found
+  adds-needless u = ⊎-elim (λ e. rw (some test p e) (same (λ days q. looked-needless q p u))) adds-none (bool-cases (test (p .0)))
+
   module _ (e : test (p .0) ≡ true) where
     pub adds-eligible : {w : ℕ} {row : List ℕ} → judged r p ≡ Eligible w → row ≡ pushed w (found .eligible)
         → Adds r order back (ifRelevant test p) found
@@ -184,13 +247,13 @@ module _ (test : ℕ → Bool) (p : ℕ × Day) {r : Request} {order : SpareOrde
           spares = omega arith;
         }
 
-    pub adds-spare : {w : ℕ} {row : List ℕ} → judged r p ≡ Spare w → row ≡ withSpare order (found .spare) (found .spares) w
+    pub adds-spare : {w : ℕ} {row : List ℕ} → needless order (found .spares) (p .1 .mark) ≡ false → judged r p ≡ Spare w → row ≡ withSpare order (found .spare) (found .spares) w
         → Adds r order back (ifRelevant test p) found
         (record { eligible = found .eligible; count = found .count; oldest = found .oldest; spare = row; spares = found .spares + 1 })
-    adds-spare {w} {row} j n =
+    adds-spare {w} {row} u j n =
         let k = judged-spare r p j in
         record {
-          then = λ days q. rw (some test p e) (looked-spare q p (k .0) (k .1) (rw (k .2) at n));
+          then = λ days q. rw (some test p e) (looked-spare q p u (k .0) (k .1) (rw (k .2) at n));
           oldest = f .oldest;
           count = omega arith;
           spares = omega arith;
@@ -257,7 +320,7 @@ module _ (test : ℕ → Bool) (r : Request) (day : ℕ → Day) (most : ℕ) (o
       let e = nearest-none test r day in
       record {
         within = omega arith;
-        looked = rw e (record { row = refl; count = refl; oldest = omega arith; sparing = no-spare order; spares = refl });
+        looked = rw e (record { row = refl; count = refl; oldest = omega arith; sparing = no-spare order .0; spares = no-spare order .1 });
         oldest = omega arith;
         count = omega arith;
         spares = omega arith;
@@ -265,9 +328,9 @@ module _ (test : ℕ → Bool) (r : Request) (day : ℕ → Day) (most : ℕ) (o
         ahead = λ more. let z : most ≡ most - 0 = omega arith in rw e (ap (λ (k : ℕ). upTo k more) z);
       }
     where
-      no-spare : (o : SpareOrder) → replicate 10 0 ≡ spareRow r o []
-      no-spare Highest = refl
-      no-spare Latest = refl
+      no-spare : (o : SpareOrder) → (replicate 10 0 ≡ spareRow r o []) × (0 ≡ sparesOf o 0)
+      no-spare Highest = (refl, refl)
+      no-spare Latest = (refl, refl)
 
 module _ {test : ℕ → Bool} {r : Request} {day : ℕ → Day} {most : ℕ} {order : SpareOrder} {held back : ℕ} {found : Found} (b : Back test r day most order held back found) where
   pub back-further : back < held → held ≤ 45 → held ≤ r .event → Further r (back + 1) found

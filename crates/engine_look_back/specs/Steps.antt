@@ -1,13 +1,14 @@
 -- What looking back from an event finds: the eligible and the spare days, as words.
-use Prim.Native.Nat.{ℕ, zero, suc, _+_, _-_, _≤_, _<_}
+use Prim.Native.Nat.{ℕ, zero, suc, _+_, _-_, _≤_, _<_, min}
 use mathlib.Core.Path.{_≡_}
-use mathlib.Core.Bool.{Bool, cond}
+use mathlib.Core.Bool.{Bool, false, _&&_, cond}
 use mathlib.Core.List.{List, [], _∷_, _++_, map}
 use lib.ListN.{length, set}
+use lib.Dec.{leb}
 use Rattle.base_lists.specs.Lists.{keep, leastOf}
 use Rattle.calendar_groups.specs.declared.Group.{Group}
 use Rattle.method.specs.declared.Request.{Request}
-use Rattle.method.specs.Table.{Day}
+use Rattle.method.specs.Table.{Day, eventBit}
 use Rattle.method.specs.Method.{daysOf}
 use Rattle.method.specs.Relevant.{daysBefore}
 use Rattle.method.specs.Eligible.{eligible, spare}
@@ -17,8 +18,8 @@ use Rattle.engine_judging.specs.declared.Judged.{Judged}
 use Rattle.engine_judging.specs.declared.Judged.the-variants.{Eligible, Spare, Neither}
 use Rattle.engine_rooms.specs.declared.Directory.{Directory}
 use Rattle.engine_rooms.specs.Rooms.{roomDay, heldRooms}
-use Rattle.engine_look_back.specs.declared.SpareOrder.{SpareOrder}
-use Rattle.engine_look_back.specs.declared.SpareOrder.the-variants.{Highest, Latest}
+use Rattle.engine_rules.specs.declared.SpareOrder.{SpareOrder}
+use Rattle.engine_rules.specs.declared.SpareOrder.the-variants.{Highest, Latest}
 use Rattle.engine_look_back.specs.declared.Found.{Found}
 
 -- what is held of a day, in the rooms of a directory
@@ -71,6 +72,17 @@ abbrev pub withSpare : SpareOrder → List ℕ → ℕ → ℕ → List ℕ
 withSpare Highest row count word = pushed word row
 withSpare Latest row count word = set row count word
 
+-- how many of so many spare days are known: all, but of those that fill latest first no more than the row holds, since a shortage asks for fewer
+-- and a further one changes neither row nor choice
+abbrev pub sparesOf : SpareOrder → ℕ → ℕ
+sparesOf Highest n = n
+sparesOf Latest n = min 10 n
+
+-- whether a day of this mark can change nothing where so many spare days are known
+abbrev pub needless : SpareOrder → ℕ → ℕ → Bool
+needless Highest count mark = false
+needless Latest count mark = leb 10 count && eventBit mark
+
 -- how far before the event the oldest of some days lies
 abbrev pub oldestOf : Request → List (ℕ × Day) → ℕ
 oldestOf r days = r .event - leastOf (r .event) (daysOf days)
@@ -81,7 +93,7 @@ pub record Looked (r : Request) (order : SpareOrder) (days : List (ℕ × Day)) 
   pub count : found .count ≡ length (eligibleOf days)
   pub oldest : found .oldest ≡ oldestOf r (eligibleOf days)
   pub sparing : found .spare ≡ spareRow r order (spareOf days)
-  pub spares : found .spares ≡ length (spareOf days)
+  pub spares : found .spares ≡ sparesOf order (length (spareOf days))
 
 -- the day `back` days before the event is the next to look at: it lies no nearer than what was found
 pub record Further (r : Request) (back : ℕ) (found : Found) : Type 0 where

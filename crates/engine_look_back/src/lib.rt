@@ -7,21 +7,16 @@ ghost use Rattle.calendar_groups.specs.Holidays.{group as groupOf};
 ghost use Rattle.method.specs.Table.{mostQuarters};
 ghost use Rattle.engine_relevant.specs.Steps.{relevantTo};
 ghost use Rattle.engine_judging.specs.Steps.{dayFrom};
-ghost use Rattle.engine_look_back.specs.Steps.{heldDays, upTo, ifRelevant, withSpare, Looked, Further, Adds};
+ghost use Rattle.engine_look_back.specs.Steps.{heldDays, upTo, ifRelevant, withSpare, needless, Looked, Further, Adds};
 use base_numbers::counts;
 use calendar_groups::Group;
 use engine_judging::Judged;
 use engine_rooms::Directory;
+use engine_rules::SpareOrder;
 use method::Request;
 
-// The order in which spare days fill a shortage: the highest first, or the latest.
-pub enum SpareOrder {
-    Highest,
-    Latest,
-}
-
 // What was found looking back: the words of eligible days, how many there are, how far back the last of them lies, and the same of spare
-// days but for their place.
+// days but for their place; of spares that fill latest first the ten latest alone.
 pub struct Found {
     pub eligible: [u64; 10],
     pub count: u32,
@@ -53,6 +48,20 @@ fn with_spare(spares: SpareOrder, row: [u64; 10], count: u32, word: u64) -> [u64
     }
 }
 
+// Whether a day need not be looked at: it has an event, so it is not eligible, and the latest spares fill first, of which ten are known.
+fn is_needless(spares: SpareOrder, count: u32, mark: u8) -> bool
+    ensures { λ r. ⌜ r ≡ needless spares count mark ⌝ }
+{
+    match spares {
+        SpareOrder::Highest => false,
+        SpareOrder::Latest => if 10 <= count {
+            day_marks::is_event(mark)
+        } else {
+            false
+        },
+    }
+}
+
 // What was found once one more day is looked at, `back` days before the event.
 fn with_day(
     moves: &[u32],
@@ -67,7 +76,9 @@ fn with_day(
     requires { ⌜ Further request back found × (length (now part) ≤ mostQuarters) ⌝ }
     ensures { λ r. ⌜ Adds request spares back (ifRelevant (relevantTo (groupOf (now (moves .entry))) group request) (request .event - back, dayFrom mark (now (part .entry)))) found r ⌝ }
 {
-    if engine_relevant::relevant(moves, request, group, request.event - back) {
+    if is_needless(spares, found.spares, mark) {
+        found
+    } else if engine_relevant::relevant(moves, request, group, request.event - back) {
         let eligible = found.eligible;
         let spare = found.spare;
         match engine_judging::judge(request, mark, part, back) {

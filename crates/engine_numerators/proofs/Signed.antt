@@ -47,12 +47,12 @@ module _ (sum : ℕ) (adj : ℤ) (small : sum < 2 ^ 32) (near : mag adj < 2 ^ 40
   abbrev pub raw : ℤ
   raw = toZ w64 (ofZ w64 (pos 12 *ℤ toZ w64 sum)) +ℤ toZ w64 (ofZ w64 adj)
 
-  raw-is : raw ≡ unfloored sum adj
+  raw-is : raw ≡ unfloored 12 sum adj
   raw-is =
       let h : mag adj < 2 ^ 63 = omega arith in
       rw (toZ-ofZ w64 (pos 12 *ℤ toZ w64 sum) twelve-fits, toZ-ofZ w64 adj (sfits-of h), sum-is)
 
-  pub raw-near : mag (unfloored sum adj) < 2 ^ 63
+  pub raw-near : mag (unfloored 12 sum adj) < 2 ^ 63
   raw-near =
       let h : 12 * sum < 2 ^ 40 = omega arith in
       omega (arith, mag-sum (12 * sum) (2 ^ 40) adj h near)
@@ -60,7 +60,7 @@ module _ (sum : ℕ) (adj : ℤ) (small : sum < 2 ^ 32) (near : mag adj < 2 ^ 40
   pub raw-fits : SFits w64 raw
   raw-fits = rw raw-is (record { sfits = raw-near })
 
-  pub raw-back : toZ w64 (ofZ w64 raw) ≡ unfloored sum adj
+  pub raw-back : toZ w64 (ofZ w64 raw) ≡ unfloored 12 sum adj
   raw-back = toZ-ofZ w64 raw raw-fits ∙ raw-is
 
 -- ---- differences
@@ -83,8 +83,8 @@ floored-is x a (suc b) = ⊎-elim under over (lt-or-le a (suc b))
         high k = rw (le-ltb x (suc (suc b - suc a)) k) (omega arith)
 
 -- a numerator without signs
-pub numerator-is : (s n a b : ℕ) → floored (unfloored s (adjustment n a b)) ≡ 12 * s + n * a - b
-numerator-is s n a b = floored-is (12 * s) (n * a) b
+pub numerator-is : (parts s n a b : ℕ) → floored (unfloored parts s (adjustment n a b)) ≡ parts * s + n * a - b
+numerator-is parts s n a b = floored-is (parts * s) (n * a) b
 
 pub mag-difference : (a b h : ℕ) → a < h → b < h → mag (pos a -ℤ pos b) < h
 mag-difference a zero h x y = omega arith

@@ -77,7 +77,7 @@ pub written : (readings : List ℕ) (chosen : Places) (ys ts : List ℕ) (n : �
     → count ≡ counted chosen → own ≡ A (ys ++ ts) (chosen .end)
     → adj ≡ adjustment count own (windowSums (chosen .quarters) readings (take count (chosen .at)) (chosen .end))
     → sums ≡ map (λ q. quarterSum (chosen .quarters) readings (chosenAt chosen) (chosen .start + q) % 2 ^ 32) (places n 0)
-    → out ≡ map (λ q. floored (unfloored (getD sums q 0) adj) % 2 ^ 32) (places (length sums) 0) → Written readings chosen ys ts n adj out
+    → out ≡ map (λ q. floored (unfloored 12 (getD sums q 0) adj) % 2 ^ 32) (places (length sums) 0) → Written readings chosen ys ts n adj out
 unfolding adjustmentOf numeratorsOf
 written readings chosen ys ts n {count} {own} {adj} {sums} {out} c o a s f =
     let e : adj ≡ adjustmentOf readings chosen ys ts = rw (c, o) at a in
@@ -86,10 +86,10 @@ written readings chosen ys ts n {count} {own} {adj} {sums} {out} c o a s f =
     size : length sums ≡ n
     size = ap length s ∙ length-over (λ q. quarterSum (chosen .quarters) readings (chosenAt chosen) (chosen .start + q) % 2 ^ 32) n 0
 
-    each : (q : ℕ) → 0 ≤ q → q < 0 + n → floored (unfloored (getD sums q 0) adj) % 2 ^ 32 ≡ floored
-        (unfloored (quarterSum (chosen .quarters) readings (chosenAt chosen) (chosen .start + q) % 2 ^ 32) adj) % 2 ^ 32
+    each : (q : ℕ) → 0 ≤ q → q < 0 + n → floored (unfloored 12 (getD sums q 0) adj) % 2 ^ 32 ≡ floored
+        (unfloored 12 (quarterSum (chosen .quarters) readings (chosenAt chosen) (chosen .start + q) % 2 ^ 32) adj) % 2 ^ 32
     each q a b =
         let z : 0 + q ≡ q = omega arith in
         let i : q < n = omega arith in
         let here = ap (λ l. getD l q 0) s ∙ at-place (λ q. quarterSum (chosen .quarters) readings (chosenAt chosen) (chosen .start + q) % 2 ^ 32) 0 n 0 q i in
-        ap (λ (x : ℕ). floored (unfloored x adj) % 2 ^ 32) (rw z at here)
+        ap (λ (x : ℕ). floored (unfloored 12 x adj) % 2 ^ 32) (rw z at here)

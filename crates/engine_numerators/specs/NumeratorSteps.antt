@@ -30,7 +30,7 @@ adjustmentOf readings chosen yesterday today =
 -- "max(0, 12·S(t) + N·A - B)" of `n` quarters from `start` on, of days that have so many: sums and numerators are numbers of 32 bits
 unfoldable pub numeratorsOf : ℕ → List ℕ → List ℕ → ℕ → ℤ → ℕ → List ℕ
 numeratorsOf quarters readings at start adj n =
-    map (λ q. floored (unfloored (quarterSum quarters readings at (start + q) % 2 ^ 32) adj) % 2 ^ 32) (places n 0)
+    map (λ q. floored (unfloored 12 (quarterSum quarters readings at (start + q) % 2 ^ 32) adj) % 2 ^ 32) (places n 0)
 
 -- the adjustment that is given back, and what an output of `n` places holds then
 pub record Written (readings : List ℕ) (chosen : Places) (yesterday today : List ℕ) (n : ℕ) (given : ℤ) (after : List ℕ) : Type 0 where

@@ -14,7 +14,7 @@ use engine_places::Places;
 // A numerator: twelve times a sum and the adjustment's numerator, floored at zero.
 fn numerator(sum: u32, adjustment: i64) -> u32
     requires { ⌜ mag adjustment < 2 ^ 40 ⌝ }
-    ensures { λ r. ⌜ r ≡ floored (unfloored sum adjustment) % 2 ^ 32 ⌝ }
+    ensures { λ r. ⌜ r ≡ floored (unfloored 12 sum adjustment) % 2 ^ 32 ⌝ }
 {
     let raw = 12 * (sum as i64) + adjustment;
     if raw < 0 {
@@ -27,7 +27,7 @@ fn numerator(sum: u32, adjustment: i64) -> u32
 // Every sum becomes its numerator.
 fn floor(sums: &mut [u32], adjustment: i64)
     requires { ⌜ mag adjustment < 2 ^ 40 ⌝ }
-    ensures { λ _. ⌜ now (sums .exit) ≡ map (λ q. floored (unfloored (getD (now (sums .entry)) q 0) adjustment) % 2 ^ 32) (places (length (now (sums .entry))) 0) ⌝ }
+    ensures { λ _. ⌜ now (sums .exit) ≡ map (λ q. floored (unfloored 12 (getD (now (sums .entry)) q 0) adjustment) % 2 ^ 32) (places (length (now (sums .entry))) 0) ⌝ }
 {
     let mut q = 0;
     while q < sums.len() {

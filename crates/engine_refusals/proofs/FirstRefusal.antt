@@ -47,7 +47,7 @@ first-passed (t ∷ ts) reply e = let w = passed-next (t .0) (t .1) ts e in rw (
 
 -- the tests of refusal 4, in code's form
 pub good-is : (r : Request) {start end : ℕ} → start ≡ rulerStart (r .event) → end ≡ rulerEnd (r .event)
-    → ((((leb (r .participation) lastDay && (leb start (r .s) && ltb (r .s) end)) && (ltb (r .s) (r .e) && leb (r .e) end)) && leb (r .n) (r .s)))
+    → (leb (r .participation) lastDay && (leb start (r .s) && ltb (r .s) end) && (ltb (r .s) (r .e) && leb (r .e) end) && leb (r .n) (r .s) && leb (r .method) 1)
     ≡ goodRequest r
 unfolding goodRequest
 good-is r a b = rw (a, b, add-one (r .s))
@@ -83,8 +83,11 @@ good-request r e =
     ends : Bool
     ends = ltb (r .s) (r .e) && leb (r .e) end
 
+    known : ((((since && starts) && ends) && leb (r .n) (r .s)) ≡ true) × (leb (r .method) 1 ≡ true)
+    known = both (((since && starts) && ends) && leb (r .n) (r .s)) (leb (r .method) 1) (good-is r refl refl ∙ e)
+
     whole : (((since && starts) && ends) ≡ true) × (leb (r .n) (r .s) ≡ true)
-    whole = both ((since && starts) && ends) (leb (r .n) (r .s)) (good-is r refl refl ∙ e)
+    whole = both ((since && starts) && ends) (leb (r .n) (r .s)) (known .0)
 
     ahead : ((since && starts) ≡ true) × (ends ≡ true)
     ahead = both (since && starts) ends (whole .0)

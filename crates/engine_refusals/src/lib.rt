@@ -15,7 +15,7 @@ pub enum Tested {
     Failed(Refusal),
 }
 
-// Whether P, s, e and n are in their ranges.
+// Whether P, s, e and n are in their ranges, and the method is known.
 fn is_good(request: Request) -> bool
     ensures { λ r. ⌜ r ≡ goodRequest request ⌝ }
 {
@@ -23,9 +23,10 @@ fn is_good(request: Request) -> bool
     let e = request.e;
     let start = day_ruler::start(request.event);
     let end = day_ruler::end(request.event);
-    (((request.participation <= calendar_dates::LAST_DAY) & ((start <= s) & (s < end)))
+    ((((request.participation <= calendar_dates::LAST_DAY) & ((start <= s) & (s < end)))
         & ((s < e) & (e <= end)))
-        & (request.n <= s)
+        & (request.n <= s))
+        & (request.method <= method::AVERAGE_X_OF_Y)
 }
 
 // 4 to 7: what is wrong with the request, for the rooms of its event and so much room for the output. D is not held where no room is.

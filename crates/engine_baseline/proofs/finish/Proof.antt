@@ -1,124 +1,26 @@
--- `engine_baseline::finish` meets its contract: each need is a law of `Steps`, at the start (`s`) or where the window's end is known (`e`).
-use mathlib.Core.Path.{refl, sym}
-use native.Mathlib.Omega.{arith}
+-- `engine_baseline::finish` meets its contract.
 use borrow.Author.Needs.{needs}
-use lib.ListN.{length}
-use Rattle.engine_answer.proofs.Laws.{refuses}
-use Rattle.engine_numerators.proofs.Windows.{all-small}
-use Rattle.engine_baseline.proofs.Steps.{no-window, ranges, room-enough, room-long, adjusted-back, answers}
+use borrow.Author.Tests.{eq-eqb, ne-eqb}
 use Rattle.engine_baseline.proofs.finish.Statement.{statement}
 use Rattle.engine_baseline.proofs.finish.Tie as tie
 
-element-copy-out-readings-at : tie.Need-element-copy-out-readings-at
-element-copy-out-readings-at c = search needs
+average-requires : tie.Need-average-requires
+average-requires c κs = let s = c .before .before .before .before .before in (s .pre, eq-eqb (s .args .request .method) 1 (c .before .if1 .taken))
 
-sub-size : tie.Need-sub-size
-sub-size c = search needs
-
-size-requires : tie.Need-size-requires
-size-requires c κs = search needs
-
-readings-at-requires : tie.Need-readings-at-requires
-readings-at-requires c κs = search needs
-
-element-copy-out-readings-at-2 : tie.Need-element-copy-out-readings-at-2
-element-copy-out-readings-at-2 c = search needs
-
-size-requires-2 : tie.Need-size-requires-2
-size-requires-2 c κs = search needs
-
-readings-at-requires-2 : tie.Need-readings-at-requires-2
-readings-at-requires-2 c κs = search needs
-
-adjustment-end-requires : tie.Need-adjustment-end-requires
-adjustment-end-requires c κs = search needs
-
-refuse-requires : tie.Need-refuse-requires
-refuse-requires c κs = search needs
-
-returns : tie.Need-returns
-returns c =
-    let e = c .before .before in
-    let s = e .before .before .before .before .before .before .before .before .before in
-    let a = s .args in
-    let yesterday = rw (e .before .before .before .before .before .size .ensures) at (e .before .before .before .before .readings-at .ensures .list) in
-    let today = rw (e .before .before .size2 .ensures) at (e .before .readings-at2 .ensures .list) in
-    let room = length (a .out .now) in
-    refuses (a .out .now) (c .refuse .ensures)
-    (no-window (a .request) (a .t2) (a .readings .now) room (a .chosen) (s .pre) yesterday today (e .adjustment-end .ensures) (c .before .if1 .taken))
-
-placed-requires : tie.Need-placed-requires
-placed-requires c κs = search needs
-
-sub-length : tie.Need-sub-length
-sub-length c =
-    let s = c .before .before .before .before .before .before .before .before .before .before .before .before .before in
-    let a = s .args in
-    let room = length (a .out .now) in
-    omega (arith, ranges (a .request) (a .t2) (a .readings .now) room (a .chosen) (s .pre) .some)
-
-cast-length : tie.Need-cast-length
-cast-length c = search needs
-
-slice-relend-prefix-part : tie.Need-slice-relend-prefix-part
-slice-relend-prefix-part c =
-    let s = c .before .before .before .before .before .before .before .before .before .before .before .before .before in
-    let a = s .args in
-    let room = length (a .out .now) in
-    room-enough (a .request) (a .t2) (a .readings .now) room (a .chosen) (s .pre)
-
-slice-aggregate-part : tie.Need-slice-aggregate-part
-slice-aggregate-part c =
-    let s = c .before .before .before .before .before .before .before .before .before .before .before .before .before .before in
-    let a = s .args in
-    let room = length (a .out .now) in
-    sym (room-long (a .request) (a .t2) (a .readings .now) room (a .chosen) (s .pre) (a .out .now) refl)
-
-write-requires : tie.Need-write-requires
-write-requires c κs = search needs
-
-mul-t18 : tie.Need-mul-t18
-mul-t18 c = omega (arith, c .before .before .before .before .before .before .before .before .before .before .before .before .before .before .before .before .before .before .pre .few)
+adjusted-requires : tie.Need-adjusted-requires
+adjusted-requires c κs = let s = c .before .before .before .before .before in (s .pre, ne-eqb (s .args .request .method) 1 (c .before .if1 .left))
 
 same-length : tie.Need-same-length
 same-length c = search needs
 
+returns : tie.Need-returns
+returns c = search needs
+
+same-length-2 : tie.Need-same-length-2
+same-length-2 c = search needs
+
 returns-2 : tie.Need-returns-2
-returns-2 c =
-    let w = c .before .before .before .write .ensures in
-    let p = c .before .before .before .before .before .before in
-    let e = c .before .before .before .before .before .before .before .before .before in
-    let s = e .before .before .before .before .before .before .before .before .before in
-    let a = s .args in
-    let yesterday = rw (e .before .before .before .before .before .size .ensures) at (e .before .before .before .before .readings-at .ensures .list) in
-    let today = rw (e .before .before .size2 .ensures) at (e .before .readings-at2 .ensures .list) in
-    let room = length (a .out .now) in
-    let left = p .before .before .if1 .left in
-    rw (adjusted-back (a .request) (a .t2) (a .readings .now) room (a .chosen) (s .pre) yesterday today (e .adjustment-end .ensures) left (p .placed .ensures) w
-    (all-small (a .readings .now) (e .before .before .before .before .before .before .before .before .shared-slice-known .given)))
-    (answers (a .request) (a .t2) (a .readings .now) room (a .chosen) (s .pre) yesterday today (e .adjustment-end .ensures) left (p .placed .ensures) w
-    (room-long (a .request) (a .t2) (a .readings .now) room (a .chosen) (s .pre) (a .out .now) refl) refl)
+returns-2 c = search needs
 
 pub finish-spec : {M : Type 1} → statement M
-finish-spec =
-    tie.close
-    (tie.spec
-    element-copy-out-readings-at
-    sub-size
-    size-requires
-    readings-at-requires
-    element-copy-out-readings-at-2
-    size-requires-2
-    readings-at-requires-2
-    adjustment-end-requires
-    refuse-requires
-    returns
-    placed-requires
-    sub-length
-    cast-length
-    slice-relend-prefix-part
-    slice-aggregate-part
-    write-requires
-    mul-t18
-    same-length
-    returns-2)
+finish-spec = tie.close (tie.spec average-requires adjusted-requires same-length returns same-length-2 returns-2)

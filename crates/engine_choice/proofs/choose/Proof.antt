@@ -1,10 +1,14 @@
--- `engine_choice::choose` meets its contract: the eligible days fill the window, or they do not.
+-- `engine_choice::choose` meets its contract: the eligible days fill the window, or they do not. What was looked at is known at `l`.
 use mathlib.Core.Path.{_∙_}
 use borrow.Author.Needs.{needs}
 use Rattle.calendar_groups.specs.Holidays.{group as groupOf}
+use Rattle.engine_choice.proofs.Requested.{follows}
 use Rattle.engine_choice.proofs.WholeChoice.{request-few, request-full}
 use Rattle.engine_choice.proofs.choose.Statement.{statement}
 use Rattle.engine_choice.proofs.choose.Tie as tie
+
+minus-requires : tie.Need-minus-requires
+minus-requires c κs = search needs
 
 group-of-requires : tie.Need-group-of-requires
 group-of-requires c κs = search needs
@@ -15,39 +19,41 @@ rules-of-requires c κs = search needs
 look-requires : tie.Need-look-requires
 look-requires c κs = search needs
 
-minus-requires : tie.Need-minus-requires
-minus-requires c κs = search needs
-
 choose-among-few-requires : tie.Need-choose-among-few-requires
-choose-among-few-requires c κs = search needs
+choose-among-few-requires c κs =
+    let l = c .before .before .before in
+    (follows _ (l .before .before .before .before .before .before .args .request) (l .before .rules-of .ensures) .sound, c .if1 .taken)
 
 pick-requires : tie.Need-pick-requires
-pick-requires c κs = search needs
+pick-requires c κs =
+    let l = c .before .before .before .before in
+    let sound = follows _ (l .before .before .before .before .before .before .args .request) (l .before .rules-of .ensures) .sound in
+    (sound, sound .ten)
 
 returns : tie.Need-returns
 returns c =
-    let a = c .before .before .before .before .before .before .before .before .before .before .args in
-    let found = c .before .before .before .before .before .look in
+    let l = c .before .before .before .before in
+    let a = l .before .before .before .before .before .before .args in
     c .choose-among-few .ensures
-    ∙ request-few (groupOf (a .moves .now)) (a .request) (a .rooms) (a .readings .now) (found .result) (c .before .before .before .before .before .before .before .group-of .ensures) (c .before .before .before .before .before .before .rules-of .ensures)
-    (found .ensures) (c .before .minus .ensures) (c .before .before .if1 .taken)
+    ∙ request-few (groupOf (a .moves .now)) (a .request) (a .rooms) (a .readings .now) (l .look .result) (l .before .before .group-of .ensures)
+    (follows _ (a .request) (l .before .rules-of .ensures)) (l .look .ensures) (l .before .before .before .minus .ensures) (c .before .if1 .taken)
 
 returns-2 : tie.Need-returns-2
 returns-2 c =
-    let a = c .before .before .before .before .before .before .before .before .before .before .args in
-    let found = c .before .before .before .before .before .look in
+    let l = c .before .before .before .before .before in
+    let a = l .before .before .before .before .before .before .args in
     c .pick .ensures
-    ∙ request-full (groupOf (a .moves .now)) (a .request) (a .rooms) (a .readings .now) (found .result) (c .before .before .before .before .before .before .before .group-of .ensures) (c .before .before .before .before .before .before .rules-of .ensures)
-    (found .ensures) (c .before .before .if1 .left)
+    ∙ request-full (groupOf (a .moves .now)) (a .request) (a .rooms) (a .readings .now) (l .look .result) (l .before .before .group-of .ensures)
+    (follows _ (a .request) (l .before .rules-of .ensures)) (l .look .ensures) (c .before .before .if1 .left)
 
 pub choose-spec : {M : Type 1} → statement M
 choose-spec =
     tie.close
     (tie.spec
+    minus-requires
     group-of-requires
     rules-of-requires
     look-requires
-    minus-requires
     choose-among-few-requires
     pick-requires
     returns

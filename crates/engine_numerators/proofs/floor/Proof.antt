@@ -15,7 +15,7 @@ use Rattle.base_lists.specs.Lists.{places}
 use Rattle.engine_numerators.proofs.floor.Tie as tie
 
 abbrev Inv-loop : tie.InvT-loop
-Inv-loop sums₀ adjustment q₀ sums q = Storing (λ q. floored (unfloored (getD sums₀ q 0) (toZ w64 adjustment)) % 2 ^ 32) sums₀ sums q
+Inv-loop sums₀ adjustment q₀ sums q = Storing (λ q. floored (unfloored 12 (getD sums₀ q 0) (toZ w64 adjustment)) % 2 ^ 32) sums₀ sums q
 
 abbrev μ-loop : tie.MeasureT-loop
 μ-loop sums₀ adjustment q₀ sums q = length sums₀ - q
@@ -50,7 +50,7 @@ loop-again : tie.Need-loop-again Inv-loop μ-loop
 loop-again c =
     let l = c .before .before .before .loop in
     storing-next (l .inv) (c .before .before .loop-test .taken)
-    (c .numerator .ensures ∙ ap (λ x. floored (unfloored x (toZ w64
+    (c .numerator .ensures ∙ ap (λ x. floored (unfloored 12 x (toZ w64
     (ofZ w64 (c .before .before .before .before .before .args .adjustment)))) % 2 ^ 32) (storing-here (l .inv)))
 
 same-length : tie.Need-same-length Inv-loop μ-loop
@@ -60,7 +60,7 @@ returns : tie.Need-returns Inv-loop μ-loop
 returns c =
     let a = c .before .before .before .args in
     storing-end (c .before .loop .inv) (c .loop-test .left) ∙
-    ap (λ (z : ℤ). map (λ q. floored (unfloored (getD (a .sums .now) q 0) z) % 2 ^ 32) (places (length (a .sums .now)) 0))
+    ap (λ (z : ℤ). map (λ q. floored (unfloored 12 (getD (a .sums .now) q 0) z) % 2 ^ 32) (places (length (a .sums .now)) 0))
     (toZ-ofZ w64 (a .adjustment) (c .before .before .before .fits .adjustment))
 
 pub floor-spec : {M : Type 1} → statement M

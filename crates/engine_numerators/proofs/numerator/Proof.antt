@@ -21,7 +21,7 @@ cast-result : tie.Need-cast-result
 cast-result c =
     let a = c .before .args in
     let back = raw-back (a .sum) (a .adjustment) (omega arith) (c .before .pre) in
-    rw back (cast-fits (unfloored (a .sum) (a .adjustment)) (rw back at (c .if1 .left))
+    rw back (cast-fits (unfloored 12 (a .sum) (a .adjustment)) (rw back at (c .if1 .left))
     (raw-near (a .sum) (a .adjustment) (omega arith) (c .before .pre)))
 
 cast-result-2 : tie.Need-cast-result-2
@@ -31,13 +31,13 @@ returns : tie.Need-returns
 returns c =
     let a = c .before .args in
     let back = raw-back (a .sum) (a .adjustment) (omega arith) (c .before .pre) in
-    ap (λ (n : ℕ). n % 2 ^ 32) (below-zero (unfloored (a .sum) (a .adjustment)) (rw back at (c .if1 .taken)))
+    ap (λ (n : ℕ). n % 2 ^ 32) (below-zero (unfloored 12 (a .sum) (a .adjustment)) (rw back at (c .if1 .taken)))
 
 returns-2 : tie.Need-returns-2
 returns-2 c =
     let a = c .before .args in
     let back = raw-back (a .sum) (a .adjustment) (omega arith) (c .before .pre) in
-    rw back (ap (λ (n : ℕ). n % 2 ^ 32) (from-zero (unfloored (a .sum) (a .adjustment)) (rw back at (c .if1 .left))))
+    rw back (ap (λ (n : ℕ). n % 2 ^ 32) (from-zero (unfloored 12 (a .sum) (a .adjustment)) (rw back at (c .if1 .left))))
 
 pub numerator-spec : {M : Type 1} → statement M
 numerator-spec = tie.close (tie.spec cast-raw mul-raw add-raw cast-result cast-result-2 returns returns-2)

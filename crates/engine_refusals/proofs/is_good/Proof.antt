@@ -12,7 +12,7 @@ end-requires c κs = search needs
 
 returns : tie.Need-returns
 returns c =
-    good-is (c .before .before .before .before .args .request) (c .before .before .before .start .ensures) (c .before .before .end .ensures)
+    good-is (c .before .before .before .before .before .args .request) (c .before .before .before .before .start .ensures) (c .before .before .before .end .ensures)
 
 pub is-good-spec : {M : Type 1} → statement M
 is-good-spec = tie.close (tie.spec start-requires end-requires returns)
