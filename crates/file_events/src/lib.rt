@@ -30,6 +30,7 @@ fn request_of(file: &[u8], at: usize, participation: u32) -> Request
         s: byte(file, at + 4),
         e: byte(file, at + 5),
         n: byte(file, at + 6),
+        method: byte(file, at + 7),
     }
 }
 

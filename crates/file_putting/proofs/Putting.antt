@@ -104,14 +104,14 @@ module _ (before now : List ℕ) (day mark : ℕ) (readings : List ℕ) (h : 6 +
       numbers-last readings {end = end} blank e (rw (length-set, length-set) (omega arith)) (omega (arith, reading-length readings)) p
 
 -- an EV
-module _ (before now : List ℕ) (day s e n : ℕ) (h : 8 ≤ length before) (head : now ≡ (ascii "EV" ++ bytes 2 day) ++ drop 4 before) where
-  pub event-put : set (set (set (set now 4 s) 5 e) 6 n) 7 0 ≡ putFirst (evRecord (record { day = day; s = s; e = e; n = n })) before
+module _ (before now : List ℕ) (day s e n method : ℕ) (h : 8 ≤ length before) (head : now ≡ (ascii "EV" ++ bytes 2 day) ++ drop 4 before) where
+  pub event-put : set (set (set (set now 4 s) 5 e) 6 n) 7 method ≡ putFirst (evRecord (record { day = day; s = s; e = e; n = n; method = method })) before
   unfolding evRecord bytes
   event-put =
       let long : length now ≡ length before = omega (arith, ap length head, length-drop 4 before) in
-      let fill = head-put before (ascii "EV" ++ bytes 2 day) (s ∷ e ∷ n ∷ 0 ∷ []) refl (omega arith) head in
-      let start = filling-one fill s (e ∷ n ∷ 0 ∷ []) (omega arith) refl in
-      let end = filling-one start e (n ∷ 0 ∷ []) (rw length-set (omega arith)) refl in
-      let notice = filling-one end n (0 ∷ []) (rw (length-set, length-set) (omega arith)) refl in
-      let blank = filling-one notice 0 [] (rw (length-set, length-set, length-set) (omega arith)) refl in
-      tells-whole (evRecord (record { day = day; s = s; e = e; n = n })) before h (filled blank refl)
+      let fill = head-put before (ascii "EV" ++ bytes 2 day) (s ∷ e ∷ n ∷ method ∷ []) refl (omega arith) head in
+      let start = filling-one fill s (e ∷ n ∷ method ∷ []) (omega arith) refl in
+      let end = filling-one start e (n ∷ method ∷ []) (rw length-set (omega arith)) refl in
+      let notice = filling-one end n (method ∷ []) (rw (length-set, length-set) (omega arith)) refl in
+      let last = filling-one notice method [] (rw (length-set, length-set, length-set) (omega arith)) refl in
+      tells-whole (evRecord (record { day = day; s = s; e = e; n = n; method = method })) before h (filled last refl)

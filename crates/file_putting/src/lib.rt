@@ -64,8 +64,8 @@ pub fn put_day(out: &mut [u8], day: u32, mark: u8, readings: &[u32])
 }
 
 // An EV.
-pub fn put_event(out: &mut [u8], day: u32, s: u8, e: u8, n: u8)
-    ensures { λ _. ⌜ now (out .exit) ≡ putFirst (evRecord (record { day = day; s = s; e = e; n = n })) (now (out .entry)) ⌝ }
+pub fn put_event(out: &mut [u8], day: u32, s: u8, e: u8, n: u8, method: u8)
+    ensures { λ _. ⌜ now (out .exit) ≡ putFirst (evRecord (record { day = day; s = s; e = e; n = n; method = method })) (now (out .entry)) ⌝ }
 {
     if out.len() < EV_LENGTH {
         return;
@@ -74,5 +74,5 @@ pub fn put_event(out: &mut [u8], day: u32, s: u8, e: u8, n: u8)
     out[4] = s;
     out[5] = e;
     out[6] = n;
-    out[7] = 0;
+    out[7] = method;
 }

@@ -45,47 +45,40 @@ fn opens(file: &[u8], at: usize, mark: &[u8; 2]) -> bool
     (file[at] == mark[0]) & (file[at + 1] == mark[1])
 }
 
-// Whether a record of `size` bytes stands at a place, whole, with its mark and with its zero byte zero.
-fn is_record(file: &[u8], at: usize, size: usize, mark: &[u8; 2], blank: usize) -> bool
-    requires { ⌜ (at ≤ length (now file)) × (2 ≤ size) × (blank < size) ⌝ }
-    ensures { λ r. ⌜ r ≡ isRecord size (now (mark .entry)) blank (drop at (now (file .entry))) ⌝ }
+// Whether a record of `size` bytes stands at a place, whole and with its mark.
+fn is_record(file: &[u8], at: usize, size: usize, mark: &[u8; 2]) -> bool
+    requires { ⌜ (at ≤ length (now file)) × (2 ≤ size) ⌝ }
+    ensures { λ r. ⌜ r ≡ isRecord size (now (mark .entry)) (drop at (now (file .entry))) ⌝ }
 {
     if file.len() - at < size {
         return false;
     }
-    if opens(file, at, mark) {
-        file[at + blank] == 0
-    } else {
-        false
-    }
+    opens(file, at, mark)
 }
 
-// Whether an MV stands at a place, whole.
+// Whether an MV stands at a place.
 fn is_move(file: &[u8], at: usize) -> bool
     requires { ⌜ at ≤ length (now file) ⌝ }
     ensures { λ r. ⌜ r ≡ isMV (drop at (now (file .entry))) ⌝ }
 {
-    if file.len() - at < MV_LENGTH {
-        return false;
-    }
-    opens(file, at, b"MV")
+    is_record(file, at, MV_LENGTH, b"MV")
 }
 
-// Whether an EV as laid down stands at a place.
+// Whether an EV stands at a place.
 fn is_event(file: &[u8], at: usize) -> bool
     requires { ⌜ at ≤ length (now file) ⌝ }
     ensures { λ r. ⌜ r ≡ isEV (drop at (now (file .entry))) ⌝ }
 {
-    is_record(file, at, EV_LENGTH, b"EV", 7)
+    is_record(file, at, EV_LENGTH, b"EV")
 }
 
-// Whether a DY of this day stands at a place.
+// Whether a DY of this day stands at a place, with its zero byte zero.
 fn is_day_of(file: &[u8], at: usize, day: u32) -> bool
     requires { ⌜ at ≤ length (now file) ⌝ }
     ensures { λ r. ⌜ r ≡ isDYof day (drop at (now (file .entry))) ⌝ }
 {
-    if is_record(file, at, day_length(day), b"DY", 5) {
-        number2(file, at + 2) == day
+    if is_record(file, at, day_length(day), b"DY") {
+        (file[at + 5] == 0) & (number2(file, at + 2) == day)
     } else {
         false
     }

@@ -1,13 +1,12 @@
 -- What is written of moves, days and events reads back: one record, and records one after the other.
 use Prim.Native.Nat.{ℕ, zero, suc, _+_, _*_, _/_, _%_, _^_, _<_, _≤_}
 use mathlib.Core.Path.{_≡_, refl, sym, _∙_, ap}
-use mathlib.Core.Bool.{true, false, _&&_, and-false}
+use mathlib.Core.Bool.{true, false, and-false}
 use mathlib.Core.List.{List, [], _∷_, _++_, append-assoc}
 use native.Mathlib.Omega.{arith}
-use borrow.Author.Tests.{le-leb, eq-eqb, ltb-true}
+use borrow.Author.Tests.{le-leb, eq-eqb}
 use lib.ListN.{length, take, drop, getD, length-append, length-drop, take-append-drop}
 use lib.Seq.{drop-at, length-take-le}
-use lib.Dec.{ltb}
 use Rattle.base_lists.proofs.Bools.{both}
 use Rattle.base_lists.specs.Lists.{all}
 use Rattle.base_lists.specs.Ascii.{ascii}
@@ -17,7 +16,7 @@ use Rattle.file_record.specs.Reader.{numberAt, opensWith, isRecord, isMV
 use Rattle.file_record.specs.Reader.{moveNumbers, marksFrom, numbers, readingsFrom, eventOf, eventList}
 use Rattle.file_record.proofs.Bytes.{below-drop, below-take, numbers-bytes}
 use Rattle.file_record.proofs.Starts.{day-start-none, day-start-cons}
-use Rattle.file_record.proofs.Records.{day-record, day-of-is, day-not, day-cut}
+use Rattle.file_record.proofs.Records.{day-record, day-of-is, day-not, day-cut, event-fields}
 use Rattle.file_record.proofs.Runs.{run-more, run-stops}
 use Rattle.base_bytes.specs.Bytes.{bytes, readingBytes}
 use Rattle.base_bytes.proofs.Bytes.{reading-length}
@@ -25,7 +24,7 @@ use Rattle.base_bytes.proofs.Bytes.{reading-length}
 -- one MV, with anything after it
 module _ (old new : ℕ) (rest : List ℕ) where
   move-good : isMV (mvRecord old new ++ rest) ≡ true
-  unfolding isMV opensWith mvRecord bytes
+  unfolding isMV isRecord opensWith mvRecord bytes
   move-good = let o : mvLength ≤ length (mvRecord old new ++ rest) = omega arith in rw (le-leb mvLength (length (mvRecord old new ++ rest)) o)
 
   move-after : drop mvLength (mvRecord old new ++ rest) ≡ rest
@@ -46,24 +45,28 @@ module _ (d m : ℕ) (xs rest : List ℕ) (long : length xs ≡ size d) where
   unfolding dyRecord bytes
   day-length = omega (arith, reading-length xs)
 
-  day-record-is : isRecord (dyLength d) (ascii "DY") 5 (dyRecord d m xs ++ rest) ≡ true
+  day-record-is : isRecord (dyLength d) (ascii "DY") (dyRecord d m xs ++ rest) ≡ true
   unfolding isRecord opensWith dyRecord bytes
   day-record-is =
       let o : dyLength d ≤ length (dyRecord d m xs ++ rest) = omega (arith, length-append (readingBytes xs) rest, reading-length xs) in
       rw (le-leb (dyLength d) (length (dyRecord d m xs ++ rest)) o)
+
+  day-blank : getD (dyRecord d m xs ++ rest) 5 0 ≡ 0
+  unfolding dyRecord bytes
+  day-blank = refl
 
   pub day-day : d < 256 ^ 2 → dyDay (dyRecord d m xs ++ rest) ≡ d
   unfolding dyRecord bytes numberAt
   day-day h = omega arith
 
   pub day-good : d < 256 ^ 2 → isDYof d (dyRecord d m xs ++ rest) ≡ true
-  day-good h = rw (day-record d (dyRecord d m xs ++ rest), day-record-is, day-day h, eq-eqb d d refl)
+  day-good h = rw (day-record d (dyRecord d m xs ++ rest), day-record-is, day-blank, day-day h, eq-eqb d d refl)
 
   pub day-is : d < 256 ^ 2 → isDY (dyRecord d m xs ++ rest) ≡ true
   day-is h = day-of-is d (dyRecord d m xs ++ rest) (day-good h)
 
   day-no-move : isMV (dyRecord d m xs ++ rest) ≡ false
-  unfolding isMV opensWith dyRecord bytes
+  unfolding isMV isRecord opensWith dyRecord bytes
   day-no-move = simp and-false
 
   pub day-after : drop (dyLength d) (dyRecord d m xs ++ rest) ≡ rest
@@ -84,7 +87,7 @@ module _ (v : Event) (rest : List ℕ) where
   event-good = let o : evLength ≤ length (evRecord v ++ rest) = omega arith in rw (le-leb evLength (length (evRecord v ++ rest)) o)
 
   event-no-move : isMV (evRecord v ++ rest) ≡ false
-  unfolding isMV opensWith evRecord bytes
+  unfolding isMV isRecord opensWith evRecord bytes
   event-no-move = simp and-false
 
   pub event-no-day : isDY (evRecord v ++ rest) ≡ false
@@ -99,7 +102,7 @@ module _ (v : Event) (rest : List ℕ) where
   unfolding eventOf evRecord bytes numberAt
   event-back h =
       let p : v .day % 256 + 256 * (v .day / 256 % 256 + 256 * 0) ≡ v .day = omega arith in
-      λ i. record { day = p i; s = v .s; e = v .e; n = v .n }
+      λ i. record { day = p i; s = v .s; e = v .e; n = v .n; method = v .method }
 
 -- moves one after the other, and what comes after them
 pub moves-length : (ms : List ℕ) → length (mvRecords ms) ≡ mvLength * (length ms / 2)
@@ -217,14 +220,11 @@ events-back (v ∷ es) (suc most) i h =
     ∙ (rw (event-after v (evRecords es)) (ap suc (events-back es most (suc i) fewer)))
 
 pub event-list-back : (es : List Event) → all fitsEvent es ≡ true → eventList (length es) (evRecords es) ≡ es
-unfolding evRecords eventList all fitsEvent
+unfolding evRecords eventList all
 event-list-back [] h = refl
 event-list-back (v ∷ es) h =
     let k = both (fitsEvent v) (all fitsEvent es) h in
-    let d = both (ltb (v .day) 65536 && ltb (v .s) 256 && ltb (v .e) 256) (ltb (v .n) 256) (k .0) in
-    let d₂ = both (ltb (v .day) 65536 && ltb (v .s) 256) (ltb (v .e) 256) (d .0) in
-    let d₃ = both (ltb (v .day) 65536) (ltb (v .s) 256) (d₂ .0) in
-    rw (event-back v (evRecords es) (ltb-true (v .day) 65536 (d₃ .0)), event-after v (evRecords es), event-list-back es (k .1))
+    rw (event-back v (evRecords es) (event-fields v (k .0) .day), event-after v (evRecords es), event-list-back es (k .1))
 
 pub events-length : (es : List Event) → length (evRecords es) ≡ evLength * length es
 unfolding evRecords evRecord bytes
@@ -242,4 +242,4 @@ no-move-left d (m ∷ ms) rs es e =
     rw (append-assoc (dyRecord d m (take (size d) rs)) (dyRecords (suc d) ms (drop (size d) rs)) (evRecords es))
     (day-no-move d m (take (size d) rs) (dyRecords (suc d) ms (drop (size d) rs) ++ evRecords es) (first-long (length ms) rs d e))
 no-move-left d [] rs (v ∷ es) e = unfold evRecords in event-no-move v (evRecords es)
-no-move-left d [] rs [] e = unfold evRecords isMV in refl
+no-move-left d [] rs [] e = unfold evRecords isMV isRecord in refl

@@ -4,12 +4,13 @@ use Rattle.method.specs.Table.{size}
 use Rattle.file_record.specs.Layout.{pfRecord, mvRecord, dyRecord, evRecord, mvRecords, evRecords}
 use Rattle.file_record.specs.Reader.{numberAt, opensWith, isRecord, isPF, isMV, isDY, isEV, run, isDYof}
 use Rattle.file_record.specs.Reader.{movesFrom, movesIn, daysFrom, eventsFrom, fileBase, moveNumbers, listIn, firstIn, daysIn, dayStart, eventStart, eventsIn, goodEnd, shapeIn, readFile}
+use Rattle.file_record.specs.Reader.{eventOf, requestAt}
 use Rattle.file_record.specs.Checks.{pf, mv, ev, flat, Checks}
 use Rattle.base_bytes.specs.Bytes.{bytes, readingBytes}
 
 pub checks : Checks
 unfolding size bytes pfRecord readingBytes mvRecord dyRecord evRecord mvRecords evRecords numberAt opensWith isRecord isPF isMV isDY isEV run isDYof movesFrom
-    movesIn daysFrom eventsFrom fileBase moveNumbers listIn firstIn daysIn dayStart eventStart eventsIn goodEnd shapeIn readFile pf mv ev flat
+    movesIn daysFrom eventsFrom fileBase moveNumbers listIn firstIn daysIn dayStart eventStart eventsIn goodEnd shapeIn readFile eventOf requestAt pf mv ev flat
 checks =
     record {
       pf-bytes = refl;
@@ -22,8 +23,10 @@ checks =
       alone = refl;
       one-event = refl;
       cut-event = refl;
-      not-zero = refl;
       second-pf = refl;
+      by-high = refl;
+      by-average = refl;
+      by-255 = refl;
       all-events = refl;
       event-65 = refl;
       two-days = refl;

@@ -56,9 +56,9 @@ within-is file place {shape} r = ⊎-elim there (λ none. rw (r, le-ltb place (s
         rw (r, lt-ltb place (shape .events) h, at, le-leb (eventStart file place + evLength) (length file) room, p)
 
 -- the request that an EV makes
-pub event-read : (file : List ℕ) (at participation : ℕ) {event s e n : ℕ} → event ≡ numberAt 2 (at + 2) file → s ≡ getD file (at + 4) 0
-    → e ≡ getD file (at + 5) 0 → n ≡ getD file (at + 6) 0
-    → record { participation = participation; event = event; s = s; e = e; n = n } ≡ requestOf participation (eventOf (drop at file))
+pub event-read : (file : List ℕ) (at participation : ℕ) {event s e n method : ℕ} → event ≡ numberAt 2 (at + 2) file → s ≡ getD file (at + 4) 0
+    → e ≡ getD file (at + 5) 0 → n ≡ getD file (at + 6) 0 → method ≡ getD file (at + 7) 0
+    → record { participation = participation; event = event; s = s; e = e; n = n; method = method } ≡ requestOf participation (eventOf (drop at file))
 unfolding eventOf
-event-read file at participation ev es ee en =
-    rw (number-drop 2 at 2 file, getD-drop at file 4 0, getD-drop at file 5 0, getD-drop at file 6 0, ev, es, ee, en)
+event-read file at participation ev es ee en em =
+    rw (number-drop 2 at 2 file, getD-drop at file 4 0, getD-drop at file 5 0, getD-drop at file 6 0, getD-drop at file 7 0, ev, es, ee, en, em)

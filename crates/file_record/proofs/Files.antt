@@ -4,26 +4,25 @@ use mathlib.Core.Path.{_≡_, refl, sym, _∙_, ap}
 use mathlib.Core.Bool.{Bool, true, false, cond}
 use mathlib.Core.List.{List}
 use native.Mathlib.Omega.{arith}
-use borrow.Author.Tests.{le-leb, lt-leb, leb-true, eq-eqb, ne-eqb, eqb-true}
+use borrow.Author.Tests.{le-leb, lt-leb, eq-eqb, ne-eqb, eqb-true}
 use lib.ListN.{length, drop, length-drop}
-use lib.Dec.{leb, eqb}
-use Rattle.base_lists.proofs.Bools.{both}
+use lib.Dec.{eqb}
 use Rattle.base_lists.specs.Ascii.{ascii}
 use Rattle.file_record.specs.declared.Shape.{Shape}
 use Rattle.file_record.specs.declared.Read.the-variants.{File, Refused}
-use Rattle.file_record.specs.Reader.{numberAt, opensWith, isPF, pfLength, isMV, mvLength, isDY, isEV, isDYof, dyLength, dyDay, evLength, movesFrom, daysFrom, eventsFrom}
+use Rattle.file_record.specs.Reader.{numberAt, opensWith, isRecord, isPF, pfLength, isMV, mvLength, isDY, isEV, isDYof, dyLength, dyDay, evLength, movesFrom, daysFrom, eventsFrom}
 use Rattle.file_record.specs.Reader.{movesIn, moveStart, fileBase, firstIn, daysIn, dayStart, eventStart, eventsIn, goodEnd, shapeIn, readFile}
 use Rattle.file_record.specs.Laws.{Accepted}
 use Rattle.file_record.proofs.Numbers.{number-drop}
 use Rattle.file_record.proofs.Starts.{base-is}
-use Rattle.file_record.proofs.Records.{move-whole, day-cut, named-day}
+use Rattle.file_record.proofs.Records.{whole-record, move-whole, day-cut, named-day}
 use Rattle.file_record.proofs.Runs.{run-most, fits}
 
 -- the DY start within a file that opens with a PF
 pub base-within : (file : List ℕ) → isPF file ≡ true → fileBase file ≤ length file
 unfolding isPF fileBase movesIn movesFrom
 base-within file t =
-    let opening = leb-true pfLength (length file) (both (leb pfLength (length file)) (opensWith (ascii "PF") file) t .0) in
+    let opening = whole-record pfLength (ascii "PF") file t in
     omega (
       arith,
       fits (λ j. isMV) (λ j. mvLength) (λ j k. mvLength * k) (λ j. refl) (λ j k. omega arith) (λ i l m. move-whole l m) 16 0 (drop pfLength file),
@@ -68,11 +67,11 @@ base-from file m g = rw (g, m) refl
 
 -- refused at 0: an empty or cut file, and a foreign one
 pub file-cut : (file : List ℕ) → length file < pfLength → Refused 0 ≡ readFile file
-unfolding readFile isPF
+unfolding readFile isPF isRecord
 file-cut file h = rw (lt-leb pfLength (length file) h)
 
 pub file-foreign : (file : List ℕ) → pfLength ≤ length file → opensWith (ascii "PF") file ≡ false → Refused 0 ≡ readFile file
-unfolding readFile isPF
+unfolding readFile isPF isRecord
 file-foreign file h t = rw (le-leb pfLength (length file) h, t)
 
 module _ (file : List ℕ) {moves base first days start events : ℕ} (m : moves ≡ movesIn file) (g : base ≡ moveStart moves) (f : first ≡ firstIn file)
@@ -99,13 +98,13 @@ module _ (file : List ℕ) {moves base first days start events : ℕ} (m : moves
   pub file-good : {participation portfolio : ℕ} → pfLength ≤ length file → opensWith (ascii "PF") file ≡ true → start + evLength * events ≡ length file
       → participation ≡ numberAt 2 2 file → portfolio ≡ numberAt 4 4 file
       → File (record { participation = participation; portfolio = portfolio; moves = moves; first = first; days = days; events = events }) ≡ readFile file
-  unfolding readFile isPF shapeIn
+  unfolding readFile isPF isRecord shapeIn
   file-good h t e p n =
       rw (le-leb pfLength (length file) h, t, eq-eqb (goodEnd file) (length file) (sym end-is ∙ e), p, n, m, f, ← days-are, ← events-are)
 
   pub file-bad : pfLength ≤ length file → opensWith (ascii "PF") file ≡ true → (start + evLength * events ≡ length file → ⊥)
       → Refused (start + evLength * events) ≡ readFile file
-  unfolding readFile isPF
+  unfolding readFile isPF isRecord
   file-bad h t e =
       rw (le-leb pfLength (length file) h, t, ne-eqb (goodEnd file) (length file) (λ same. e (end-is ∙ same)), end-is)
 

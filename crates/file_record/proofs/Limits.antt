@@ -1,13 +1,12 @@
 -- What a file says its bytes can hold, and what is written is bytes.
 use Prim.Native.Nat.{ℕ, zero, suc, _+_, _^_, _<_, _≤_}
 use mathlib.Core.Path.{_≡_, refl, sym, _∙_, ap}
-use mathlib.Core.Bool.{true, false, cond, _&&_}
+use mathlib.Core.Bool.{true, false, cond}
 use mathlib.Core.List.{List, [], _∷_, _++_}
 use mathlib.Core.Logic.{⊎-elim}
 use native.Mathlib.Omega.{arith}
-use borrow.Author.Tests.{lt-ltb, ltb-true}
+use borrow.Author.Tests.{lt-ltb}
 use lib.ListN.{length, take, drop, getD}
-use lib.Dec.{ltb}
 use Rattle.base_lists.specs.Lists.{all}
 use Rattle.base_lists.proofs.Bools.{both, bool-cases}
 use Rattle.method.specs.Table.{size}
@@ -19,7 +18,7 @@ use Rattle.file_record.specs.Reader.{numberAt, isDY, evLength, isDYof, d
 use Rattle.file_record.specs.Reader.{marksFrom, numbers, readingsFrom, tableIn, eventOf, eventList, contentsIn}
 use Rattle.file_record.specs.Laws.{Accepted}
 use Rattle.file_record.proofs.Bytes.{below-drop, below-append, below-cons, below-none, bytes-below, number-below, reading-bytes-below, numbers-below}
-use Rattle.file_record.proofs.Records.{day-named, named-day}
+use Rattle.file_record.proofs.Records.{day-named, named-day, event-fields}
 use Rattle.file_record.proofs.Runs.{run-more}
 use Rattle.file_record.proofs.Files.{shape-fits}
 use Rattle.file_record.proofs.Lengths.{move-numbers-length, marks-length, readings-length}
@@ -51,7 +50,7 @@ events-fit : (count : ℕ) (left : List ℕ) → Below 256 left → all fitsEven
 unfolding all eventList fitsEvent eventOf
 events-fit zero left b = refl
 events-fit (suc count) left b =
-    rw (lt-ltb (numberAt 2 2 left) 65536 (number-below 2 2 left b), lt-ltb (getD left 4 0) 256 (b 4), lt-ltb (getD left 5 0) 256 (b 5), lt-ltb (getD left 6 0) 256 (b 6))
+    rw (lt-ltb (numberAt 2 2 left) 65536 (number-below 2 2 left b), lt-ltb (getD left 4 0) 256 (b 4), lt-ltb (getD left 5 0) 256 (b 5), lt-ltb (getD left 6 0) 256 (b 6), lt-ltb (getD left 7 0) 256 (b 7))
     (events-fit count (drop evLength left) (below-drop evLength left b))
 
 events-count : (count : ℕ) (left : List ℕ) → length (eventList count left) ≡ count
@@ -136,19 +135,15 @@ days-bytes (m ∷ ms) rs d h =
     (days-bytes ms (drop (size d) rs) (suc d) (λ i. h (suc i))))
 
 events-bytes : (es : List Event) → all fitsEvent es ≡ true → Below 256 (evRecords es)
-unfolding evRecords evRecord all fitsEvent
+unfolding evRecords evRecord all
 events-bytes [] h = below-none (omega arith)
 events-bytes (v ∷ es) h =
     let k = both (fitsEvent v) (all fitsEvent es) h in
-    let n = both (ltb (v .day) 65536 && ltb (v .s) 256 && ltb (v .e) 256) (ltb (v .n) 256) (k .0) in
-    let e = both (ltb (v .day) 65536 && ltb (v .s) 256) (ltb (v .e) 256) (n .0) in
-    let s = both (ltb (v .day) 65536) (ltb (v .s) 256) (e .0) in
-    let own : Below 256 (v .s ∷ v .e ∷ v .n ∷ 0 ∷ []) =
-    marked (v .s) (v .e) (v .n ∷ 0 ∷ []) (ltb-true (v .s) 256 (s .1)) (ltb-true (v .e) 256 (e .1))
-    (marked (v .n) 0 [] (ltb-true (v .n) 256 (n .1)) (omega arith) (below-none (omega arith))) in
-    marked 69 86 (bytes 2 (v .day) ++ (v .s ∷ v .e ∷ v .n ∷ 0 ∷ []) ++ evRecords es) (omega arith) (omega arith)
-    (below-append (bytes 2 (v .day) ++ (v .s ∷ v .e ∷ v .n ∷ 0 ∷ [])) (evRecords es)
-    (below-append (bytes 2 (v .day)) (v .s ∷ v .e ∷ v .n ∷ 0 ∷ []) (bytes-below 2 (v .day)) own) (events-bytes es (k .1)))
+    let q = event-fields v (k .0) in
+    let last = v .s ∷ v .e ∷ v .n ∷ v .method ∷ [] in
+    let own : Below 256 last = marked (v .s) (v .e) (v .n ∷ v .method ∷ []) (q .s) (q .e) (marked (v .n) (v .method) [] (q .n) (q .method) (below-none (omega arith))) in
+    marked 69 86 (bytes 2 (v .day) ++ last ++ evRecords es) (omega arith) (omega arith)
+    (below-append (bytes 2 (v .day) ++ last) (evRecords es) (below-append (bytes 2 (v .day)) last (bytes-below 2 (v .day)) own) (events-bytes es (k .1)))
 
 pub writes-bytes : (c : Contents) → Fits c → Below 256 (fileOf c)
 unfolding fileOf pfRecord

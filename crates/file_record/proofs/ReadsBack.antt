@@ -10,7 +10,7 @@ use lib.Seq.{drop-at, drop-drop}
 use Rattle.method.specs.Table.{heldDays, size, offset}
 use Rattle.file_record.specs.Layout.{pfRecord, dyRecord, Event, mvRecords, dyRecords, evRecords, Contents, fileOf, Fits}
 use Rattle.file_record.specs.declared.Read.the-variants.{File}
-use Rattle.file_record.specs.Reader.{numberAt, opensWith, isPF, pfLength, isDY, dyDay, movesFrom, movesIn, daysFrom, eventsFrom, fileBase, firstIn, daysIn}
+use Rattle.file_record.specs.Reader.{numberAt, opensWith, isRecord, isPF, pfLength, isDY, dyDay, movesFrom, movesIn, daysFrom, eventsFrom, fileBase, firstIn, daysIn}
 use Rattle.file_record.specs.Reader.{dayStart, eventStart, eventsIn, goodEnd, shapeIn, readFile, listIn, tableIn, contentsIn, shapeOf}
 use Rattle.file_record.proofs.Numbers.{number-drop}
 use Rattle.file_record.proofs.Bytes.{number-bytes}
@@ -45,7 +45,7 @@ module _ (c : Contents) (q : Fits c) where
   ev = evRecords (c .events)
 
   opens-back : isPF (fileOf c) ≡ true
-  unfolding isPF opensWith fileOf pfRecord bytes
+  unfolding isPF isRecord opensWith fileOf pfRecord bytes
   opens-back = let o : pfLength ≤ length (fileOf c) = omega arith in rw (le-leb pfLength (length (fileOf c)) o)
 
   participation-back : numberAt 2 2 (fileOf c) ≡ c .participation

@@ -54,7 +54,7 @@ module _ (w : Lent) (file : List ℕ) where
     it-is : file ≡ fileOf (said w)
     it-is = sym (q .first) ∙ file-is w (q .out) (length file) (q .out′) (q .writes)
 
-    long-is : length file ≡ 8 + 6 * (length (w .moves) / 2) + 390 * heldDays (w .table) + 8 * (length (w .numbers) / 4)
+    long-is : length file ≡ 8 + 6 * (length (w .moves) / 2) + 390 * heldDays (w .table) + 8 * (length (w .numbers) / 5)
     long-is =
         omega (
           arith,
@@ -67,7 +67,7 @@ module _ (w : Lent) (file : List ℕ) where
   back : Wide w → Wrote w file → (readFile file ≡ File (shapeOf (said w))) × (toSay (contentsIn file) ≡ w)
   back wide q =
       let b = file-reads-back (said w) (fits-file w wide (accepted q)) in
-      (rw (it-is q) (b .0), rw (it-is q) (ap toSay (b .1) ∙ rw (numbers-again (w .numbers) (accepted q .say .four)) refl))
+      (rw (it-is q) (b .0), rw (it-is q) (ap toSay (b .1) ∙ rw (numbers-again (w .numbers) (accepted q .say .five)) refl))
 
 -- refused, the buffer is kept
 refused-kept : (w : Lent) (out : List ℕ) (why : Refusal) (out′ : List ℕ) → Writes w out (Refused why) out′ → out′ ≡ out

@@ -27,15 +27,16 @@ use Rattle.file_record.proofs.Starts.{day-start-from}
 use Rattle.file_record.proofs.Back.{moves-length, days-length, events-length}
 
 -- ---- events as numbers
-pub events-count : (numbers : List ℕ) → length (eventsOf numbers) ≡ length numbers / 4
+pub events-count : (numbers : List ℕ) → length (eventsOf numbers) ≡ length numbers / 5
 unfolding eventsOf
 events-count [] = refl
 events-count (d ∷ []) = refl
 events-count (d ∷ s ∷ []) = refl
 events-count (d ∷ s ∷ e ∷ []) = refl
-events-count (d ∷ s ∷ e ∷ n ∷ more) = omega (arith, events-count more)
+events-count (d ∷ s ∷ e ∷ n ∷ []) = refl
+events-count (d ∷ s ∷ e ∷ n ∷ m ∷ more) = omega (arith, events-count more)
 
-pub numbers-count : (events : List Event) → length (numbersOf events) ≡ 4 * length events
+pub numbers-count : (events : List Event) → length (numbersOf events) ≡ 5 * length events
 unfolding numbersOf
 numbers-count [] = refl
 numbers-count (v ∷ events) = omega (arith, numbers-count events)
@@ -45,42 +46,46 @@ unfolding eventsOf numbersOf
 events-again [] = refl
 events-again (v ∷ events) = ap (λ (l : List Event). v ∷ l) (events-again events)
 
-pub numbers-again : (numbers : List ℕ) → length numbers % 4 ≡ 0 → numbersOf (eventsOf numbers) ≡ numbers
+pub numbers-again : (numbers : List ℕ) → length numbers % 5 ≡ 0 → numbersOf (eventsOf numbers) ≡ numbers
 unfolding eventsOf numbersOf
 numbers-again [] e = refl
 numbers-again (d ∷ []) e = absurd (omega arith)
 numbers-again (d ∷ s ∷ []) e = absurd (omega arith)
 numbers-again (d ∷ s ∷ f ∷ []) e = absurd (omega arith)
-numbers-again (d ∷ s ∷ f ∷ n ∷ more) e = ap (λ (l : List ℕ). d ∷ s ∷ f ∷ n ∷ l) (numbers-again more (omega arith))
+numbers-again (d ∷ s ∷ f ∷ n ∷ []) e = absurd (omega arith)
+numbers-again (d ∷ s ∷ f ∷ n ∷ m ∷ more) e = ap (λ (l : List ℕ). d ∷ s ∷ f ∷ n ∷ m ∷ l) (numbers-again more (omega arith))
 
 -- one event after the other: `i` are passed
 module _ (numbers : List ℕ) (i : ℕ) where
   abbrev number : ℕ → ℕ
-  number k = getD numbers (4 * i + k) 0
+  number k = getD numbers (5 * i + k) 0
 
   abbrev pub event-at : Event
-  event-at = record { day = getD numbers (4 * i) 0; s = number 1; e = number 2; n = number 3 }
+  event-at = record { day = getD numbers (5 * i) 0; s = number 1; e = number 2; n = number 3; method = number 4 }
 
-  pub events-more : 4 * i + 4 ≤ length numbers → eventsOf (drop (4 * i) numbers) ≡ event-at ∷ eventsOf (drop (4 * (i + 1)) numbers)
+  pub events-more : 5 * i + 5 ≤ length numbers → eventsOf (drop (5 * i) numbers) ≡ event-at ∷ eventsOf (drop (5 * (i + 1)) numbers)
   unfolding eventsOf
   events-more h =
-      let next : 4 * (i + 1) ≡ suc (suc (suc (suc (4 * i)))) = omega arith in
-      let two : 4 * i + 2 ≡ suc (suc (4 * i)) = omega arith in
-      let three : 4 * i + 3 ≡ suc (suc (suc (4 * i))) = omega arith in
+      let next : 5 * (i + 1) ≡ suc (suc (suc (suc (suc (5 * i))))) = omega arith in
+      let two : 5 * i + 2 ≡ suc (suc (5 * i)) = omega arith in
+      let three : 5 * i + 3 ≡ suc (suc (suc (5 * i))) = omega arith in
+      let four : 5 * i + 4 ≡ suc (suc (suc (suc (5 * i)))) = omega arith in
       rw (
-        drop-cons numbers (4 * i) 0 (omega arith),
-        drop-cons numbers (suc (4 * i)) 0 (omega arith),
-        drop-cons numbers (suc (suc (4 * i))) 0 (omega arith),
-        drop-cons numbers (suc (suc (suc (4 * i)))) 0 (omega arith),
+        drop-cons numbers (5 * i) 0 (omega arith),
+        drop-cons numbers (suc (5 * i)) 0 (omega arith),
+        drop-cons numbers (suc (suc (5 * i))) 0 (omega arith),
+        drop-cons numbers (suc (suc (suc (5 * i)))) 0 (omega arith),
+        drop-cons numbers (suc (suc (suc (suc (5 * i))))) 0 (omega arith),
         next,
-        add-one (4 * i),
+        add-one (5 * i),
         two,
         three,
+        four,
       )
       refl
 
-  pub events-none : length numbers / 4 ≤ i → eventsOf (drop (4 * i) numbers) ≡ []
-  events-none h = go (eventsOf (drop (4 * i) numbers)) (omega (arith, events-count (drop (4 * i) numbers), length-drop (4 * i) numbers))
+  pub events-none : length numbers / 5 ≤ i → eventsOf (drop (5 * i) numbers) ≡ []
+  events-none h = go (eventsOf (drop (5 * i) numbers)) (omega (arith, events-count (drop (5 * i) numbers), length-drop (5 * i) numbers))
     where
       go : (l : List Event) → length l ≡ 0 → l ≡ []
       go [] e = refl
@@ -121,8 +126,8 @@ module _ (participation first days : ℕ) (moves numbers : List ℕ) where
     pub pairs : length moves % 2 ≡ 0
     pub few-moves : length moves / 2 ≤ 16
     pub moved : all fitsDay moves ≡ true
-    pub four : length numbers % 4 ≡ 0
-    pub few : length numbers / 4 ≤ 64
+    pub five : length numbers % 5 ≡ 0
+    pub few : length numbers / 5 ≤ 64
     pub fields : all fitsEvent (eventsOf numbers) ≡ true
 
   abbrev p : Bool
@@ -138,7 +143,7 @@ module _ (participation first days : ℕ) (moves numbers : List ℕ) where
   m = fewOf 2 16 (length moves)
 
   abbrev e : Bool
-  e = fewOf 4 64 (length numbers)
+  e = fewOf 5 64 (length numbers)
 
   some-or-first : z ≡ true → days ≡ 0 → first ≡ 0
   some-or-first t d =
@@ -163,8 +168,8 @@ module _ (participation first days : ℕ) (moves numbers : List ℕ) where
         pairs = few-of 2 16 (length moves) (pairs .1) .0;
         few-moves = few-of 2 16 (length moves) (pairs .1) .1;
         moved = moved .1;
-        four = few-of 4 64 (length numbers) (events .1) .0;
-        few = few-of 4 64 (length numbers) (events .1) .1;
+        five = few-of 5 64 (length numbers) (events .1) .0;
+        few = few-of 5 64 (length numbers) (events .1) .1;
         fields = fields .1;
       }
 
@@ -177,7 +182,7 @@ module _ (participation first days : ℕ) (moves numbers : List ℕ) where
         first-or-some (q .none),
         of-few 2 16 (length moves) (q .pairs) (q .few-moves),
         q .moved,
-        of-few 4 64 (length numbers) (q .four) (q .few),
+        of-few 5 64 (length numbers) (q .five) (q .few),
         q .fields,
       )
 
@@ -190,7 +195,7 @@ module _ (w : Lent) where
   saysIt = sayable (w .participation) (w .table .first) (heldDays (w .table)) (w .moves) (w .numbers)
 
   pub its-length : length (w .table .readings) ≡ offset (w .table .first) (heldDays (w .table))
-      → length (fileOf (said w)) ≡ dayStart (moveStart (length (w .moves) / 2)) (w .table .first) (heldDays (w .table)) + evLength * (length (w .numbers) / 4)
+      → length (fileOf (said w)) ≡ dayStart (moveStart (length (w .moves) / 2)) (w .table .first) (heldDays (w .table)) + evLength * (length (w .numbers) / 5)
   unfolding fileOf pfRecord bytes
   its-length e =
       let moves = mvRecords (w .moves) in
@@ -298,7 +303,7 @@ module _ (c : Contents) (q : Fits c) where
         pairs = q .pairs;
         few-moves = q .moves;
         moved = all-of fitsDay 0 (c .moves) (λ i. lt-ltb (getD (c .moves) i 0) (256 ^ 2) (q .moved i));
-        four = omega arith;
+        five = omega arith;
         few = omega (arith, q .events);
         fields = rw (events-again (c .events)) (q .fields);
       })

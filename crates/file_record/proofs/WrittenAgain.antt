@@ -4,7 +4,7 @@ use mathlib.Core.Path.{_≡_, refl, sym, _∙_, ap}
 use mathlib.Core.Bool.{Bool, true, false, _&&_}
 use mathlib.Core.List.{List, [], _∷_, _++_, append-assoc, append-nil}
 use native.Mathlib.Omega.{arith}
-use borrow.Author.Tests.{eqb-true, leb-true}
+use borrow.Author.Tests.{eqb-true}
 use lib.ListN.{length, drop, getD, length-drop, drop-of-length-le}
 use lib.Seq.{drop-cons, drop-drop, take-at, drop-at}
 use lib.Dec.{eqb, leb}
@@ -21,7 +21,7 @@ use Rattle.file_record.specs.Laws.{Accepted}
 use Rattle.file_record.proofs.Numbers.{number-drop}
 use Rattle.file_record.proofs.Bytes.{below-drop, bytes-number, bytes-numbers}
 use Rattle.file_record.proofs.Starts.{day-start-none, day-start-from, day-start-cons}
-use Rattle.file_record.proofs.Records.{move-whole, day-record, event-record, day-whole, event-whole}
+use Rattle.file_record.proofs.Records.{whole-record, move-record, move-whole, day-record, event-record, day-whole, event-whole}
 use Rattle.file_record.proofs.Runs.{run-more, run-stops, run-full}
 use Rattle.file_record.proofs.Files.{shape-fits, event-start-first, event-start-more, end-is-length}
 use Rattle.file_record.proofs.Lengths.{numbers-length}
@@ -45,34 +45,27 @@ two-low : (at : ℕ) (left : List ℕ) → Below 256 left → (d : ℕ) → numb
 unfolding numberAt
 two-low at left b d e = let x : getD left at 0 < 256 = b at in let y : getD left (suc at) 0 < 256 = b (suc at) in (omega arith, omega arith)
 
--- what the tests of a record say
-record Tested (mark : List ℕ) (blank : ℕ) (left : List ℕ) : Type 0 where
+-- what the test of a record's mark says
+record Marked (mark left : List ℕ) : Type 0 where
   one : getD left 0 0 ≡ getD mark 0 0
   two : getD left 1 0 ≡ getD mark 1 0
-  none : getD left blank 0 ≡ 0
 
-tested : (size : ℕ) (mark : List ℕ) (blank : ℕ) (left : List ℕ) → isRecord size mark blank left ≡ true → Tested mark blank left
+marked : (size : ℕ) (mark left : List ℕ) → isRecord size mark left ≡ true → Marked mark left
 unfolding isRecord opensWith
-tested size mark blank left t =
-    let last = both (leb size (length left) && opensWith mark left) (eqb (getD left blank 0) 0) t in
-    let marks = both (leb size (length left)) (opensWith mark left) (last .0) in
-    let m = both (eqb (getD left 0 0) (getD mark 0 0)) (eqb (getD left 1 0) (getD mark 1 0)) (marks .1) in
-    record {
-      one = eqb-true (getD left 0 0) (getD mark 0 0) (m .0);
-      two = eqb-true (getD left 1 0) (getD mark 1 0) (m .1);
-      none = eqb-true (getD left blank 0) 0 (last .1);
-    }
+marked size mark left t =
+    let k = both (leb size (length left)) (opensWith mark left) t in
+    let m = both (eqb (getD left 0 0) (getD mark 0 0)) (eqb (getD left 1 0) (getD mark 1 0)) (k .1) in
+    record { one = eqb-true (getD left 0 0) (getD mark 0 0) (m .0); two = eqb-true (getD left 1 0) (getD mark 1 0) (m .1) }
 
 move-again : (left : List ℕ) → Below 256 left → isMV left ≡ true → mvRecord (numberAt 2 2 left) (numberAt 2 4 left) ++ drop mvLength left ≡ left
-unfolding mvRecord isMV opensWith bytes
+unfolding mvRecord bytes
 move-again left b t =
-    let k = both (leb mvLength (length left)) (opensWith (ascii "MV") left) t in
-    let m = both (eqb (getD left 0 0) 77) (eqb (getD left 1 0) 86) (k .1) in
+    let q : Marked (ascii "MV") left = marked mvLength (ascii "MV") left (rw move-record at t) in
     let six : firsts 6 0 left ++ drop mvLength left ≡ left = firsts-are 6 0 left (move-whole left t) in
     let old = two-low 2 left b (numberAt 2 2 left) refl in
     let new = two-low 4 left b (numberAt 2 4 left) refl in
-    let one : getD left 0 0 ≡ 77 = eqb-true (getD left 0 0) 77 (m .0) in
-    let two : getD left 1 0 ≡ 86 = eqb-true (getD left 1 0) 86 (m .1) in
+    let one : getD left 0 0 ≡ 77 = q .one in
+    let two : getD left 1 0 ≡ 86 = q .two in
     let old-low = old .0 in
     let old-high = old .1 in
     let new-low = new .0 in
@@ -83,11 +76,12 @@ day-again : (d : ℕ) (left : List ℕ) → Below 256 left → isDYof d left ≡
     → dyRecord d (getD left 4 0) (numbers (size d) (drop 6 left)) ++ drop (dyLength d) left ≡ left
 unfolding dyRecord bytes
 day-again d left b t =
-    let k = both (isRecord (dyLength d) (ascii "DY") 5 left) (eqb (dyDay left) d) (sym (day-record d left) ∙ t) in
-    let q : Tested (ascii "DY") 5 left = tested (dyLength d) (ascii "DY") 5 left (k .0) in
+    let k = both (isRecord (dyLength d) (ascii "DY") left) (eqb (getD left 5 0) 0 && eqb (dyDay left) d) (sym (day-record d left) ∙ t) in
+    let m = both (eqb (getD left 5 0) 0) (eqb (dyDay left) d) (k .1) in
+    let q : Marked (ascii "DY") left = marked (dyLength d) (ascii "DY") left (k .0) in
     let long : dyLength d ≤ length left = day-whole d left t in
     let o : 6 ≤ length left = omega arith in
-    let day = two-low 2 left b d (eqb-true (dyDay left) d (k .1)) in
+    let day = two-low 2 left b d (eqb-true (dyDay left) d (m .1)) in
     let six : firsts 6 0 left ++ drop 6 left ≡ left = firsts-are 6 0 left o in
     let room : 4 * size d ≤ length (drop 6 left) = omega (arith, length-drop 6 left) in
     let rest : readingBytes (numbers (size d) (drop 6 left)) ++ drop (4 * size d) (drop 6 left) ≡ drop 6 left =
@@ -95,7 +89,7 @@ day-again d left b t =
     let far : drop (4 * size d) (drop 6 left) ≡ drop (dyLength d) left = drop-drop (4 * size d) 6 left in
     let one : getD left 0 0 ≡ 68 = q .one in
     let two : getD left 1 0 ≡ 89 = q .two in
-    let none : getD left 5 0 ≡ 0 = q .none in
+    let none : getD left 5 0 ≡ 0 = eqb-true (getD left 5 0) 0 (m .0) in
     let low = day .0 in
     let high = day .1 in
     cc
@@ -103,13 +97,12 @@ day-again d left b t =
 event-again : (left : List ℕ) → Below 256 left → isEV left ≡ true → evRecord (eventOf left) ++ drop evLength left ≡ left
 unfolding evRecord eventOf bytes
 event-again left b t =
-    let q : Tested (ascii "EV") 7 left = tested evLength (ascii "EV") 7 left (rw event-record at t) in
+    let q : Marked (ascii "EV") left = marked evLength (ascii "EV") left (rw event-record at t) in
     let long : evLength ≤ length left = event-whole left t in
     let day = two-low 2 left b (numberAt 2 2 left) refl in
     let eight : firsts 8 0 left ++ drop evLength left ≡ left = firsts-are 8 0 left long in
     let one : getD left 0 0 ≡ 69 = q .one in
     let two : getD left 1 0 ≡ 86 = q .two in
-    let none : getD left 7 0 ≡ 0 = q .none in
     let low = day .0 in
     let high = day .1 in
     cc
@@ -198,11 +191,10 @@ events-again (suc most) i left b = go (isEV left) refl (events-again most (suc i
         (event-again left b e)
 
 file-again : (file : List ℕ) → Below 256 file → isPF file ≡ true → pfRecord (numberAt 2 2 file) (numberAt 4 4 file) ++ drop pfLength file ≡ file
-unfolding pfRecord isPF opensWith bytes
+unfolding pfRecord isPF bytes
 file-again file b t =
-    let k = both (leb pfLength (length file)) (opensWith (ascii "PF") file) t in
-    let m = both (eqb (getD file 0 0) 80) (eqb (getD file 1 0) 70) (k .1) in
-    let long : pfLength ≤ length file = leb-true pfLength (length file) (k .0) in
+    let q : Marked (ascii "PF") file = marked pfLength (ascii "PF") file t in
+    let long : pfLength ≤ length file = whole-record pfLength (ascii "PF") file t in
     let o : 4 ≤ length file = omega arith in
     let four : firsts 4 0 file ++ drop 4 file ≡ file = firsts-are 4 0 file o in
     let room : 4 ≤ length (drop 4 file) = omega (arith, length-drop 4 file) in
@@ -212,8 +204,8 @@ file-again file b t =
     let day = two-low 2 file b (numberAt 2 2 file) refl in
     let low = day .0 in
     let high = day .1 in
-    let one : getD file 0 0 ≡ 80 = eqb-true (getD file 0 0) 80 (m .0) in
-    let two : getD file 1 0 ≡ 70 = eqb-true (getD file 1 0) 70 (m .1) in
+    let one : getD file 0 0 ≡ 80 = q .one in
+    let two : getD file 1 0 ≡ 70 = q .two in
     cc
 
 opening-again : (file : List ℕ) → Below 256 file → isPF file ≡ true

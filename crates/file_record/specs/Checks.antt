@@ -1,12 +1,14 @@
--- The record file on bytes: the records as 01 and order 2 of 02 lay them down, and files on both sides of each line.
+-- The record file on bytes: the records as 01 and orders 2 and 3 of 02 lay them down, and files on both sides of each line.
 use Prim.Native.Nat.{ℕ}
 use mathlib.Core.Path.{_≡_}
 use mathlib.Core.List.{List, [], _∷_, _++_}
 use lib.ListN.{take, replicate}
 use Rattle.file_record.specs.Layout.{pfRecord, mvRecord, dyRecord, evRecord, mvRecords, evRecords, Event}
-use Rattle.file_record.specs.Reader.{readFile, listIn}
+use Rattle.file_record.specs.Reader.{readFile, listIn, eventAtPlace}
 use Rattle.file_record.specs.declared.Read.{Read}
 use Rattle.file_record.specs.declared.Read.the-variants.{File, Refused}
+use Rattle.file_record.specs.declared.EventAt.{EventAt}
+use Rattle.file_record.specs.declared.EventAt.the-variants.{Event as AnEvent}
 
 -- P 6900, portfolio 77
 unfoldable pub pf : List ℕ
@@ -18,7 +20,7 @@ mv = mvRecord 8887 8893
 
 -- 01's first event
 abbrev pub event : Event
-event = record { day = 6972; s = 152; e = 156; n = 148 }
+event = record { day = 6972; s = 152; e = 156; n = 148; method = 0 }
 
 unfoldable pub ev : List ℕ
 ev = evRecord event
@@ -34,6 +36,14 @@ holding moves first days events =
 abbrev pub holds : ℕ → ℕ → ℕ → Read
 holds first days events = holding 0 first days events
 
+-- the first event of a file, as a request
+abbrev pub eventIn : List ℕ → EventAt
+eventIn file = eventAtPlace (readFile file) file 0
+
+-- the one above, by this method
+abbrev pub asks : ℕ → EventAt
+asks method = AnEvent (record { participation = 6900; event = 6972; s = 152; e = 156; n = 148; method = method })
+
 pub record Checks : Type 0 where
   pub pf-bytes : pf ≡ 80 ∷ 70 ∷ 244 ∷ 26 ∷ 77 ∷ 0 ∷ 0 ∷ 0 ∷ []
   pub ev-bytes : ev ≡ 69 ∷ 86 ∷ 60 ∷ 27 ∷ 152 ∷ 156 ∷ 148 ∷ 0 ∷ []
@@ -44,11 +54,14 @@ pub record Checks : Type 0 where
   pub cut : readFile (take 7 pf) ≡ Refused 0
   pub foreign : readFile (ev ++ pf) ≡ Refused 0
   pub alone : readFile pf ≡ holds 0 0 0
-  -- one EV, a cut one, one with another last byte, a second PF after it
+  -- one EV, a cut one, a second PF after it
   pub one-event : readFile (pf ++ ev) ≡ holds 0 0 1
   pub cut-event : readFile (pf ++ take 7 ev) ≡ Refused 8
-  pub not-zero : readFile (pf ++ take 7 ev ++ (1 ∷ [])) ≡ Refused 8
   pub second-pf : readFile (pf ++ ev ++ pf) ≡ Refused 16
+  -- its last byte is the method, whatever it is
+  pub by-high : eventIn (pf ++ ev) ≡ asks 0
+  pub by-average : eventIn (pf ++ take 7 ev ++ (1 ∷ [])) ≡ asks 1
+  pub by-255 : eventIn (pf ++ take 7 ev ++ (255 ∷ [])) ≡ asks 255
   -- 64 EV, and one too many
   pub all-events : readFile (pf ++ evRecords (replicate 64 event)) ≡ holds 0 0 64
   pub event-65 : readFile (pf ++ evRecords (replicate 65 event)) ≡ Refused 520

@@ -1,4 +1,4 @@
--- 01, "Record file, listing, host entry": the record file by what writing it yields. MV is of document 02, order 2.
+-- 01, "Record file, listing, host entry": the record file by what writing it yields. MV is of document 02, order 2, and the method of its order 3.
 use Prim.Native.Nat.{ℕ, suc, _+_, _/_, _%_, _≤_, _<_, _^_}
 use mathlib.Core.Path.{_≡_}
 use mathlib.Core.List.{List, [], _∷_, _++_}
@@ -22,15 +22,16 @@ mvRecord old new = ascii "MV" ++ bytes 2 old ++ bytes 2 new
 unfoldable pub dyRecord : ℕ → ℕ → List ℕ → List ℕ
 dyRecord day mark readings = ascii "DY" ++ bytes 2 day ++ (mark ∷ 0 ∷ []) ++ readingBytes readings
 
--- "EV (8 bytes: mark, D 2, s, e, n one each, zero 1)"
+-- "EV (8 bytes: mark, D 2, s, e, n one each, zero 1)"; 02, order 3: "`EV`'s zero byte becomes the request's method: 0 High X of Y, 1 this one."
 pub record Event : Type 0 where
   pub day : ℕ
   pub s : ℕ
   pub e : ℕ
   pub n : ℕ
+  pub method : ℕ
 
 unfoldable pub evRecord : Event → List ℕ
-evRecord v = ascii "EV" ++ bytes 2 (v .day) ++ (v .s ∷ v .e ∷ v .n ∷ 0 ∷ [])
+evRecord v = ascii "EV" ++ bytes 2 (v .day) ++ (v .s ∷ v .e ∷ v .n ∷ v .method ∷ [])
 
 -- an MV for each pair of a list of moves
 unfoldable pub mvRecords : List ℕ → List ℕ
@@ -71,7 +72,7 @@ abbrev pub fitsDay : ℕ → Bool
 fitsDay d = ltb d (256 ^ 2)
 
 unfoldable pub fitsEvent : Event → Bool
-fitsEvent v = fitsDay (v .day) && ltb (v .s) 256 && ltb (v .e) 256 && ltb (v .n) 256
+fitsEvent v = fitsDay (v .day) && ltb (v .s) 256 && ltb (v .e) 256 && ltb (v .n) 256 && ltb (v .method) 256
 
 -- what the bytes of a file can hold: at most 16 moves, 128 days and 64 events, each day's readings; no days with F other than 0 has no file
 pub record Fits (c : Contents) : Type 0 where

@@ -1,5 +1,5 @@
--- 01, "Record file, listing, host entry": which files are as laid down, and what they say. MV is of document 02, order 2. A test or a number of a
--- record looks at the bytes that are left from the record's start on; a byte past the end counts as 0.
+-- 01, "Record file, listing, host entry": which files are as laid down, and what they say. MV is of document 02, order 2, and the method of its
+-- order 3. A test or a number of a record looks at the bytes that are left from the record's start on; a byte past the end counts as 0.
 use Prim.Native.Nat.{ℕ, zero, suc, _+_, _*_, _/_}
 use mathlib.Core.Bool.{Bool, cond, _&&_}
 use mathlib.Core.List.{List, [], _∷_, _++_}
@@ -26,23 +26,23 @@ numberAt (suc width) at left = getD left at 0 + 256 * numberAt width (suc at) le
 unfoldable pub opensWith : List ℕ → List ℕ → Bool
 opensWith mark left = eqb (getD left 0 0) (getD mark 0 0) && eqb (getD left 1 0) (getD mark 1 0)
 
--- a record of `size` bytes, whole, with its mark, and with its zero byte zero
-unfoldable pub isRecord : ℕ → List ℕ → ℕ → List ℕ → Bool
-isRecord size mark zeroByte left = leb size (length left) && opensWith mark left && eqb (getD left zeroByte 0) 0
+-- a record of `size` bytes, whole and with its mark
+unfoldable pub isRecord : ℕ → List ℕ → List ℕ → Bool
+isRecord size mark left = leb size (length left) && opensWith mark left
 
 -- "One PF (8 bytes: mark, P as 2 bytes, portfolio number as 4)"
 abbrev pub pfLength : ℕ
 pfLength = 8
 
 unfoldable pub isPF : List ℕ → Bool
-isPF left = leb pfLength (length left) && opensWith (ascii "PF") left
+isPF left = isRecord pfLength (ascii "PF") left
 
 -- "MV records (6 bytes: mark, two days)"
 abbrev pub mvLength : ℕ
 mvLength = 6
 
 unfoldable pub isMV : List ℕ → Bool
-isMV left = leb mvLength (length left) && opensWith (ascii "MV") left
+isMV left = isRecord mvLength (ascii "MV") left
 
 -- "DY (390 bytes: mark, day 2, mark byte 1, zero 1, 96 readings of 4)", with so many readings
 abbrev pub dyBytes : ℕ → ℕ
@@ -55,14 +55,14 @@ abbrev pub dyDay : List ℕ → ℕ
 dyDay left = numberAt 2 2 left
 
 unfoldable pub isDY : List ℕ → Bool
-isDY left = isRecord (dyLength (dyDay left)) (ascii "DY") 5 left
+isDY left = isRecord (dyLength (dyDay left)) (ascii "DY") left && eqb (getD left 5 0) 0
 
--- "EV (8 bytes: mark, D 2, s, e, n one each, zero 1)"
+-- "EV (8 bytes: mark, D 2, s, e, n one each, zero 1)"; order 3: "`EV`'s zero byte becomes the request's method", and any byte is read there
 abbrev pub evLength : ℕ
 evLength = 8
 
 unfoldable pub isEV : List ℕ → Bool
-isEV left = isRecord evLength (ascii "EV") 7 left
+isEV left = isRecord evLength (ascii "EV") left
 
 -- how many records stand one after the other, at most so many: `good i` tests the one numbered `i`, of `recordLength i` bytes
 module _ (good : ℕ → List ℕ → Bool) (recordLength : ℕ → ℕ) where
@@ -176,9 +176,9 @@ tableIn file =
       readings = readingsFrom (daysIn file) (firstIn file) (drop (fileBase file) file);
     }
 
--- "mark, D 2, s, e, n one each"
+-- "mark, D 2, s, e, n one each", and the method
 unfoldable pub eventOf : List ℕ → Event
-eventOf left = record { day = numberAt 2 2 left; s = getD left 4 0; e = getD left 5 0; n = getD left 6 0 }
+eventOf left = record { day = numberAt 2 2 left; s = getD left 4 0; e = getD left 5 0; n = getD left 6 0; method = getD left 7 0 }
 
 unfoldable pub eventList : ℕ → List ℕ → List Event
 eventList zero left = []
@@ -206,9 +206,9 @@ shapeOf c =
       events = length (c .events);
     }
 
--- "A request: participation start P; event day D; and three places s, e, n": the file's P, and an EV
+-- "A request: participation start P; event day D; and three places s, e, n", and the method: the file's P, and an EV
 abbrev pub requestOf : ℕ → Event → Request
-requestOf participation v = record { participation = participation; event = v .day; s = v .s; e = v .e; n = v .n }
+requestOf participation v = record { participation = participation; event = v .day; s = v .s; e = v .e; n = v .n; method = v .method }
 
 -- the request at a place, counted from 0
 unfoldable pub requestAt : List ℕ → ℕ → Request

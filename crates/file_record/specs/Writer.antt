@@ -1,5 +1,5 @@
 -- Document 02, order 1: "From P, a portfolio number, an extract and up to 64 events, write the file into a lent buffer and report its length."; and,
--- by order 2, from a list of moves.
+-- by order 2, from a list of moves. Order 3 gives each event its method.
 use Prim.Native.Nat.{ℕ, _+_, _/_, _%_, _^_}
 use mathlib.Core.Path.{_≡_}
 use mathlib.Core.Bool.{Bool, cond, _&&_, _||_}
@@ -13,7 +13,7 @@ use Rattle.file_record.specs.Layout.{Event, Contents, fileOf, fitsDay, f
 use Rattle.file_record.specs.declared.Written.{Written}
 use Rattle.file_record.specs.declared.Written.the-variants.{Length, Refused}
 
--- what is lent: P, a portfolio number, an extract, a list of moves, and events as numbers, four for each: D, s, e and n
+-- what is lent: P, a portfolio number, an extract, a list of moves, and events as numbers, five for each: D, s, e, n and the method
 pub record Lent : Type 0 where
   pub participation : ℕ
   pub portfolio : ℕ
@@ -31,9 +31,10 @@ lent participation portfolio first marks readings moves numbers =
       numbers = numbers;
     }
 
--- the events of such numbers; fewer than four at the end are none
+-- the events of such numbers; fewer than five at the end are none
 unfoldable pub eventsOf : List ℕ → List Event
-eventsOf (d ∷ s ∷ e ∷ n ∷ more) = record { day = d; s = s; e = e; n = n } ∷ eventsOf more
+eventsOf (d ∷ s ∷ e ∷ n ∷ m ∷ more) = record { day = d; s = s; e = e; n = n; method = m } ∷ eventsOf more
+eventsOf (d ∷ s ∷ e ∷ n ∷ []) = []
 eventsOf (d ∷ s ∷ e ∷ []) = []
 eventsOf (d ∷ s ∷ []) = []
 eventsOf (d ∷ []) = []
@@ -62,11 +63,11 @@ daysInBounds participation first days = ltb participation (256 ^ 2) && leb (firs
 unfoldable pub fewOf : ℕ → ℕ → ℕ → Bool
 fewOf each most numbers = eqb (numbers % each) 0 && leb (numbers / each) most
 
--- "13 for more than 64 events, a field or day that its bytes can't hold, or no days with F other than 0": none of these; nor "a seventeenth MV"; and four
+-- "13 for more than 64 events, a field or day that its bytes can't hold, or no days with F other than 0": none of these; nor "a seventeenth MV"; and five
 -- numbers for each event, two for each move
 unfoldable pub sayable : ℕ → ℕ → ℕ → List ℕ → List ℕ → Bool
 sayable participation first days moves numbers =
-    daysInBounds participation first days && fewOf 2 16 (length moves) && all fitsDay moves && fewOf 4 64 (length numbers) && all fitsEvent (eventsOf numbers)
+    daysInBounds participation first days && fewOf 2 16 (length moves) && all fitsDay moves && fewOf 5 64 (length numbers) && all fitsEvent (eventsOf numbers)
 
 -- "Refusals: 1 .., then 13 .., then 7 for room", where `room` is the buffer's length; else the file's length
 unfoldable pub writing : Lent → ℕ → Written

@@ -1,8 +1,8 @@
--- The writer on both sides of each line of order 1, and of what order 2 adds.
+-- The writer on both sides of each line of order 1, and of what orders 2 and 3 add.
 use Prim.Native.Nat.{ℕ}
 use mathlib.Core.Path.{_≡_}
 use mathlib.Core.List.{List, [], _∷_, _++_}
-use lib.ListN.{replicate}
+use lib.ListN.{take, replicate}
 use Rattle.method.specs.declared.Refusal.the-variants.{BadTable, NoRoom, Unwritable}
 use Rattle.file_record.specs.Layout.{fileOf}
 use Rattle.file_record.specs.Writer.{Lent, lent, said, writing, leaving}
@@ -22,9 +22,9 @@ moves numbers = lent 6900 77 0 [] [] numbers []
 abbrev pub events : List ℕ → Lent
 events numbers = given 0 0 0 numbers
 
--- of an event whose four numbers are these, with room
-abbrev pub fields : ℕ → ℕ → ℕ → ℕ → Written
-fields day s e n = writing (events (day ∷ s ∷ e ∷ n ∷ [])) 16
+-- of an event whose five numbers are these, with room
+abbrev pub fields : ℕ → ℕ → ℕ → ℕ → ℕ → Written
+fields day s e n method = writing (events (day ∷ s ∷ e ∷ n ∷ method ∷ [])) 16
 
 -- a buffer of so many bytes after a call, each of which was 170
 abbrev pub left : Lent → ℕ → List ℕ
@@ -36,7 +36,7 @@ pub record WriterChecks : Type 0 where
   pub short : writing (events []) 7 ≡ Refused NoRoom
   pub first-alone : writing (given 1 0 0 []) 8 ≡ Refused Unwritable
   -- one day and an event; a reading too few or too many; no day with a reading; 129 days
-  pub day-and-event : writing (given 6951 1 96 (6972 ∷ 152 ∷ 156 ∷ 148 ∷ [])) 406 ≡ Length 406
+  pub day-and-event : writing (given 6951 1 96 (6972 ∷ 152 ∷ 156 ∷ 148 ∷ 0 ∷ [])) 406 ≡ Length 406
   pub reading-95 : writing (given 6951 1 95 []) 406 ≡ Refused BadTable
   pub reading-97 : writing (given 6951 1 97 []) 406 ≡ Refused BadTable
   pub reading-alone : writing (given 0 0 1 []) 406 ≡ Refused BadTable
@@ -44,20 +44,22 @@ pub record WriterChecks : Type 0 where
   -- 1 before 13, and 13 before 7
   pub one-first : writing (given 1 0 1 (0 ∷ [])) 0 ≡ Refused BadTable
   pub thirteen-first : writing (given 1 0 0 []) 0 ≡ Refused Unwritable
-  -- what two bytes hold: the days up to 65535, past the calendar too, P and D; what one holds: s, e and n
+  -- what two bytes hold: the days up to 65535, past the calendar too, P and D; what one holds: s, e, n and the method
   pub day-65535 : writing (given 65535 1 96 []) 398 ≡ Length 398
   pub day-65536 : writing (given 65535 2 192 []) 788 ≡ Refused Unwritable
   pub participation-65535 : writing (lent 65535 77 0 [] [] [] []) 8 ≡ Length 8
   pub participation-65536 : writing (lent 65536 77 0 [] [] [] []) 8 ≡ Refused Unwritable
-  pub all-fields : fields 65535 255 255 255 ≡ Length 16
-  pub event-65536 : fields 65536 255 255 255 ≡ Refused Unwritable
-  pub start-256 : fields 65535 256 255 255 ≡ Refused Unwritable
-  pub end-256 : fields 65535 255 256 255 ≡ Refused Unwritable
-  pub notice-256 : fields 65535 255 255 256 ≡ Refused Unwritable
-  -- 64 events and 65; numbers that are not four for each
-  pub events-64 : writing (events (replicate 256 0)) 520 ≡ Length 520
-  pub events-65 : writing (events (replicate 260 0)) 528 ≡ Refused Unwritable
-  pub five-numbers : writing (events (replicate 5 0)) 520 ≡ Refused Unwritable
+  pub all-fields : fields 65535 255 255 255 255 ≡ Length 16
+  pub event-65536 : fields 65536 255 255 255 255 ≡ Refused Unwritable
+  pub start-256 : fields 65535 256 255 255 255 ≡ Refused Unwritable
+  pub end-256 : fields 65535 255 256 255 255 ≡ Refused Unwritable
+  pub notice-256 : fields 65535 255 255 256 255 ≡ Refused Unwritable
+  pub method-256 : fields 65535 255 255 255 256 ≡ Refused Unwritable
+  -- 64 events and 65; numbers that are not five for each, of which four are an event without its method
+  pub events-64 : writing (events (replicate 320 0)) 520 ≡ Length 520
+  pub events-65 : writing (events (replicate 325 0)) 528 ≡ Refused Unwritable
+  pub four-numbers : writing (events (6972 ∷ 152 ∷ 156 ∷ 148 ∷ [])) 520 ≡ Refused Unwritable
+  pub six-numbers : writing (events (replicate 6 0)) 520 ≡ Refused Unwritable
   -- 16 moves and 17; half a move; what its two bytes hold
   pub moves-16 : writing (moves (replicate 32 0)) 104 ≡ Length 104
   pub moves-17 : writing (moves (replicate 34 0)) 110 ≡ Refused Unwritable
@@ -66,6 +68,7 @@ pub record WriterChecks : Type 0 where
   pub old-65536 : writing (moves (65536 ∷ 0 ∷ [])) 14 ≡ Refused Unwritable
   pub new-65536 : writing (moves (0 ∷ 65536 ∷ [])) 14 ≡ Refused Unwritable
   -- what stands in the buffer: the records in their order, and the rest kept; refused, all of it
-  pub stands : left (given 6951 1 96 (6972 ∷ 152 ∷ 156 ∷ 148 ∷ [])) 408 ≡ pf ++ flat 6951 ++ ev ++ (170 ∷ 170 ∷ [])
-  pub moves-stand : left (lent 6900 77 0 [] [] (8887 ∷ 8893 ∷ []) (6972 ∷ 152 ∷ 156 ∷ 148 ∷ [])) 23 ≡ pf ++ mv ++ ev ++ (170 ∷ [])
+  pub stands : left (given 6951 1 96 (6972 ∷ 152 ∷ 156 ∷ 148 ∷ 0 ∷ [])) 408 ≡ pf ++ flat 6951 ++ ev ++ (170 ∷ 170 ∷ [])
+  pub moves-stand : left (lent 6900 77 0 [] [] (8887 ∷ 8893 ∷ []) (6972 ∷ 152 ∷ 156 ∷ 148 ∷ 0 ∷ [])) 23 ≡ pf ++ mv ++ ev ++ (170 ∷ [])
+  pub method-stands : left (events (6972 ∷ 152 ∷ 156 ∷ 148 ∷ 255 ∷ [])) 16 ≡ pf ++ take 7 ev ++ (255 ∷ [])
   pub keeps : left (events []) 7 ≡ replicate 7 170

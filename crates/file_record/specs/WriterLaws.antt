@@ -20,10 +20,10 @@ pub record Wide (w : Lent) : Type 0 where
   pub marks : Below 256 (w .table .marks)
   pub readings : Below (256 ^ 4) (w .table .readings)
 
--- the numbers of events, four for each, and so what to lend for a file to say this
+-- the numbers of events, five for each, and so what to lend for a file to say this
 unfoldable pub numbersOf : List Event → List ℕ
 numbersOf [] = []
-numbersOf (v ∷ events) = v .day ∷ v .s ∷ v .e ∷ v .n ∷ numbersOf events
+numbersOf (v ∷ events) = v .day ∷ v .s ∷ v .e ∷ v .n ∷ v .method ∷ numbersOf events
 
 abbrev pub toSay : Contents → Lent
 toSay c =
@@ -45,7 +45,7 @@ pub record Wrote (w : Lent) (file : List ℕ) : Type 0 where
 pub record WriterLaws : Type 0 where
   -- "report its length"
   pub long : (w : Lent) (file : List ℕ) → Wrote w file
-      → length file ≡ 8 + 6 * (length (w .moves) / 2) + 390 * heldDays (w .table) + 8 * (length (w .numbers) / 4)
+      → length file ≡ 8 + 6 * (length (w .moves) / 2) + 390 * heldDays (w .table) + 8 * (length (w .numbers) / 5)
   -- "What is written reads back as the same values"
   pub reads-back : (w : Lent) (file : List ℕ) → Wide w → Wrote w file → (readFile file ≡ File (shapeOf (said w))) × (toSay (contentsIn file) ≡ w)
   -- no two that are accepted give the same file

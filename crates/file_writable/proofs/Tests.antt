@@ -25,16 +25,16 @@ module _ (first days readings : ℕ) where
   few-enough h e = rw (le-leb days 128 h, e)
 
 -- the events of refusal 13, one after the other
-module _ (numbers : List ℕ) (i : ℕ) {whole : Bool} (left : all fitsEvent (eventsOf (drop (4 * i) numbers)) ≡ whole) where
-  pub one-fits : 4 * i + 4 ≤ length numbers → fitsEvent (event-at numbers i) ≡ true → all fitsEvent (eventsOf (drop (4 * (i + 1)) numbers)) ≡ whole
+module _ (numbers : List ℕ) (i : ℕ) {whole : Bool} (left : all fitsEvent (eventsOf (drop (5 * i) numbers)) ≡ whole) where
+  pub one-fits : 5 * i + 5 ≤ length numbers → fitsEvent (event-at numbers i) ≡ true → all fitsEvent (eventsOf (drop (5 * (i + 1)) numbers)) ≡ whole
   unfolding all
   one-fits h t = sym (rw (events-more numbers i h, t) refl) ∙ left
 
-  pub one-does-not : 4 * i + 4 ≤ length numbers → fitsEvent (event-at numbers i) ≡ false → false ≡ whole
+  pub one-does-not : 5 * i + 5 ≤ length numbers → fitsEvent (event-at numbers i) ≡ false → false ≡ whole
   unfolding all
   one-does-not h t = sym (rw (events-more numbers i h, t) refl) ∙ left
 
-  pub none-left : length numbers / 4 ≤ i → true ≡ whole
+  pub none-left : length numbers / 5 ≤ i → true ≡ whole
   unfolding all
   none-left h = sym (rw (events-none numbers i h) refl) ∙ left
 
@@ -45,7 +45,7 @@ module _ (participation first days : ℕ) where
   days-over h = let over : 256 ^ 2 < first + days = omega arith in rw (lt-leb (first + days) (256 ^ 2) over, and-false (ltb participation (256 ^ 2))) refl
 
   module _ (moves numbers : List ℕ) {b m e : Bool} (bounds : b ≡ daysInBounds participation first days) (few : m ≡ fewOf 2 16 (length moves))
-      (events : e ≡ fewOf 4 64 (length numbers)) where
+      (events : e ≡ fewOf 5 64 (length numbers)) where
     abbrev moved : Bool
     moved = all fitsDay moves
 

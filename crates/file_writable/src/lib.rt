@@ -1,4 +1,4 @@
-// What a record file can say (document 02, orders 1 and 2): the tests of refusals 1 and 13.
+// What a record file can say (document 02, orders 1 to 3): the tests of refusals 1 and 13.
 ghost use mathlib.Core.Path.{_≡_};
 ghost use Prim.Native.Nat.{_<_};
 ghost use Rattle.base_lists.specs.Lists.{all};
@@ -7,6 +7,9 @@ ghost use Rattle.file_record.specs.Writer.{eventsOf, matching, daysInBounds, fe
 use file_starts::MOST_DAYS;
 use file_starts::MOST_EVENTS;
 use file_starts::MOST_MOVES;
+
+// How many numbers are lent for an event: D, s, e, n and the method.
+pub const EVENT_NUMBERS: usize = 5;
 
 // What two bytes hold, and what one holds, is below these.
 const TWO_BYTES: u32 = 65536;
@@ -24,21 +27,27 @@ pub fn is_matching(first: u32, days: usize, readings: usize) -> bool
 }
 
 // Whether the numbers of an event fit their bytes.
-fn event_fits(day: u32, s: u32, e: u32, n: u32) -> bool
-    ensures { λ r. ⌜ r ≡ fitsEvent (record { day = day; s = s; e = e; n = n }) ⌝ }
+fn event_fits(day: u32, s: u32, e: u32, n: u32, method: u32) -> bool
+    ensures { λ r. ⌜ r ≡ fitsEvent (record { day = day; s = s; e = e; n = n; method = method }) ⌝ }
 {
-    (((day < TWO_BYTES) & (s < ONE_BYTE)) & (e < ONE_BYTE)) & (n < ONE_BYTE)
+    ((((day < TWO_BYTES) & (s < ONE_BYTE)) & (e < ONE_BYTE)) & (n < ONE_BYTE)) & (method < ONE_BYTE)
 }
 
 // Whether those of every event do.
 fn all_fit(events: &[u32]) -> bool
     ensures { λ r. ⌜ r ≡ all fitsEvent (eventsOf (now (events .entry))) ⌝ }
 {
-    let count = events.len() / 4;
+    let count = events.len() / EVENT_NUMBERS;
     let mut i = 0;
     while i < count {
-        let at = 4 * i;
-        if event_fits(events[at], events[at + 1], events[at + 2], events[at + 3]) {
+        let at = EVENT_NUMBERS * i;
+        if event_fits(
+            events[at],
+            events[at + 1],
+            events[at + 2],
+            events[at + 3],
+            events[at + 4],
+        ) {
             i += 1;
         } else {
             return false;
@@ -89,7 +98,7 @@ pub fn is_sayable(
 {
     let in_bounds = in_bounds(participation, first, days);
     let few_moves = few_of(2, MOST_MOVES as usize, moves.len());
-    let few_events = few_of(4, MOST_EVENTS as usize, events.len());
+    let few_events = few_of(EVENT_NUMBERS, MOST_EVENTS as usize, events.len());
     if (in_bounds & few_moves) & few_events {
         if moves_fit(moves) {
             return all_fit(events);

@@ -1,15 +1,13 @@
 -- Records put one after the other: what is written and what is left to write are the whole (`Filling`).
-use Prim.Native.Nat.{ℕ, suc, _+_, _-_, _*_, _/_, _^_, _≤_, _<_}
+use Prim.Native.Nat.{ℕ, suc, _+_, _-_, _*_, _/_, _≤_, _<_}
 use mathlib.Core.Path.{_≡_, refl, sym, ap, _∙_}
-use mathlib.Core.Bool.{true, _&&_}
+use mathlib.Core.Bool.{true}
 use mathlib.Core.List.{List, [], _∷_, _++_, append-nil, append-assoc}
 use native.Mathlib.Omega.{arith}
 use native.Mathlib.Nat.{add-zero}
 use native.Mathlib.Numerals.{add-one}
-use borrow.Author.Tests.{ltb-true}
 use lib.ListN.{length, getD, take, drop, length-drop, drop-of-length-le}
 use lib.Seq.{drop-cons, drop-drop, length-take-le}
-use lib.Dec.{ltb}
 use borrow.Rule.Slice.PartMut.{putMid, midOf, mid-len}
 use Rattle.base_lists.specs.Lists.{all}
 use Rattle.base_lists.proofs.Bools.{both}
@@ -22,6 +20,7 @@ use Rattle.file_record.specs.declared.Shape.{Shape}
 use Rattle.file_record.specs.Layout.{pfRecord, mvRecord, mvRecords, fileOf, dyRecord, dyRecords, evRecord, evRecords, fitsEvent}
 use Rattle.file_record.specs.Reader.{pfLength, mvLength, dyLength, evLength, shapeBase, dayStart}
 use Rattle.file_record.specs.Writer.{eventsOf, said}
+use Rattle.file_record.proofs.Records.{Fields, event-fields}
 use Rattle.file_record.proofs.Starts.{day-start-none, day-start-more, day-start-within, day-start-from}
 use Rattle.file_record.proofs.Back.{moves-length, day-length, days-length, events-length}
 use Rattle.file_record.proofs.Writing.{event-at, events-more, events-none, events-count}
@@ -142,43 +141,37 @@ days-put {before} first marks readings k q e long =
 -- the events: `i` are put
 module _ (numbers : List ℕ) (i : ℕ) where
   abbrev pub eventsLeft : List ℕ
-  eventsLeft = evRecords (eventsOf (drop (4 * i) numbers))
+  eventsLeft = evRecords (eventsOf (drop (5 * i) numbers))
 
   -- the next one's numbers fit their bytes, and so do those of the others
-  module _ (fit : all fitsEvent (eventsOf (drop (4 * i) numbers)) ≡ true) (more : i < length numbers / 4) where
-    both-fit : (fitsEvent (event-at numbers i) ≡ true) × (all fitsEvent (eventsOf (drop (4 * (i + 1)) numbers)) ≡ true)
+  module _ (fit : all fitsEvent (eventsOf (drop (5 * i) numbers)) ≡ true) (more : i < length numbers / 5) where
+    both-fit : (fitsEvent (event-at numbers i) ≡ true) × (all fitsEvent (eventsOf (drop (5 * (i + 1)) numbers)) ≡ true)
     unfolding all
-    both-fit = both (fitsEvent (event-at numbers i)) (all fitsEvent (eventsOf (drop (4 * (i + 1)) numbers))) (rw (events-more numbers i (omega arith)) at fit)
+    both-fit = both (fitsEvent (event-at numbers i)) (all fitsEvent (eventsOf (drop (5 * (i + 1)) numbers))) (rw (events-more numbers i (omega arith)) at fit)
 
-    pub others-fit : all fitsEvent (eventsOf (drop (4 * (i + 1)) numbers)) ≡ true
+    pub others-fit : all fitsEvent (eventsOf (drop (5 * (i + 1)) numbers)) ≡ true
     others-fit = both-fit .1
 
-    pub one-fits : (getD numbers (4 * i + 1) 0 < 256) × (getD numbers (4 * i + 2) 0 < 256) × (getD numbers (4 * i + 3) 0 < 256)
-    unfolding fitsEvent
-    one-fits =
-        let v = event-at numbers i in
-        let n = both (ltb (v .day) (256 ^ 2) && ltb (v .s) 256 && ltb (v .e) 256) (ltb (v .n) 256) (both-fit .0) in
-        let e = both (ltb (v .day) (256 ^ 2) && ltb (v .s) 256) (ltb (v .e) 256) (n .0) in
-        let s = both (ltb (v .day) (256 ^ 2)) (ltb (v .s) 256) (e .0) in
-        (ltb-true (v .s) 256 (s .1), ltb-true (v .e) 256 (e .1), ltb-true (v .n) 256 (n .1))
+    pub one-fits : Fields (event-at numbers i)
+    one-fits = event-fields (event-at numbers i) (both-fit .0)
 
-  pub event-put : {before whole now part : List ℕ} → Filling before whole now eventsLeft (evLength * i) → i < length numbers / 4
-      → evLength * (length numbers / 4) ≤ length now → part ≡ putFirst (evRecord (event-at numbers i)) (midOf (evLength * i) (evLength * i + evLength - evLength * i) now)
+  pub event-put : {before whole now part : List ℕ} → Filling before whole now eventsLeft (evLength * i) → i < length numbers / 5
+      → evLength * (length numbers / 5) ≤ length now → part ≡ putFirst (evRecord (event-at numbers i)) (midOf (evLength * i) (evLength * i + evLength - evLength * i) now)
       → Filling before whole (putMid (evLength * i) (evLength * i + evLength - evLength * i) now part)
-      (evRecords (eventsOf (drop (4 * (i + 1)) numbers))) (evLength * (i + 1))
+      (evRecords (eventsOf (drop (5 * (i + 1)) numbers))) (evLength * (i + 1))
   unfolding evRecords evRecord bytes
   event-put q more room p =
       let next : evLength * (i + 1) ≡ evLength * i + evLength = omega arith in
       rw next
-      (record-put q (evRecord (event-at numbers i)) (evRecords (eventsOf (drop (4 * (i + 1)) numbers))) (evLength * i + evLength) (omega arith) (omega arith) (omega arith)
+      (record-put q (evRecord (event-at numbers i)) (evRecords (eventsOf (drop (5 * (i + 1)) numbers))) (evLength * i + evLength) (omega arith) (omega arith) (omega arith)
       (ap evRecords (events-more numbers i (omega arith))) p)
 
 -- none is left
 pub events-put : {before now : List ℕ} (numbers : List ℕ) (i : ℕ) → Filling before (evRecords (eventsOf numbers)) now (eventsLeft numbers i) (evLength * i)
-    → i ≡ length numbers / 4 → length before ≡ evLength * (length numbers / 4) → now ≡ evRecords (eventsOf numbers)
+    → i ≡ length numbers / 5 → length before ≡ evLength * (length numbers / 5) → now ≡ evRecords (eventsOf numbers)
 unfolding evRecords
 events-put {before} numbers i q e long =
-    let none : length numbers / 4 ≤ i = omega arith in
+    let none : length numbers / 5 ≤ i = omega arith in
     let all : length before ≤ evLength * i = omega arith in
     filled q (rw (events-none numbers i none) refl) ∙ rw (drop-of-length-le before all) (append-nil (evRecords (eventsOf numbers)))
 

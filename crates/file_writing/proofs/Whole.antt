@@ -28,7 +28,7 @@ module _ (participation portfolio first : ℕ) (marks readings moves numbers : L
         moves = length moves / 2;
         first = first;
         days = length marks;
-        events = length numbers / 4;
+        events = length numbers / 5;
       }
 
   pub record Passed (start : ℕ) : Type 0 where
@@ -42,7 +42,7 @@ module _ {participation portfolio first : ℕ} {marks readings moves numbers : L
   w = lent participation portfolio first marks readings moves numbers
 
   abbrev end : ℕ
-  end = start + evLength * (length numbers / 4)
+  end = start + evLength * (length numbers / 5)
 
   match : Matches first (length marks) (length readings)
   match = matches first (length marks) (length readings) (q .matched)

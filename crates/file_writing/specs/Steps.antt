@@ -23,4 +23,4 @@ pub record Shaped (shape : Shape) (start : ℕ) (marks readings moves numbers ou
   pub size : length readings ≡ offset (shape .first) (length marks)
   pub fields : all fitsEvent (eventsOf numbers) ≡ true
   pub events : start ≡ dayStart (shapeBase shape) (shape .first) (length marks)
-  pub whole : length out ≡ start + evLength * (length numbers / 4)
+  pub whole : length out ≡ start + evLength * (length numbers / 5)

@@ -1,4 +1,4 @@
-// A whole record file written into a lent buffer (document 02, orders 1 and 2), or why it is not.
+// A whole record file written into a lent buffer (document 02, orders 1 to 3), or why it is not.
 ghost use mathlib.Core.Path.{_≡_};
 ghost use mathlib.Core.Bool.{true};
 ghost use mathlib.Core.List.{_++_};
@@ -15,6 +15,7 @@ use file_record::Written;
 use file_starts::EV_LENGTH;
 use file_starts::MV_LENGTH;
 use file_starts::PF_LENGTH;
+use file_writable::EVENT_NUMBERS;
 use method::Refusal;
 
 // The MV of the moves, into as many bytes as they have.
@@ -66,21 +67,22 @@ fn put_days(out: &mut [u8], first: u32, marks: &[u8], readings: &[u32])
 
 // The EV of the events, into as many bytes as they have.
 fn put_events(out: &mut [u8], events: &[u32])
-    requires { ⌜ (length (now out) ≡ evLength * (length (now events) / 4)) × (all fitsEvent (eventsOf (now events)) ≡ true) ⌝ }
+    requires { ⌜ (length (now out) ≡ evLength * (length (now events) / 5)) × (all fitsEvent (eventsOf (now events)) ≡ true) ⌝ }
     ensures { λ _. ⌜ now (out .exit) ≡ evRecords (eventsOf (now (events .entry))) ⌝ }
 {
-    let count = events.len() / 4;
+    let count = events.len() / EVENT_NUMBERS;
     let mut i = 0;
     while i < count {
         let start = EV_LENGTH * i;
         let end = start + EV_LENGTH;
-        let at = 4 * i;
+        let at = EVENT_NUMBERS * i;
         file_putting::put_event(
             &mut out[start..end],
             events[at],
             events[at + 1] as u8,
             events[at + 2] as u8,
             events[at + 3] as u8,
+            events[at + 4] as u8,
         );
         i += 1;
     }
@@ -125,7 +127,7 @@ pub fn write(
         if sayable {
             let days = marks.len() as u32;
             let pairs = (moves.len() / 2) as u8;
-            let count = events.len() / 4;
+            let count = events.len() / EVENT_NUMBERS;
             let shape = Shape {
                 participation,
                 portfolio,

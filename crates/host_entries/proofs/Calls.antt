@@ -12,7 +12,7 @@ use Rattle.file_record.specs.declared.Written.{Written}
 use Rattle.file_record.specs.Writer.{Lent, Writes}
 use Rattle.listing_whole.specs.declared.Listed.{Listed}
 use Rattle.listing_whole.specs.Lists.{Lists}
-use Rattle.host_file.specs.OfFile.{writtenTold, listedTold}
+use Rattle.host_numbers.specs.Numbers.{writtenTold, listedTold}
 use Rattle.host_entries.specs.Host.{TableCall, FileCall, WriteCall, ListingCall}
 
 module _ {reply : Reply} {answer : Answer} {r : ℕ} {out out′ : List ℕ} (n : r ≡ numberOf (answer .given)) where

@@ -15,14 +15,14 @@ use Rattle.file_record.specs.Writer.{Lent, said, writing, leaving}
 use Rattle.listing_lines.specs.Listing.{listing}
 use Rattle.listing_whole.specs.Lists.{listedIn}
 use Rattle.host_answer.specs.Telling.{numberOf}
-use Rattle.host_file.specs.OfFile.{writtenTold, listedTold}
+use Rattle.host_numbers.specs.Numbers.{writtenTold, listedTold}
 
 -- room for the numerators of any event, four bytes each
 abbrev pub mostBytes : ℕ
 mostBytes = 4 * mostQuarters
 
-abbrev pub requestOf : ℕ → ℕ → ℕ → ℕ → ℕ → Request
-requestOf participation event s e n = record { participation = participation; event = event; s = s; e = e; n = n }
+abbrev pub requestOf : ℕ → ℕ → ℕ → ℕ → ℕ → ℕ → Request
+requestOf participation event s e n method = record { participation = participation; event = event; s = s; e = e; n = n; method = method }
 
 -- 01, "A metering platform written in C calls one entry ..; it gets 0 or the refusal number."
 pub record FileCall (reply : Reply) (r : ℕ) (out out′ : List ℕ) : Type 0 where

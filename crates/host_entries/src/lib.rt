@@ -10,7 +10,8 @@ ghost use Rattle.file_record.specs.Writer.{lent};
 ghost use Rattle.engine_answer.specs.Answer.{answerOf};
 ghost use Rattle.file_baseline.specs.Reply.{fileReply};
 ghost use Rattle.host_answer.specs.Telling.{toldBy};
-ghost use Rattle.host_file.specs.OfFile.{fileTold, moveTold, eventTold, placeTold};
+ghost use Rattle.host_file.specs.OfFile.{fileTold, moveTold, eventTold};
+ghost use Rattle.host_numbers.specs.Numbers.{placeTold};
 ghost use Rattle.calendar_dates.specs.Days.{numbered, dated};
 ghost use Rattle.host_plain.specs.Plain.{dateWritten, dayTold, dateTold, version};
 ghost use Rattle.host_entries.specs.Host.{mostBytes, requestOf, TableCall, FileCall, WriteCall, ListingCall};
@@ -39,8 +40,8 @@ pub extern "C" fn hp_told(file: &[u8], place: usize, name: u32) -> i64
     host_answer::tell(file_answer, name)
 }
 
-fn request_of(participation: u32, event: u32, s: u32, e: u32, n: u32) -> Request
-    ensures { λ r. ⌜ r ≡ requestOf participation event s e n ⌝ }
+fn request_of(participation: u32, event: u32, s: u32, e: u32, n: u32, method: u32) -> Request
+    ensures { λ r. ⌜ r ≡ requestOf participation event s e n method ⌝ }
 {
     Request {
         participation,
@@ -48,6 +49,7 @@ fn request_of(participation: u32, event: u32, s: u32, e: u32, n: u32) -> Request
         s,
         e,
         n,
+        method,
     }
 }
 
@@ -63,11 +65,12 @@ pub extern "C" fn hp_baseline_table(
     s: u32,
     e: u32,
     n: u32,
+    method: u32,
     out: &mut [u32],
 ) -> u32
-    ensures { λ r. ⌜ TableCall (verdict (now (moves .entry)) (tableOf first (now (marks .entry)) (now (readings .entry))) (requestOf participation event s e n) (length (now (out .entry)))) r (now (out .entry)) (now (out .exit)) ⌝ }
+    ensures { λ r. ⌜ TableCall (verdict (now (moves .entry)) (tableOf first (now (marks .entry)) (now (readings .entry))) (requestOf participation event s e n method) (length (now (out .entry)))) r (now (out .entry)) (now (out .exit)) ⌝ }
 {
-    let request = request_of(participation, event, s, e, n);
+    let request = request_of(participation, event, s, e, n, method);
     let table_answer = table_baseline::baseline(first, marks, readings, moves, request, out);
     let given = table_answer.given;
     host_answer::number_of(given)
@@ -85,11 +88,12 @@ pub extern "C" fn hp_told_table(
     s: u32,
     e: u32,
     n: u32,
+    method: u32,
     name: u32,
 ) -> i64
-    ensures { λ r. ⌜ r ≡ toldBy (answerOf (verdict (now (moves .entry)) (tableOf first (now (marks .entry)) (now (readings .entry))) (requestOf participation event s e n) mostQuarters)) name ⌝ }
+    ensures { λ r. ⌜ r ≡ toldBy (answerOf (verdict (now (moves .entry)) (tableOf first (now (marks .entry)) (now (readings .entry))) (requestOf participation event s e n method) mostQuarters)) name ⌝ }
 {
-    let request = request_of(participation, event, s, e, n);
+    let request = request_of(participation, event, s, e, n, method);
     let mut out = [0u32; method::QUARTERS];
     let answer = table_baseline::baseline(first, marks, readings, moves, request, &mut out);
     host_answer::tell(answer, name)
@@ -101,7 +105,7 @@ pub extern "C" fn hp_day_part(first: u32, marks: &[u8], readings: &[u32], day: u
     ensures { λ r. ⌜ r ≡ placeTold (partPlace (tableOf first (now (marks .entry)) (now (readings .entry))) day) ⌝ }
 {
     let place = table_days::part_place(first, marks, readings, day);
-    host_file::tell_place(place)
+    host_numbers::tell_place(place)
 }
 
 // What a record file tells by name: what it holds, or refusal 11.
@@ -137,7 +141,7 @@ pub extern "C" fn hp_listing(file: &[u8], out: &mut [u8]) -> i64
     ensures { λ r. ⌜ ListingCall (now (file .entry)) r (now (out .entry)) (now (out .exit)) ⌝ }
 {
     let listed = listing_whole::listing(file, out);
-    host_file::tell_listed(listed)
+    host_numbers::tell_listed(listed)
 }
 
 // A record file written into `out`: its length, or minus the number of a refusal.
@@ -164,7 +168,7 @@ pub extern "C" fn hp_write(
         events,
         out,
     );
-    host_file::tell_written(written)
+    host_numbers::tell_written(written)
 }
 
 // The day number of a date.

@@ -1,10 +1,9 @@
--- What a caller written in C is told of a file, of a move and an event in it, of the part of a day, and of a listing, by include/honeyplank.h.
+-- What a caller written in C is told of a file, and of a move and an event in it, by include/honeyplank.h.
 use Prim.Native.Nat.{ℕ}
 use mathlib.Core.List.{List, [], _∷_}
-use lib.IntN.{ℤ, pos, negsuc, negℤ}
+use lib.IntN.{ℤ, pos}
 use Rattle.method.specs.declared.Request.{Request}
 use Rattle.method.specs.declared.Refusal.the-variants.{BadFile, NoEvent}
-use Rattle.method.specs.Verdict.{number}
 use Rattle.file_record.specs.declared.Shape.{Shape}
 use Rattle.file_record.specs.declared.Read.{Read}
 use Rattle.file_record.specs.declared.Read.the-variants.{File, Refused}
@@ -12,16 +11,10 @@ use Rattle.file_record.specs.declared.MoveAt.{MoveAt}
 use Rattle.file_record.specs.declared.MoveAt.the-variants.{Move, NoMove, Refused as RefusedMove}
 use Rattle.file_record.specs.declared.EventAt.{EventAt}
 use Rattle.file_record.specs.declared.EventAt.the-variants.{Event, NoEvent as NoneThere, Refused as RefusedEvent}
-use Rattle.file_record.specs.declared.Written.{Written}
-use Rattle.file_record.specs.declared.Written.the-variants.{Length as Size, Refused as Unwritten}
-use Rattle.listing_whole.specs.declared.Listed.{Listed}
-use Rattle.listing_whole.specs.declared.Listed.the-variants.{Length, DoesNotFit}
-use Rattle.table_days.specs.declared.Place.{Place}
-use Rattle.table_days.specs.declared.Place.the-variants.{Nowhere, From}
 use Rattle.host_answer.specs.Names.{untold, byName, refusalRow, rowFrom}
 
--- from HP_FILE_PARTICIPATION on, which is 12: P, the portfolio number, F, h and the number of events; then the four names of an event, which are not of
--- a file, and HP_FILE_MOVES, which is 21: the number of moves
+-- from HP_FILE_PARTICIPATION on, which is 12: P, the portfolio number, F, h and the number of events; then four names of an event, which are not of a
+-- file, and HP_FILE_MOVES, which is 21: the number of moves
 unfoldable pub shapeRow : Shape → List ℤ
 shapeRow shape =
     rowFrom 12
@@ -49,9 +42,10 @@ moveRow (RefusedMove at) = refusalRow (BadFile at)
 unfoldable pub moveTold : MoveAt → ℕ → ℤ
 moveTold at name = byName (moveRow at) name
 
--- from HP_EVENT_DAY on, which is 17: D, s, e and n
+-- from HP_EVENT_DAY on, which is 17: D, s, e and n; then the name of a file's moves and the two of a move, which are not of an event, and
+-- HP_EVENT_METHOD, which is 24: the method
 unfoldable pub requestRow : Request → List ℤ
-requestRow r = rowFrom 17 (pos (r .event) ∷ pos (r .s) ∷ pos (r .e) ∷ pos (r .n) ∷ [])
+requestRow r = rowFrom 17 (pos (r .event) ∷ pos (r .s) ∷ pos (r .e) ∷ pos (r .n) ∷ untold ∷ untold ∷ untold ∷ pos (r .method) ∷ [])
 
 abbrev pub eventRow : EventAt → List ℤ
 eventRow (Event request) = requestRow request
@@ -61,18 +55,3 @@ eventRow (RefusedEvent at) = refusalRow (BadFile at)
 -- what an event tells by name; refused, it is 11, or 12: "no event at that place"
 unfoldable pub eventTold : EventAt → ℕ → ℤ
 eventTold at name = byName (eventRow at) name
-
--- the place of a day's first reading
-abbrev pub placeTold : Place → ℤ
-placeTold Nowhere = untold
-placeTold (From at) = pos at
-
--- the length of a file that was written; else minus the number of the refusal
-abbrev pub writtenTold : Written → ℤ
-writtenTold (Size size) = pos size
-writtenTold (Unwritten why) = negℤ (pos (number why))
-
--- the length of a listing; -HP_NO_ROOM, which is -7, where it does not fit
-abbrev pub listedTold : Listed → ℤ
-listedTold (Length size) = pos size
-listedTold DoesNotFit = negsuc 6

@@ -1,18 +1,14 @@
-// What a caller written in C is told by include/honeyplank.h: of a record file, of a move and an event in it, of the part of a day, of a file that was to be
-// written, and of a listing.
+// What a caller written in C is told by include/honeyplank.h of a record file, and of a move and an event in it.
 ghost use mathlib.Core.Path.{_≡_};
 ghost use Rattle.file_record.specs.declared.MoveAt.the-variants.{NoMove};
 ghost use Rattle.host_answer.specs.Names.{byName};
-ghost use Rattle.host_file.specs.OfFile.{shapeRow, fileTold, daysRow, moveTold, requestRow, eventTold, placeTold, writtenTold, listedTold};
+ghost use Rattle.host_file.specs.OfFile.{shapeRow, fileTold, daysRow, moveTold, requestRow, eventTold};
 use file_record::EventAt;
 use file_record::MoveAt;
 use file_record::Read;
 use file_record::Shape;
-use file_record::Written;
-use listing_whole::Listed;
 use method::Refusal;
 use method::Request;
-use table_days::Place;
 
 // Of a file that is as laid down.
 fn tell_shape(shape: Shape, name: u32) -> i64
@@ -83,6 +79,7 @@ fn tell_request(request: Request, name: u32) -> i64
         18 => request.s as i64,
         19 => request.e as i64,
         20 => request.n as i64,
+        24 => request.method as i64,
         _ => host_answer::NOTHING,
     }
 }
@@ -95,35 +92,5 @@ pub fn tell_event(at: EventAt, name: u32) -> i64
         EventAt::Refused(start) => host_answer::tell_refusal(Refusal::BadFile(start), name),
         EventAt::NoEvent => host_answer::tell_refusal(Refusal::NoEvent, name),
         EventAt::Event(request) => tell_request(request, name),
-    }
-}
-
-// Of the part of a day: the place of its first reading.
-pub fn tell_place(place: Place) -> i64
-    ensures { λ r. ⌜ r ≡ placeTold place ⌝ }
-{
-    match place {
-        Place::Nowhere => host_answer::NOTHING,
-        Place::From(at) => at as i64,
-    }
-}
-
-// Of a file that was to be written: its length, or minus the number of the refusal.
-pub fn tell_written(written: Written) -> i64
-    ensures { λ r. ⌜ r ≡ writtenTold written ⌝ }
-{
-    match written {
-        Written::Length(size) => size as i64,
-        Written::Refused(refusal) => 0 - host_answer::tell_refusal(refusal, 0),
-    }
-}
-
-// Of a listing: its length, or minus 7.
-pub fn tell_listed(listed: Listed) -> i64
-    ensures { λ r. ⌜ r ≡ listedTold listed ⌝ }
-{
-    match listed {
-        Listed::Length(size) => size as i64,
-        Listed::DoesNotFit => -7,
     }
 }

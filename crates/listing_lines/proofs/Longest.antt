@@ -21,7 +21,7 @@ use Rattle.file_record.specs.Reader.{movesFrom, movesIn, daysFrom, eventsFrom, 
 use Rattle.listing_lines.specs.Listing.{longest}
 use Rattle.method.proofs.Tables.{size-most}
 use Rattle.file_record.proofs.Starts.{day-start-most, base-most}
-use Rattle.file_record.proofs.Records.{event-record}
+use Rattle.file_record.proofs.Records.{move-record, event-record}
 use Rattle.file_record.proofs.Runs.{run-most}
 use Rattle.file_record.proofs.Files.{event-start-first, event-start-more, end-is-length}
 
@@ -46,27 +46,25 @@ leb-cut k n l h =
     ⊎-elim (λ (o : length l < k). lt-leb k (length (take n l)) (rw length-take (omega arith)) ∙ sym (lt-leb k (length l) o))
     (λ (o : k ≤ length l). le-leb k (length (take n l)) (rw length-take (omega arith)) ∙ sym (le-leb k (length l) o)) (lt-or-le (length l) k)
 
-record-cut : (size : ℕ) (mark : List ℕ) (blank n : ℕ) (l : List ℕ) → 2 ≤ n → size ≤ n → blank < n
-    → isRecord size mark blank (take n l) ≡ isRecord size mark blank l
+record-cut : (size : ℕ) (mark : List ℕ) (n : ℕ) (l : List ℕ) → 2 ≤ n → size ≤ n → isRecord size mark (take n l) ≡ isRecord size mark l
 unfolding isRecord
-record-cut size mark blank n l two h o = rw (leb-cut size n l h, opens-cut mark n l two, getD-take n l blank 0 o)
+record-cut size mark n l two h = rw (leb-cut size n l h, opens-cut mark n l two)
 
 day-cut : (n : ℕ) (l : List ℕ) → dyBytes mostQuarters ≤ n → isDY (take n l) ≡ isDY l
 unfolding isDY
 day-cut n l h =
     let most : dyLength (dyDay l) ≤ n = omega (arith, size-most (dyDay l)) in
-    rw (number-cut 2 2 n l (omega arith)) (record-cut (dyLength (dyDay l)) (ascii "DY") 5 n l (omega arith) most (omega arith))
+    rw (number-cut 2 2 n l (omega arith), record-cut (dyLength (dyDay l)) (ascii "DY") n l (omega arith) most, getD-take n l 5 0 (omega arith))
 
 day-of-cut : (day n : ℕ) (l : List ℕ) → dyBytes mostQuarters ≤ n → isDYof day (take n l) ≡ isDYof day l
 unfolding isDYof
 day-of-cut day n l h = rw (day-cut n l h, number-cut 2 2 n l (omega arith))
 
 move-cut : (n : ℕ) (l : List ℕ) → mvLength ≤ n → isMV (take n l) ≡ isMV l
-unfolding isMV
-move-cut n l h = rw (leb-cut mvLength n l h, opens-cut (ascii "MV") n l (omega arith))
+move-cut n l h = rw (move-record (take n l), move-record l) (record-cut mvLength (ascii "MV") n l (omega arith) h)
 
 event-cut : (n : ℕ) (l : List ℕ) → evLength ≤ n → isEV (take n l) ≡ isEV l
-event-cut n l h = rw (event-record (take n l), event-record l) (record-cut evLength (ascii "EV") 7 n l (omega arith) h (omega arith))
+event-cut n l h = rw (event-record (take n l), event-record l) (record-cut evLength (ascii "EV") n l (omega arith) h)
 
 -- ---- nor does a run of records, each of at most `each` bytes
 module _ (good : ℕ → List ℕ → Bool) (recordLength : ℕ → ℕ) (each : ℕ) (most-each : (i : ℕ) → recordLength i ≤ each)
@@ -153,8 +151,7 @@ module _ (n : ℕ) (file : List ℕ) (enough : longest < n) where
   read-cut h =
       let size : longest < length (take n file) = rw length-take (omega arith) in
       rw (
-        leb-cut pfLength n file (omega arith),
-        opens-cut (ascii "PF") n file (omega arith),
+        record-cut pfLength (ascii "PF") n file (omega arith) (omega arith),
         end-cut,
         ne-eqb (goodEnd file) (length (take n file)) (λ e. omega (arith, end-most file)),
         ne-eqb (goodEnd file) (length file) (λ e. omega (arith, end-most file)),

@@ -10,9 +10,10 @@ use Rattle.base_digits.specs.Digits.{digits, dec, decimal}
 use Rattle.method.specs.Table.{size, offset, dayOf, held, shaped, isExtract}
 use Rattle.method.specs.Relevant.{daysBefore, relevant, relevantDays}
 use Rattle.method.specs.Method.{wholeReach, seen, eligibles, spares, window, chosen, reach, isShort, outcome}
-use Rattle.method.specs.Adjustment.{windowEnds, latestEnd, adjustmentEnd, S, A, B, baselineAt, baseline}
+use Rattle.method.specs.Adjustment.{windowEnds, latestEnd, adjustmentEnd, S, A, B, adjusting, adjustingBy, baselineAt, baseline}
 use Rattle.method.specs.Eligible.{complete, eligible, spare, eventSum, higher, insertBy, sortBy}
 use Rattle.method.specs.HighXofY.{highXofY}
+use Rattle.method.specs.AverageXofY.{averageXofY}
 use Rattle.method.specs.Requested.{rulesOf, methodOf}
 use Rattle.method.specs.Rules.{methodBy}
 use Rattle.method.specs.Ruler.{rulerStart, rulerEnd, quarterOf, against}
@@ -33,8 +34,8 @@ use Rattle.base_bytes.specs.Bytes.{bytes, readingBytes}
 definitions : ℕ
 unfolding keep all any leading member sumOf leastOf leap months newYear dayNumber yearOf easter fixedHolidays easterHolidays isFixedHoliday isEasterHoliday firstDays secondDays
     isHoliday goodPairs repeated goodMoves group digits dec decimal size offset dayOf held shaped isExtract daysBefore relevant relevantDays wholeReach seen eligibles spares
-    window chosen reach isShort outcome windowEnds latestEnd adjustmentEnd places S A B baselineAt baseline complete eligible spare eventSum
-    higher insertBy sortBy methodOf methodBy rulesOf highXofY rulerStart rulerEnd quarterOf against tableRefusals goodRequest requestRefusals closing firstOf methodology listRefusals byList verdict bytes pfRecord readingBytes
+    window chosen reach isShort outcome windowEnds latestEnd adjustmentEnd places S A B adjusting adjustingBy baselineAt baseline complete eligible spare eventSum
+    higher insertBy sortBy methodOf methodBy rulesOf highXofY averageXofY rulerStart rulerEnd quarterOf against tableRefusals goodRequest requestRefusals closing firstOf methodology listRefusals byList verdict bytes pfRecord readingBytes
     mvRecord dyRecord evRecord mvRecords dyRecords evRecords fileOf numberAt opensWith isRecord isPF isMV isDY isEV run isDYof movesFrom movesIn moveNumbers
     listIn daysFrom eventsFrom fileBase firstIn daysIn dayStart
     eventStart eventsIn goodEnd shapeIn readFile marksFrom numbers readingsFrom tableIn eventOf requestAt spaced lineText linesText refusedLine

@@ -14,7 +14,7 @@ use Rattle.listing_lines.specs.Worked.{line}
 
 -- over all 96 quarters of the worked case's day
 abbrev pub wholeDay : Request
-wholeDay = record { participation = 6900; event = 6972; s = 96; e = 192; n = 96 }
+wholeDay = record { participation = 6900; event = 6972; s = 96; e = 192; n = 96; method = 0 }
 
 pub record Edges : Type 0 where
   -- it is answered, in a line of its own and one for each quarter: 96 have room

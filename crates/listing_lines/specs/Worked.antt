@@ -9,7 +9,7 @@ use Rattle.listing_lines.specs.Lines.{newline}
 
 -- an hour from 15:00, notified an hour before
 abbrev at15 : ℕ → Event
-at15 day = record { day = day; s = 152; e = 156; n = 148 }
+at15 day = record { day = day; s = 152; e = 156; n = 148; method = 0 }
 
 -- "Input: P 6900, portfolio 77, days 6951 to 6972, ..; events (6972, 152, 156, 148) and (6966, 152, 156, 148)."
 abbrev pub workedContents : Contents

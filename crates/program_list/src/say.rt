@@ -24,7 +24,7 @@ pub(crate) fn print(text: &[u8]) {
 }
 
 pub(crate) fn version() {
-    print(b"honeyplank-list 0.5.0\n");
+    print(b"honeyplank-list 0.6.0\n");
 }
 
 pub(crate) fn help() {
@@ -32,7 +32,8 @@ pub(crate) fn help() {
         b"\
 Usage: honeyplank-list [FILE]
 Lists a record file: the demand response baseline of each of its events, by the
-methodology of the Greek transmission operator (version 1.0, May 2020).
+methodology of the Greek transmission operator: High X of Y (version 1.0, May
+2020), or Average X of Y of day-ahead trades (version 5.0), as the event says.
 
 FILE is the file's name. With none, or with -, standard input is read.
 

@@ -40,11 +40,18 @@ add-byte-3 c = search needs
 byte-requires-3 : tie.Need-byte-requires-3
 byte-requires-3 c κs = search needs
 
+add-byte-4 : tie.Need-add-byte-4
+add-byte-4 c = search needs
+
+byte-requires-4 : tie.Need-byte-requires-4
+byte-requires-4 c κs = search needs
+
 returns : tie.Need-returns
 returns c =
-    let a = c .before .before .before .before .before .before .before .args in
-    let day = c .before .before .before .number2 .ensures .0 ∙ sym (number-two (a .at + 2) (a .file .now)) in
-    event-read (a .file .now) (a .at) (a .participation) day (c .before .before .byte .ensures .0) (c .before .byte2 .ensures .0) (c .byte3 .ensures .0)
+    let a = c .before .before .before .before .before .before .before .before .args in
+    let day = c .before .before .before .before .number2 .ensures .0 ∙ sym (number-two (a .at + 2) (a .file .now)) in
+    event-read (a .file .now) (a .at) (a .participation) day (c .before .before .before .byte .ensures .0) (c .before .before .byte2 .ensures .0)
+    (c .before .byte3 .ensures .0) (c .byte4 .ensures .0)
 
 pub request-of-spec : {M : Type 1} → statement M
 request-of-spec =
@@ -61,4 +68,6 @@ request-of-spec =
     byte-requires-2
     add-byte-3
     byte-requires-3
+    add-byte-4
+    byte-requires-4
     returns)

@@ -30,7 +30,7 @@ same-length c = search needs
 returns-2 : tie.Need-returns-2
 returns-2 c = let a = c .before .before .before .before .before .before .before .args in
     let h = c .before .before .put-head in
-    event-put (a .out .now) (h .last .0) (a .day) (a .s) (a .e) (a .n) (omega arith) (h .ensures)
+    event-put (a .out .now) (h .last .0) (a .day) (a .s) (a .e) (a .n) (a .method) (omega arith) (h .ensures)
 
 pub put-event-spec : {M : Type 1} → statement M
 put-event-spec =

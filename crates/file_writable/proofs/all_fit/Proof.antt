@@ -12,10 +12,10 @@ use Rattle.file_writable.proofs.all_fit.Statement.{statement}
 use Rattle.file_writable.proofs.all_fit.Tie as tie
 
 abbrev Inv-loop : tie.InvT-loop
-Inv-loop events count i₀ i = (i ≤ length events / 4) × (all fitsEvent (eventsOf (drop (4 * i) events)) ≡ all fitsEvent (eventsOf events))
+Inv-loop events count i₀ i = (i ≤ length events / 5) × (all fitsEvent (eventsOf (drop (5 * i) events)) ≡ all fitsEvent (eventsOf events))
 
 abbrev μ-loop : tie.MeasureT-loop
-μ-loop events count i₀ i = length events / 4 - i
+μ-loop events count i₀ i = length events / 5 - i
 
 loop-holds : tie.Need-loop-holds Inv-loop μ-loop
 loop-holds c = (omega arith, refl)
@@ -56,6 +56,15 @@ mul-event-fits-4 c = omega arith
 shared-slice-read-event-fits-4 : tie.Need-shared-slice-read-event-fits-4 Inv-loop μ-loop
 shared-slice-read-event-fits-4 c = omega arith
 
+add-event-fits-4 : tie.Need-add-event-fits-4 Inv-loop μ-loop
+add-event-fits-4 c = omega arith
+
+mul-event-fits-5 : tie.Need-mul-event-fits-5 Inv-loop μ-loop
+mul-event-fits-5 c = omega arith
+
+shared-slice-read-event-fits-5 : tie.Need-shared-slice-read-event-fits-5 Inv-loop μ-loop
+shared-slice-read-event-fits-5 c = omega arith
+
 event-fits-requires : tie.Need-event-fits-requires Inv-loop μ-loop
 event-fits-requires c κs = search needs
 
@@ -67,14 +76,14 @@ loop-less c = omega arith
 
 loop-again : tie.Need-loop-again Inv-loop μ-loop
 loop-again c =
-    let l = c .before .before .before .before .before .before .before .loop in
-    let a = c .before .before .before .before .before .before .before .before .before .args in
+    let l = c .before .before .before .before .before .before .before .before .loop in
+    let a = c .before .before .before .before .before .before .before .before .before .before .args in
     (omega arith, one-fits (a .events .now) (l .i) (l .inv .1) (omega arith) (sym (c .before .event-fits .ensures) ∙ c .if1 .taken))
 
 returns : tie.Need-returns Inv-loop μ-loop
 returns c =
-    let l = c .before .before .before .before .before .before .before .loop in
-    let a = c .before .before .before .before .before .before .before .before .before .args in
+    let l = c .before .before .before .before .before .before .before .before .loop in
+    let a = c .before .before .before .before .before .before .before .before .before .before .args in
     one-does-not (a .events .now) (l .i) (l .inv .1) (omega arith) (sym (c .before .event-fits .ensures) ∙ c .if1 .left)
 
 returns-2 : tie.Need-returns-2 Inv-loop μ-loop
@@ -101,6 +110,9 @@ all-fit-spec =
     add-event-fits-3
     mul-event-fits-4
     shared-slice-read-event-fits-4
+    add-event-fits-4
+    mul-event-fits-5
+    shared-slice-read-event-fits-5
     event-fits-requires
     add-i
     loop-less

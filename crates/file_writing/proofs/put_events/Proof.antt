@@ -15,10 +15,10 @@ use Rattle.file_writing.proofs.put_events.Statement.{statement}
 use Rattle.file_writing.proofs.put_events.Tie as tie
 
 abbrev Inv-loop : tie.InvT-loop
-Inv-loop out₀ events count i₀ out i = (i ≤ length events / 4) × (all fitsEvent (eventsOf (drop (4 * i) events)) ≡ true) × Filling out₀ (evRecords (eventsOf events)) out (eventsLeft events i) (evLength * i)
+Inv-loop out₀ events count i₀ out i = (i ≤ length events / 5) × (all fitsEvent (eventsOf (drop (5 * i) events)) ≡ true) × Filling out₀ (evRecords (eventsOf events)) out (eventsLeft events i) (evLength * i)
 
 abbrev μ-loop : tie.MeasureT-loop
-μ-loop out₀ events count i₀ out i = length events / 4 - i
+μ-loop out₀ events count i₀ out i = length events / 5 - i
 
 loop-holds : tie.Need-loop-holds Inv-loop μ-loop
 loop-holds c = (omega arith, c .before .before .pre .1, filling-none _ _)
@@ -83,6 +83,18 @@ shared-slice-read-put-event-4 c = omega arith
 cast-put-event-3 : tie.Need-cast-put-event-3 Inv-loop μ-loop
 cast-put-event-3 c = let l = c .before .before .before .before .before .before .loop in omega (arith, one-fits (c .before .before .before .before .before .before .before .before .before .args .events .now) (l .i) (l .inv .1) (omega arith))
 
+add-put-event-4 : tie.Need-add-put-event-4 Inv-loop μ-loop
+add-put-event-4 c = omega arith
+
+mul-put-event-5 : tie.Need-mul-put-event-5 Inv-loop μ-loop
+mul-put-event-5 c = omega arith
+
+shared-slice-read-put-event-5 : tie.Need-shared-slice-read-put-event-5 Inv-loop μ-loop
+shared-slice-read-put-event-5 c = omega arith
+
+cast-put-event-4 : tie.Need-cast-put-event-4 Inv-loop μ-loop
+cast-put-event-4 c = let l = c .before .before .before .before .before .before .before .loop in omega (arith, one-fits (c .before .before .before .before .before .before .before .before .before .before .args .events .now) (l .i) (l .inv .1) (omega arith))
+
 put-event-requires : tie.Need-put-event-requires Inv-loop μ-loop
 put-event-requires c κs = search needs
 
@@ -94,8 +106,8 @@ loop-less c = omega arith
 
 loop-again : tie.Need-loop-again Inv-loop μ-loop
 loop-again c =
-    let a = c .before .before .before .before .before .before .before .before .before .before .before .before .args in
-    let l = c .before .before .before .before .before .before .before .before .before .loop in (
+    let a = c .before .before .before .before .before .before .before .before .before .before .before .before .before .args in
+    let l = c .before .before .before .before .before .before .before .before .before .before .loop in (
       omega arith,
       others-fit (a .events .now) (l .i) (l .inv .1) (omega arith),
       event-put (a .events .now) (l .i) (l .inv .2) (omega arith) (omega (arith, l .inv .2 .long)) (c .before .before .put-event .ensures),
@@ -137,6 +149,10 @@ put-events-spec =
     mul-put-event-4
     shared-slice-read-put-event-4
     cast-put-event-3
+    add-put-event-4
+    mul-put-event-5
+    shared-slice-read-put-event-5
+    cast-put-event-4
     put-event-requires
     add-i
     loop-less

@@ -2,8 +2,9 @@
 use native.Mathlib.Omega.{arith}
 use borrow.Author.Needs.{needs}
 use Rattle.host_answer.specs.Names.{byName, rowFrom}
-use Rattle.host_answer.proofs.Telling.{widened, no-name}
+use Rattle.host_answer.proofs.Telling.{widened}
 use Rattle.host_file.specs.OfFile.{requestRow}
+use Rattle.host_file.proofs.Ways.{no-name-of-an-event}
 use Rattle.host_file.proofs.tell_request.Statement.{statement}
 use Rattle.host_file.proofs.tell_request.Tie as tie
 
@@ -18,6 +19,9 @@ cast-result-3 c = search needs
 
 cast-result-4 : tie.Need-cast-result-4
 cast-result-4 c = search needs
+
+cast-result-5 : tie.Need-cast-result-5
+cast-result-5 c = search needs
 
 returns : tie.Need-returns
 unfolding byName requestRow rowFrom
@@ -40,8 +44,13 @@ unfolding byName requestRow rowFrom
 returns-5 c = rw (c .before .match .keys5) (widened _ (omega (arith, c .struct-known4 .given)))
 
 returns-6 : tie.Need-returns-6
-unfolding requestRow
-returns-6 c = no-name 17 _ (c .before .args .name) (omega arith) (omega arith) (λ k. omega arith)
+unfolding byName requestRow rowFrom
+returns-6 c = rw (c .before .match .keys6) (widened _ (omega (arith, c .struct-known5 .given)))
+
+returns-7 : tie.Need-returns-7
+returns-7 c =
+    let n = c .match .rest in
+    no-name-of-an-event (c .before .args .request) (c .before .args .name) (n .0 .0 .0 .0 .0 .1) (n .0 .0 .0 .0 .1) (n .0 .0 .0 .1) (n .0 .0 .1) (n .0 .1) (n .1)
 
 pub tell-request-spec : {M : Type 1} → statement M
 tell-request-spec =
@@ -51,9 +60,11 @@ tell-request-spec =
     cast-result-2
     cast-result-3
     cast-result-4
+    cast-result-5
     returns
     returns-2
     returns-3
     returns-4
     returns-5
-    returns-6)
+    returns-6
+    returns-7)

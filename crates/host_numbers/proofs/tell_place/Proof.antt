@@ -1,11 +1,11 @@
--- `host_file::tell_place` meets its contract.
+-- `host_numbers::tell_place` meets its contract.
 use mathlib.Core.Path.{sym, ap, _∙_}
 use native.Mathlib.Omega.{arith}
 use borrow.Author.Needs.{needs}
 use Rattle.host_answer.proofs.Telling.{widened}
-use Rattle.host_file.specs.OfFile.{placeTold}
-use Rattle.host_file.proofs.tell_place.Statement.{statement}
-use Rattle.host_file.proofs.tell_place.Tie as tie
+use Rattle.host_numbers.specs.Numbers.{placeTold}
+use Rattle.host_numbers.proofs.tell_place.Statement.{statement}
+use Rattle.host_numbers.proofs.tell_place.Tie as tie
 
 enum-told : tie.Need-enum-told
 enum-told c = search needs

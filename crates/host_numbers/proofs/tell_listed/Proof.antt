@@ -1,11 +1,11 @@
--- `host_file::tell_listed` meets its contract.
+-- `host_numbers::tell_listed` meets its contract.
 use mathlib.Core.Path.{sym, ap, _∙_}
 use native.Mathlib.Omega.{arith}
 use borrow.Author.Needs.{needs}
 use Rattle.host_answer.proofs.Telling.{widened}
-use Rattle.host_file.specs.OfFile.{listedTold}
-use Rattle.host_file.proofs.tell_listed.Statement.{statement}
-use Rattle.host_file.proofs.tell_listed.Tie as tie
+use Rattle.host_numbers.specs.Numbers.{listedTold}
+use Rattle.host_numbers.proofs.tell_listed.Statement.{statement}
+use Rattle.host_numbers.proofs.tell_listed.Tie as tie
 
 enum-known-listed : tie.Need-enum-known-listed
 enum-known-listed c = search needs

@@ -1,13 +1,13 @@
--- `host_file::tell_written` meets its contract.
+-- `host_numbers::tell_written` meets its contract.
 use mathlib.Core.Path.{sym, ap, _∙_}
 use native.Mathlib.Omega.{arith}
 use borrow.Author.Needs.{sfits-of}
 use Rattle.host_answer.proofs.Telling.{back, widened}
-use Rattle.host_file.specs.OfFile.{writtenTold}
-use Rattle.host_file.proofs.Ways.{minus, minus-fits}
+use Rattle.host_numbers.specs.Numbers.{writtenTold}
+use Rattle.host_numbers.proofs.Minus.{minus, minus-fits}
 use borrow.Author.Needs.{needs}
-use Rattle.host_file.proofs.tell_written.Statement.{statement}
-use Rattle.host_file.proofs.tell_written.Tie as tie
+use Rattle.host_numbers.proofs.tell_written.Statement.{statement}
+use Rattle.host_numbers.proofs.tell_written.Tie as tie
 
 enum-known-written : tie.Need-enum-known-written
 enum-known-written c = search needs
