@@ -1,11 +1,11 @@
 -- The demands, proved for every call.
-use Prim.Native.Nat.{ℕ, _≤_, _<_}
+use Prim.Native.Nat.{ℕ, _*_, _≤_, _<_}
 use mathlib.Core.Path.{_≡_, refl, sym, ap, _∙_}
 use mathlib.Core.Logic.{⊎-elim}
 use mathlib.Core.Bool.{true, false}
 use mathlib.Core.List.{List, [], _∷_, _++_}
 use native.Mathlib.Omega.{arith}
-use lib.ListN.{length, take, drop, length-append, length-drop}
+use lib.ListN.{length, take, drop, length-append, length-drop, length-map}
 use lib.Seq.{take-at, drop-at}
 use borrow.Author.Tests.{eqb-true, eq-eqb}
 use Rattle.base_lists.specs.Lists.{any, member}
@@ -13,7 +13,8 @@ use Rattle.calendar_groups.specs.Holidays.{group}
 use Rattle.method.specs.declared.Request.{Request}
 use Rattle.method.specs.declared.Refusal.{Refusal}
 use Rattle.method.specs.declared.Refusal.the-variants.{MarginTooShort}
-use Rattle.method.specs.Table.{Table, history}
+use Rattle.method.specs.Table.{Table, Day, history}
+use Rattle.method.specs.Adjustment.{isAverage, partsOf}
 use Rattle.method.specs.Method.{wholeReach}
 use Rattle.method.specs.Requested.{methodOf}
 use Rattle.method.specs.Verdict.{Reply, Answer as Numbers, refused, answered, byList, verdict}
@@ -28,14 +29,14 @@ use Rattle.engine_answer.specs.Answer.{answerOf}
 use Rattle.engine_refusals.proofs.Replies.{one-outcome}
 use Rattle.table_baseline.proofs.Laws.{sound, never-above}
 use Rattle.demands.specs.Calls.{Call, moves, extract, request, stand, room, Gets, result, reported}
-use Rattle.demands.specs.Rows.{earlier, rows, applies, answerOver, numeratorsOf}
+use Rattle.demands.specs.Rows.{NOf, chosenOf, countOf, adjustedOf, earlier, rows, applies, answerOver, numeratorsOf}
 use Rattle.demands.specs.Demands.{quarters, Demand1, Demand2, Settled, Demand3, NoPart, Demands}
 use Rattle.demands.proofs.Rows.{table-rows}
 use Rattle.demands.proofs.First.{first-in, first-of, none-first}
 use Rattle.demands.proofs.Results.{replyOf, gets-same, Gives, gives-gets, gets-answer, is-refused, is-answered, given-refused, given-answered}
 use Rattle.demands.proofs.Results.{numberIn, result-is, reported-is, settled-is, margin-is, gets-kept, gets-output, stand-length}
 use Rattle.demands.proofs.Passing.{Late, over-formed, late, none-earlier, settled-late}
-use Rattle.demands.proofs.Answered.{chosen-count, numerators-count, over-60-or-24, quarters-fit}
+use Rattle.demands.proofs.Answered.{high-count, over-2-or-1, numerators-count, over-60-or-24, quarters-fit}
 
 module _ (c : Call) (a : Answer) (out after : List ℕ) (gives : Gives c a out after) where
   abbrev t : Table
@@ -123,17 +124,37 @@ module _ (c : Call) (a : Answer) (out after : List ℕ) (gives : Gives c a out a
   demand2 e =
       record {
         days = ap (λ (x : Answer). x .chosen .days) its;
-        count = ap (λ (x : Answer). x .chosen .count) its ∙ chosen-count c (length out) (none-applies e);
+        count = count;
         reach = ap (λ (x : Answer). x .chosen .reach) its;
-        denominator = ap (λ (x : Answer). x .denominator) its;
-        adjusted = ap (λ (x : Answer). x .adjustment) its;
         numerators = stands-first e;
         never-above = never-above ms t r (room c out) (answerOver ms t r) (is-verdict e);
-        over = ap (λ (n : ℕ). member n (60 ∷ 24 ∷ [])) (ap (λ (x : Answer). x .denominator) its) ∙ over-60-or-24 (group ms (r .event));
+        high = λ v. record {
+          count = count ∙ n-days v;
+          denominator = rw (divided, v, n-days v);
+          adjusted = rw (moved, v, n-days v);
+          over = rw (divided, v, n-days v) (over-60-or-24 (group ms (r .event)));
+        };
+        average = λ v. record {
+          denominator = rw (divided, v, count) (omega arith);
+          adjusted = rw (moved, v);
+          over = rw (divided, v) (over-2-or-1 c (length out) (none-applies e) v);
+        };
       }
     where
       its : a ≡ answerOf (answered (answerOver ms t r))
       its = is ∙ ap answerOf (answers e)
+
+      count : a .chosen .count ≡ countOf ms t r
+      count = ap (λ (x : Answer). x .chosen .count) its ∙ length-map (chosenOf ms t r) (λ (p : ℕ × Day). p .0)
+
+      divided : a .denominator ≡ partsOf r * countOf ms t r
+      divided = ap (λ (x : Answer). x .denominator) its
+
+      moved : a .adjustment ≡ adjustedOf ms t r
+      moved = ap (λ (x : Answer). x .adjustment) its
+
+      n-days : isAverage r ≡ false → countOf ms t r ≡ NOf ms r
+      n-days v = high-count c (length out) (none-applies e) v
 
   -- ---- demand 3
   is-late : member (result a) (0 ∷ 8 ∷ 9 ∷ 10 ∷ []) ≡ true → Late c out

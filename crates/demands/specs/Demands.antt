@@ -6,6 +6,7 @@ use mathlib.Core.Logic.{_↔_}
 use mathlib.Core.Bool.{true, false}
 use mathlib.Core.List.{List, [], _∷_}
 use lib.ListN.{length, take, drop}
+use lib.IntN.{pos}
 use lib.Dec.{leb}
 use Rattle.base_lists.specs.Lists.{all, any, member}
 use Rattle.calendar_groups.specs.Holidays.{group}
@@ -14,7 +15,7 @@ use Rattle.method.specs.declared.Refusal.{Refusal}
 use Rattle.method.specs.declared.Refusal.the-variants.{MarginTooShort}
 use Rattle.method.specs.Table.{Table, dayOf, held, history}
 use Rattle.method.specs.Method.{daysOf, wholeReach}
-use Rattle.method.specs.Adjustment.{adjustment}
+use Rattle.method.specs.Adjustment.{adjustment, isAverage}
 use Rattle.method.specs.Ruler.{rulerStart}
 use Rattle.method.specs.Requested.{methodOf}
 use Rattle.method.specs.Verdict.{answered, refused, firstOf, byList, verdict}
@@ -23,7 +24,7 @@ use Rattle.engine_answer.specs.Answer.{inFive}
 use Rattle.engine_answer.specs.declared.Given.the-variants.{Answered, Refused}
 use Rattle.engine_answer.specs.declared.Answer.{Answer}
 use Rattle.demands.specs.Calls.{Call, moves, extract, request, perQuarter, stand, room, Gets, result, reported}
-use Rattle.demands.specs.Rows.{fileRows, tableRows, earlier, rows, applies, FirstIn, answerOver, numeratorsOf, chosenOf, reachOf, AOf, BOf, NOf}
+use Rattle.demands.specs.Rows.{fileRows, tableRows, earlier, rows, applies, FirstIn, answerOver, numeratorsOf, chosenOf, countOf, reachOf, AOf, BOf, NOf}
 
 -- a number is one of these
 abbrev pub OneOf : ℕ → List ℕ → Type 0
@@ -51,18 +52,31 @@ module _ (c : Call) (a : Answer) (out after : List ℕ) where
     pub long : length after ≡ length out
     pub rest : a .given ≡ Answered → drop (quarters c) after ≡ drop (quarters c) out
 
-  -- "The window, the ranked days, the adjustment and the baseline are those of the operator's methodology, version 1.0, as document 01 fixes
-  -- it, exact to the last fraction of a kilowatt.": numerators over 12N
-  pub record Demand2 : Type 0 where
-    pub days : a .chosen .days ≡ inFive (daysOf (chosenOf (moves c) (extract c) (request c)))
+  -- of High X of Y: N days, numerators over 12N, and the adjustment
+  pub record Adjusted : Type 0 where
     pub count : a .chosen .count ≡ NOf (moves c) (request c)
-    pub reach : a .chosen .reach ≡ reachOf (moves c) (extract c) (request c)
     pub denominator : a .denominator ≡ 12 * NOf (moves c) (request c)
     pub adjusted : a .adjustment ≡ adjustment (NOf (moves c) (request c)) (AOf (moves c) (extract c) (request c)) (BOf (moves c) (extract c) (request c))
-    pub numerators : take (quarters c) after ≡ stand c (numeratorsOf (moves c) (extract c) (request c))
-    -- "The answer holds the numerators, never above 1,200,000,000, over 60 or 24."
-    pub never-above : all (λ x. leb x 1200000000) (numeratorsOf (moves c) (extract c) (request c)) ≡ true
+    -- "over 60 or 24"
     pub over : OneOf (a .denominator) (60 ∷ 24 ∷ [])
+
+  -- of Average X of Y, 02, order 3: "Numerators are over the number averaged", "without adjustment"
+  pub record Averaged : Type 0 where
+    pub denominator : a .denominator ≡ a .chosen .count
+    pub adjusted : a .adjustment ≡ pos 0
+    pub over : OneOf (a .denominator) (2 ∷ 1 ∷ [])
+
+  -- "The window, the ranked days, the adjustment and the baseline are those of the operator's methodology, version 1.0, as document 01 fixes
+  -- it, exact to the last fraction of a kilowatt."; order 3: "Demands 2 and 3 hold for each method"
+  pub record Demand2 : Type 0 where
+    pub days : a .chosen .days ≡ inFive (daysOf (chosenOf (moves c) (extract c) (request c)))
+    pub count : a .chosen .count ≡ countOf (moves c) (extract c) (request c)
+    pub reach : a .chosen .reach ≡ reachOf (moves c) (extract c) (request c)
+    pub numerators : take (quarters c) after ≡ stand c (numeratorsOf (moves c) (extract c) (request c))
+    -- "The answer holds the numerators, never above 1,200,000,000"
+    pub never-above : all (λ x. leb x 1200000000) (numeratorsOf (moves c) (extract c) (request c)) ≡ true
+    pub high : isAverage (request c) ≡ false → Adjusted
+    pub average : isAverage (request c) ≡ true → Averaged
 
   pub record Demand3 : Type 0 where
     -- "Where an event over a well-formed extract gets an answer, 'too few days' or 'no adjustment window', every longer well-formed history

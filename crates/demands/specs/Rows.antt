@@ -1,14 +1,17 @@
--- 01's table of refusals, row by row, with the row that order 2 of 02 puts into it, and what is answered where none applies.
+-- 01's table of refusals, row by row, with what orders 2 and 3 of 02 put into it, and what is answered where none applies.
 use Prim.Native.Nat.{ℕ, _+_, _-_, _*_, _/_, _%_}
 use mathlib.Core.Path.{_≡_}
 use mathlib.Core.Bool.{Bool, true, false, not, cond, _&&_, _||_}
 use mathlib.Core.List.{List, [], _∷_, _++_, map}
 use lib.ListN.{length, getD, take}
+use lib.IntN.{ℤ, pos}
 use lib.Dec.{leb, ltb, eqb}
 use Rattle.base_lists.specs.Lists.{any, leading, leastOf, places}
 use Rattle.calendar_dates.specs.Days.{lastDay}
 use Rattle.calendar_holidays.specs.Yearly.{isFixedHoliday}
 use Rattle.calendar_groups.specs.Holidays.{firstDays, repeated, group}
+use Rattle.calendar_groups.specs.declared.Group.{Group}
+use Rattle.calendar_groups.specs.declared.Group.the-variants.{Weekday, Saturday, HolidayGroup}
 use Rattle.method.specs.declared.Request.{Request}
 use Rattle.method.specs.declared.Refusal.{Refusal}
 use Rattle.method.specs.declared.Refusal.the-variants.{BadFile, NoEvent, BadTable, BadMark, BadReading, BadRequest, NotHeld}
@@ -17,27 +20,39 @@ use Rattle.method.specs.Table.{Table, Day, heldDays, offset, dayOf, held, histo
 use Rattle.method.specs.Ruler.{rulerStart, rulerEnd}
 use Rattle.method.specs.Relevant.{relevantDays}
 use Rattle.method.specs.Method.{eligibles, window, chosen, reach, daysOf}
-use Rattle.method.specs.Adjustment.{ruler, adjustmentEnd, S, A, B, adjustment}
+use Rattle.method.specs.Adjustment.{ruler, adjustmentEnd, S, A, B, adjustment, isAverage, partsOf}
 use Rattle.method.specs.HighXofY.{Y, N}
+use Rattle.method.specs.AverageXofY.{averageY}
 use Rattle.method.specs.Requested.{methodOf}
 use Rattle.method.specs.Verdict.{Answer}
 use Rattle.file_record.specs.Reader.{isPF, goodEnd, eventsIn}
 use Rattle.demands.specs.Calls.{Call, overTable, ofFile, moves, extract, request, perQuarter}
 
--- Y and N of a request, by a list of moves
+-- Y of a request by its method, and N, by a list of moves
 abbrev pub YOf : List ℕ → Request → ℕ
-YOf moves r = Y (group moves (r .event))
+YOf moves r = cond (isAverage r) (averageY (group moves (r .event))) (Y (group moves (r .event)))
 
 abbrev pub NOf : List ℕ → Request → ℕ
 NOf moves r = N (group moves (r .event))
 
--- the methodology of an extract and a request by a list of moves: window, chosen days and reach; the ruler, where the adjustment window ends, A and B
+-- order 3: "001's rules leave no day to average" of a window of so many days, where `since` is D-P: one weekday or none, or two or three before D-P is 7; no
+-- other day, or one before it is
+abbrev pub noneLeft : Group → ℕ → ℕ → Bool
+noneLeft Weekday since size = ltb size 2 || (ltb size 4 && ltb since 7)
+noneLeft Saturday since size = ltb size 1 || (ltb size 2 && ltb since 7)
+noneLeft HolidayGroup since size = ltb size 1 || (ltb size 2 && ltb since 7)
+
+-- the methodology of an extract and a request by a list of moves: window, chosen days, their number and reach; the ruler, where the adjustment window
+-- ends, A and B
 module _ (moves : List ℕ) (t : Table) (r : Request) where
   abbrev pub windowOf : List (ℕ × Day)
   windowOf = window (methodOf (group moves) r) (history t)
 
   abbrev pub chosenOf : List (ℕ × Day)
   chosenOf = chosen (methodOf (group moves) r) (history t)
+
+  abbrev pub countOf : ℕ
+  countOf = length chosenOf
 
   abbrev pub reachOf : ℕ
   reachOf = reach (methodOf (group moves) r) (history t)
@@ -54,9 +69,16 @@ module _ (moves : List ℕ) (t : Table) (r : Request) where
   abbrev pub BOf : ℕ
   BOf = B (r .event) chosenOf endOf
 
-  -- "The baseline at event quarter t is max(0, 12·S(t) + N·A - B)/(12N)": the numerators, where `-` stops at 0
+  -- "The adjustment is (N·A - B)/(12N)"; order 3: "without adjustment"
+  abbrev pub adjustedOf : ℤ
+  adjustedOf = cond (isAverage r) (pos 0) (adjustment countOf AOf BOf)
+
+  -- "The baseline at event quarter t is max(0, 12·S(t) + N·A - B)/(12N)", where `-` stops at 0; order 3: "average them per quarter", "over the number averaged"
+  abbrev pub numeratorAt : ℕ → ℕ
+  numeratorAt t = cond (isAverage r) (S (r .event) chosenOf t) (12 * S (r .event) chosenOf t + countOf * AOf - BOf)
+
   unfoldable pub numeratorsOf : List ℕ
-  numeratorsOf = map (λ q. 12 * S (r .event) chosenOf q + NOf moves r * AOf - BOf) (places (r .e - r .s) (r .s))
+  numeratorsOf = map numeratorAt (places (r .e - r .s) (r .s))
 
   -- what is answered
   unfoldable pub answerOver : Answer
@@ -64,8 +86,8 @@ module _ (moves : List ℕ) (t : Table) (r : Request) where
       record {
         days = daysOf chosenOf;
         reach = reachOf;
-        denominator = 12 * NOf moves r;
-        adjusted = adjustment (NOf moves r) AOf BOf;
+        denominator = partsOf r * countOf;
+        adjusted = adjustedOf;
         numerators = numeratorsOf;
       }
 
@@ -104,10 +126,10 @@ listRows moves =
 -- where `size` is the output's length, and `w` the places of it that a numerator takes
 unfoldable pub requestRows : Table → Request → ℕ → ℕ → List (Bool × Refusal)
 requestRows t r w size =
-    -- 4: "P above 36,524; s outside 96..191; e outside s+1..192; n above s"
+    -- 4: "P above 36,524; s outside 96..191; e outside s+1..192; n above s"; order 3: "an unknown method"
     (
       ltb lastDay (r .participation) || (ltb (r .s) (rulerStart (r .event)) || leb (rulerEnd (r .event)) (r .s)) ||
-          (ltb (r .e) (r .s + 1) || ltb (rulerEnd (r .event)) (r .e)) || ltb (r .s) (r .n),
+          (ltb (r .e) (r .s + 1) || ltb (rulerEnd (r .event)) (r .e)) || ltb (r .s) (r .n) || ltb 1 (r .method),
       BadRequest,
     ) ∷
     -- 5: "D not held"
@@ -124,10 +146,14 @@ dayRows moves t r =
       ltb (length (eligibles (methodOf (group moves) r) (history t))) (YOf moves r) && any (λ d. ltb d (t .first)) (relevantDays (group moves) r),
       MarginTooShort (r .event - leastOf (r .event) (relevantDays (group moves) r)),
     ) ∷
-    -- 9: "too few: window below N", "its size, reach"
-    (ltb (length (windowOf moves t r)) (NOf moves r), TooFew (length (windowOf moves t r)) (reachOf moves t r)) ∷
-    -- 10: "no adjustment window", "reach"
-    (eqb (endOf moves t r) 0, NoAdjustmentWindow (reachOf moves t r)) ∷ []
+    -- 9: "too few: window below N", "its size, reach"; order 3: "when 001's rules leave no day to average"
+    (
+      cond (isAverage r) (noneLeft (group moves (r .event)) (r .event - r .participation) (length (windowOf moves t r)))
+          (ltb (length (windowOf moves t r)) (NOf moves r)),
+      TooFew (length (windowOf moves t r)) (reachOf moves t r),
+    ) ∷
+    -- 10: "no adjustment window", "reach"; order 3: "10 is not given here"
+    (not (isAverage r) && eqb (endOf moves t r) 0, NoAdjustmentWindow (reachOf moves t r)) ∷ []
 
 -- 11, 12, 1 to 3, 14, 4 to 7: those earlier than 8; and all
 unfoldable pub earlier : Call → ℕ → List (Bool × Refusal)

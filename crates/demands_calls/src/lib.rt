@@ -40,9 +40,10 @@ pub fn entry_over_table(
     s: u32,
     e: u32,
     n: u32,
+    method: u32,
     out: &mut [u32],
 ) -> u32
-    ensures { λ r. ⌜ EntryDemands (overTable (now (moves .entry)) (tableOf first (now (marks .entry)) (now (readings .entry))) (requestOf participation event s e n)) r (now (out .entry)) (now (out .exit)) ⌝ }
+    ensures { λ r. ⌜ EntryDemands (overTable (now (moves .entry)) (tableOf first (now (marks .entry)) (now (readings .entry))) (requestOf participation event s e n method)) r (now (out .entry)) (now (out .exit)) ⌝ }
 {
     host_entries::hp_baseline_table(
         first,
@@ -54,6 +55,7 @@ pub fn entry_over_table(
         s,
         e,
         n,
+        method,
         out,
     )
 }
@@ -76,9 +78,10 @@ pub fn told_over_table(
     s: u32,
     e: u32,
     n: u32,
+    method: u32,
     name: u32,
 ) -> i64
-    ensures { λ r. ⌜ Tells (overTable (now (moves .entry)) (tableOf first (now (marks .entry)) (now (readings .entry))) (requestOf participation event s e n)) name r ⌝ }
+    ensures { λ r. ⌜ Tells (overTable (now (moves .entry)) (tableOf first (now (marks .entry)) (now (readings .entry))) (requestOf participation event s e n method)) name r ⌝ }
 {
     host_entries::hp_told_table(
         first,
@@ -90,6 +93,7 @@ pub fn told_over_table(
         s,
         e,
         n,
+        method,
         name,
     )
 }

@@ -5,9 +5,10 @@ use mathlib.Core.Bool.{Bool, true, false, cond, _&&_}
 use mathlib.Core.List.{List, [], _∷_, map}
 use mathlib.Core.Option.{Option, none, some}
 use native.Mathlib.Omega.{arith}
-use native.Mathlib.Nat.{mul-suc}
-use lib.ListN.{length, drop, getD, length-append, length-take}
+use native.Mathlib.Nat.{mul-suc, mul-le-mul-right}
+use lib.ListN.{length, drop, getD}
 use lib.Dec.{ltb, eqb}
+use lib.IntN.{ℤ, pos}
 use lib.Signed.{mag}
 use borrow.Author.Tests.{le-leb, lt-ltb, leb-true, ltb-true}
 use Rattle.base_lists.specs.Lists.{all, leading, sumOf, keep, member, leastOf, places}
@@ -17,16 +18,16 @@ use Rattle.base_lists.proofs.Keep.{all-keep, all-mapped, kept-member}
 use Rattle.base_lists.proofs.Leading.{leading-most}
 use Rattle.calendar_groups.specs.Holidays.{group}
 use Rattle.calendar_groups.specs.declared.Group.{Group}
-use Rattle.calendar_groups.specs.declared.Group.the-variants.{Weekday, Saturday, HolidayGroup}
 use Rattle.method.specs.declared.Request.{Request}
 use Rattle.method.specs.declared.Refusal.{Refusal}
 use Rattle.method.specs.Table.{Table, mostQuarters, Day, History, history, dayOf, held, size, offset, goodMark, goodReading}
 use Rattle.method.specs.Ruler.{against}
 use Rattle.method.specs.Relevant.{relevantDays}
 use Rattle.method.specs.Method.{Method, short, few, chose, daysOf, seen, eligibles, spares, window, chosen, reach, wholeReach, isShort, outcome}
-use Rattle.method.specs.Adjustment.{ruler, adjustmentEnd, S, A, B, adjustment, Baseline, baselineAt, baseline}
+use Rattle.method.specs.Adjustment.{ruler, adjustmentEnd, S, A, B, adjustment, adjusting, isAverage, adjustingBy, Baseline, baselineAt, baselineBy, baseline}
 use Rattle.method.specs.Eligible.{eligible, spare, higher, sortBy}
-use Rattle.method.specs.HighXofY.{Y, N, highXofY}
+use Rattle.method.specs.HighXofY.{highXofY}
+use Rattle.method.specs.AverageXofY.{averageXofY}
 use Rattle.method.specs.Rules.{methodBy}
 use Rattle.method.specs.Requested.{rulesOf, methodOf}
 use Rattle.method.specs.Verdict.{Answer, Reply, refused, answered, carries, tableRefusals, requestRefusals, listRefusals, closing, firstOf, methodology, byList, verdict}
@@ -34,28 +35,9 @@ use Rattle.method_laws.proofs.LookBack.{lookBack-is}
 use Rattle.method_laws.proofs.Requested.{relevant-lookBack}
 use Rattle.method_laws.proofs.Sort.{all-sorted}
 use Rattle.base_lists.proofs.Places.{length-places}
+use Rattle.engine_choice.proofs.Requested.{window-ten, chosen-five}
 use Rattle.engine_numerators.proofs.Signed.{mag-difference}
 use Rattle.engine_numerators.proofs.Windows.{small, ruler-most}
-
--- ---- Y and N
-ten-most : (g : Group) → Y g + N g ≤ 15
-ten-most Weekday = omega arith
-ten-most Saturday = omega arith
-ten-most HolidayGroup = omega arith
-
-five-most : (g : Group) → N g ≤ 5
-five-most Weekday = omega arith
-five-most Saturday = omega arith
-five-most HolidayGroup = omega arith
-
-five-times : (g : Group) (a m : ℕ) → a ≤ m → N g * a ≤ 5 * m
-five-times Weekday a m h = omega arith
-five-times Saturday a m h = omega arith
-five-times HolidayGroup a m h = omega arith
-
-taken-most : (x : Bool) (n : ℕ) → cond x 0 n ≤ n
-taken-most true n = omega arith
-taken-most false n = omega arith
 
 either-less : (x : Bool) (d a b : ℕ) → cond x (d - a) (d - b) ≤ d
 either-less true d a b = omega arith
@@ -144,42 +126,47 @@ module _ (moves : List ℕ) (t : Table) (r : Request) (few-marks : length (t .ma
           let before = lookBack-is (r .event) d .0 (relevant-lookBack (group moves) r d (kept-member (held h) (relevantDays (group moves) r) d m)) .0 in
           rw (lt-ltb d (r .event) before, day-small d)
 
+  -- the order of spares adds none, by either method
+  ordered-near : (days : List (ℕ × Day)) → all (near (r .event)) days ≡ true → all (near (r .event)) (rulesOf g r .order days) ≡ true
+  unfolding rulesOf highXofY averageXofY
+  ordered-near days e = go (isAverage r)
+    where
+      go : (b : Bool) → all (near (r .event)) (cond b (averageXofY g r) (highXofY g r) .order days) ≡ true
+      go true = e
+      go false = all-sorted (higher r) (near (r .event)) days ∙ e
+
   window-near : all (near (r .event)) (window how h) ≡ true
-  unfolding window eligibles spares methodOf methodBy rulesOf highXofY
+  unfolding window eligibles spares methodOf methodBy
   window-near =
       let kept = all-keep (near (r .event)) (λ (p : ℕ × Day). eligible (p .1)) (seen how h) seen-near in
       let spare-days = keep (λ (p : ℕ × Day). spare (p .1)) (seen how h) in
-      let sorted = all-sorted (higher r) (near (r .event)) spare-days ∙ all-keep (near (r .event)) (λ (p : ℕ × Day). spare (p .1)) (seen how h) seen-near in
+      let ordered = ordered-near spare-days (all-keep (near (r .event)) (λ (p : ℕ × Day). spare (p .1)) (seen how h) seen-near) in
       rw (
         all-append,
-        all-take (near (r .event)) (Y g) (eligibles how h) kept,
-        all-take (near (r .event)) (N g - length (eligibles how h)) (spares how h) sorted,
+        all-take (near (r .event)) (how .most) (eligibles how h) kept,
+        all-take (near (r .event)) (how .fill - length (eligibles how h)) (spares how h) ordered,
       )
 
   chosen-near : all (near (r .event)) (chosen how h) ≡ true
-  unfolding chosen methodOf methodBy rulesOf highXofY
+  unfolding chosen methodOf methodBy
   chosen-near =
-      all-take (near (r .event)) (how .taken (length (window how h))) (sortBy (higher r) (window how h))
-      (all-sorted (higher r) (near (r .event)) (window how h) ∙ window-near)
+      let size = length (window how h) in
+      all-take (near (r .event)) (how .taken size) (drop (how .passed size) (sortBy (higher r) (window how h)))
+      (all-drop (near (r .event)) (how .passed size) (sortBy (higher r) (window how h)) (all-sorted (higher r) (near (r .event)) (window how h) ∙ window-near))
 
   chosen-few : length (chosen how h) ≤ 5
-  unfolding chosen methodOf methodBy rulesOf highXofY
-  chosen-few = rw length-take (omega (arith, taken-most (ltb (length (window how h)) (N g)) (N g), five-most g))
-
-  window-few : length (window how h) ≤ 15
-  unfolding window methodOf methodBy rulesOf highXofY
-  window-few = simp (length-append, length-take) (omega (arith, ten-most g))
+  chosen-few = chosen-five (group moves) r h
 
   whole-small : wholeReach how ≤ 4294967295
   unfolding wholeReach methodOf methodBy
   whole-small = omega arith
 
   reach-small : reach how h ≤ 4294967295
-  unfolding reach wholeReach methodOf methodBy rulesOf highXofY
+  unfolding reach wholeReach methodOf methodBy
   reach-small =
       omega (
         arith,
-        either-less (eqb (length (window how h)) (Y g)) (r .event) (leastOf (r .event) (daysOf (window how h)))
+        either-less (eqb (length (window how h)) (how .most)) (r .event) (leastOf (r .event) (daysOf (window how h)))
             (leastOf (r .event) (relevantDays (group moves) r)),
       )
 
@@ -192,33 +179,44 @@ module _ (moves : List ℕ) (t : Table) (r : Request) (few-marks : length (t .ma
   abbrev end : ℕ
   end = adjustmentEnd r (ruler yesterday today)
 
-  adjusted-small : mag (adjustment (N g) (A (ruler yesterday today) end) (B (r .event) (chosen how h) end)) < 2 ^ 63
+  abbrev adj : ℤ
+  adj = adjustment (length (chosen how h)) (A (ruler yesterday today) end) (B (r .event) (chosen how h) end)
+
+  adjusted-small : mag adj < 2 ^ 63
   unfolding B
   adjusted-small =
       let own = ruler-most (yesterday .readings) (today .readings) end (day-small (r .event - 1)) (day-small (r .event)) in
       let each : (q : ℕ) → S (r .event) (chosen how h) q ≤ 4294967295 * length (chosen how h) = λ q. S-most (r .event) (chosen how h) q chosen-near in
       let sums = sum-of-each (S (r .event) (chosen how h)) (4294967295 * length (chosen how h)) each (places 12 (end - 12)) in
-      mag-difference (N g * A (ruler yesterday today) end) (B (r .event) (chosen how h) end) (2 ^ 63)
-      (omega (arith, five-times g (A (ruler yesterday today) end) 51539607540 own))
+      mag-difference (length (chosen how h) * A (ruler yesterday today) end) (B (r .event) (chosen how h) end) (2 ^ 63)
+      (omega (arith, mul-le-mul-right (A (ruler yesterday today) end) chosen-few, own))
       (omega (arith, chosen-few, rw length-places at sums))
 
+  parts-most : (b : Bool) (n : ℕ) → n ≤ 5 → cond b 1 12 * n ≤ 60
+  parts-most true n e = omega arith
+  parts-most false n e = omega arith
+
+  answer-near : (x : ℤ) → mag x < 2 ^ 63 → Near (closing (chose (daysOf (chosen how h)) (reach how h) (some (baselineAt r (chosen how h) x))))
+  unfolding closing baselineAt
+  answer-near x e =
+      record {
+        days = days-small (r .event) early (chosen how h) chosen-near;
+        reach = reach-small;
+        denominator = parts-most (isAverage r) (length (chosen how h)) chosen-few;
+        adjusted = e;
+      }
+
   closing-near : Near (closing (outcome how h))
-  unfolding closing outcome methodOf methodBy rulesOf highXofY baseline baselineAt
-  closing-near = go (isShort how h) (eqb (how .taken (length (window how h))) 0) (eqb end 0)
+  unfolding closing outcome methodOf methodBy baseline adjustingBy adjusting
+  closing-near = go (isShort how h) (eqb (how .taken (length (window how h))) 0) (isAverage r) (eqb end 0)
     where
-      go : (x y z : Bool) → Near (closing (cond x (short (wholeReach how)) (cond y (few (length (window how h)) (reach how h))
-          (chose (daysOf (chosen how h)) (reach how h)
-          (cond z none (some (baselineAt r (N g) (chosen how h) (adjustment (N g) (A (ruler yesterday today) end) (B (r .event) (chosen how h) end)))))))))
-      go true y z = one-small (wholeReach how) whole-small
-      go false true z = two-small (length (window how h)) (reach how h) (omega (arith, window-few)) reach-small
-      go false false true = one-small (reach how h) reach-small
-      go false false false =
-          record {
-            days = days-small (r .event) early (chosen how h) chosen-near;
-            reach = reach-small;
-            denominator = omega (arith, five-most g);
-            adjusted = adjusted-small;
-          }
+      go : (x y v z : Bool) → Near (closing (cond x (short (wholeReach how)) (cond y (few (length (window how h)) (reach how h))
+          (chose (daysOf (chosen how h)) (reach how h) (baselineBy r (chosen how h) (cond v (some (pos 0)) (cond z none (some adj))))))))
+      go true y v z = one-small (wholeReach how) whole-small
+      go false true v z = two-small (length (window how h)) (reach how h) (omega (arith, window-ten (group moves) r h)) reach-small
+      go false false true z = answer-near (pos 0) (omega arith)
+      go false false false true = one-small (reach how h) reach-small
+      go false false false false = answer-near adj adjusted-small
 
   table-small : all carry-small (tableRefusals t) ≡ true
   unfolding tableRefusals all carry-small
