@@ -46,8 +46,27 @@ static size_t change_moves(uint8_t *data, size_t size, size_t most, unsigned see
     return size + count * MOVE_BYTES;
 }
 
+/* The event that is asked for gets a method, mostly one that there is; half the time P is put about seven days before it, where Average X of Y has an
+ * edge. */
+static size_t change_method(uint8_t *data, size_t size, unsigned seed)
+{
+    struct plain_file shape;
+    size_t offset;
+    uint8_t *event;
+    uint32_t day;
+    if (plain_read(data + 2, size - 2, &shape, &offset) || shape.events == 0)
+        return size;
+    data[0] = (uint8_t)(data[0] % shape.events);
+    event = data + 2 + offset - EVENT_BYTES * (size_t)(shape.events - data[0]);
+    event[7] = (uint8_t)(seed % 16 < 15 ? seed % 2 : seed / 16);
+    day = (event[2] | (uint32_t)event[3] << 8) - 4 - seed / 32 % 6;
+    if (seed / 256 % 2 == 0)
+        data[4] = (uint8_t)day, data[5] = (uint8_t)(day >> 8);
+    return size;
+}
+
 /* Three times in four a few bytes are changed where they stand, so that the file stays as laid down; half of these among the first records' heads or
- * the last events. Sometimes its moves are changed instead. */
+ * the last events. Sometimes its moves or an event's method are changed instead. */
 size_t LLVMFuzzerCustomMutator(uint8_t *data, size_t size, size_t most, unsigned seed)
 {
     size_t at, length = 1 + seed / 8 % 4, turn = seed / 64;
@@ -55,6 +74,8 @@ size_t LLVMFuzzerCustomMutator(uint8_t *data, size_t size, size_t most, unsigned
         return LLVMFuzzerMutate(data, size, most);
     if (seed / 4 % 2 == 0 && seed / 32 % 2 == 0)
         return change_moves(data, size, most, seed / 64);
+    if (seed >> 28 == 0)
+        return change_method(data, size, seed / 64);
     at = seed % 4 == 1 ? turn % 16 : seed % 4 == 2 ? size - 1 - turn % 16 : turn % size;
     LLVMFuzzerMutate(data + at, length < size - at ? length : size - at, length < size - at ? length : size - at);
     return size;
@@ -77,7 +98,7 @@ static size_t room_of(uint8_t byte, uint32_t length)
 }
 
 /* NAMES: one more than there are. TURNS: an input asks for every fourth name, because each costs a whole call. */
-enum { NAMES = HP_MOVE_TO + 2, TURNS = 4 };
+enum { NAMES = HP_EVENT_METHOD + 2, TURNS = 4 };
 
 /* The numbers that are due by name: of a refusal, which the others add to. */
 static void tell_refusal(int64_t told[NAMES], uint32_t number, const uint64_t *carried, uint32_t carries)
@@ -118,6 +139,7 @@ static void same_event(const uint8_t *file, size_t length, size_t place, uint32_
         told[HP_EVENT_START] = event->s;
         told[HP_EVENT_END] = event->e;
         told[HP_EVENT_NOTICE] = event->n;
+        told[HP_EVENT_METHOD] = event->method;
     }
     for (name = turn; name < NAMES; name += TURNS)
         SAME(hp_event(file, length, place, name) == told[name]);
@@ -245,16 +267,16 @@ static void same_table(const struct plain_event *event, size_t room, uint32_t tu
     struct plain_answer answer;
     memset(due, UNTOUCHED, sizeof due);
     memset(out, UNTOUCHED, sizeof out);
-    number = plain_baseline(v->first, v->marks, v->days, v->readings, v->count, v->moves, v->moved, v->p, event->d, event->s, event->e, event->n, due,
-                            room, &answer);
-    SAME(hp_baseline_table(v->first, v->marks, v->days, v->readings, v->count, v->moves, v->moved, v->p, event->d, event->s, event->e, event->n, out,
-                           room) == number);
+    number = plain_baseline(v->first, v->marks, v->days, v->readings, v->count, v->moves, v->moved, v->p, event->d, event->s, event->e, event->n,
+                            event->method, due, room, &answer);
+    SAME(hp_baseline_table(v->first, v->marks, v->days, v->readings, v->count, v->moves, v->moved, v->p, event->d, event->s, event->e, event->n,
+                           event->method, out, room) == number);
     SAME(memcmp(out, due, sizeof out) == 0);
     tell(told, plain_baseline(v->first, v->marks, v->days, v->readings, v->count, v->moves, v->moved, v->p, event->d, event->s, event->e, event->n,
-                              due, QUARTERS, &answer), &answer);
+                              event->method, due, QUARTERS, &answer), &answer);
     for (name = turn; name < NAMES; name += TURNS)
         SAME(hp_told_table(v->first, v->marks, v->days, v->readings, v->count, v->moves, v->moved, v->p, event->d, event->s, event->e, event->n,
-                           name) == told[name]);
+                           event->method, name) == told[name]);
 }
 
 /* The values' list with one number changed, or longer or shorter; the four bytes are the portfolio's number, which plays no other part. */
@@ -285,14 +307,16 @@ static uint32_t mixed(const uint8_t *from, size_t size)
     return mix;
 }
 
-/* The values' table elsewhere in the calendar, and moves of holidays about the event there to days about it. */
+/* The values' table elsewhere in the calendar, moves of holidays about the event there to days about it, P at the start or about seven days before the
+ * event, and any method, mostly one that there is. */
 static void change_place(struct plain_event *event, uint32_t mix)
 {
     uint32_t place = event->d - values.first, i;
     values.first = mix % (HP_LAST_DAY + 1);
-    values.p = 0;
     values.moved = 2 * (mix / 65536 % (HP_MOST_MOVES + 1));
     event->d = values.first + place;
+    event->method = mix >> 28 > 0 ? mix / 64 % 2 : mix;
+    values.p = mix / 128 % 2 == 0 || event->d < 10 ? 0 : event->d - 4 - mix / 256 % 6;
     for (i = 0; i < values.moved / 2; i++) {
         values.moves[2 * i] = holiday((uint32_t)hp_date(event->d) / 10000, i + mix / 256);
         values.moves[2 * i + 1] = event->d - (mix / 4096 + 7 * i) % 64;
@@ -313,9 +337,9 @@ static void take_events(const uint8_t *from, size_t size, size_t numbers)
     size_t i, place = from[16];
     values.numbers = numbers;
     for (i = 0; i < numbers; i++)
-        values.events[i] = from[i % size] | (i % 4 == 0 ? (uint32_t)from[(i + 1) % size] << 8 : 0);
+        values.events[i] = from[i % size] | (i % EVENT_NUMBERS == 0 ? (uint32_t)from[(i + 1) % size] << 8 : 0);
     if (place < numbers)
-        values.events[place] = number_at(from + 12, values.events[place], place % 4 == 0 ? 65535 : 255);
+        values.events[place] = number_at(from + 12, values.events[place], place % EVENT_NUMBERS == 0 ? 65535 : 255);
 }
 
 /* So many numbers of moves; one of them may not be the usual. */
@@ -350,18 +374,18 @@ static void same_values(const uint8_t *from, size_t size, uint8_t turn)
     if (size < 20)
         return;
     take_table(from, size);
-    take_events(from, size, from[17] < 200 ? 4 * (from[18] % (HP_MOST_EVENTS + 2u)) : from[18]);
+    take_events(from, size, from[17] < 200 ? EVENT_NUMBERS * (from[18] % (HP_MOST_EVENTS + 2u)) : from[18]);
     take_moves(from, size, from[17] < 200 ? 2 * (from[19] % (HP_MOST_MOVES + 2u)) : from[19] % (2 * HP_MOST_MOVES + 3u));
     values.p = number_at(from, word_at(from) & 65535, 65535);
     values.portfolio = word_at(from + 4);
     values.first = values.days == 0 ? number_at(from + 8, 0, 0) : number_at(from + 8, word_at(from + 8) & 65535, 65536 - (uint32_t)values.days);
-    same_write(8 + MOVE_BYTES * (values.moved / 2) + DAY_BYTES * values.days + EVENT_BYTES * (values.numbers / 4) + turn % 3 - 1);
+    same_write(8 + MOVE_BYTES * (values.moved / 2) + DAY_BYTES * values.days + EVENT_BYTES * (values.numbers / EVENT_NUMBERS) + turn % 3 - 1);
 }
 
 int LLVMFuzzerTestOneInput(const uint8_t *data, size_t size)
 {
     struct plain_file shape;
-    struct plain_event event = {0, 0, 0, 0};
+    struct plain_event event = {0, 0, 0, 0, 0};
     size_t offset, place, length;
     uint32_t refused, number, turn;
     uint8_t *file;

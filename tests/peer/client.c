@@ -133,13 +133,14 @@ static void lend_moves(struct peer_call *c, const uint32_t *moves, size_t moves_
     c->moves_len = moves_len;
 }
 
-static void ask(struct peer_call *c, uint32_t participation, uint32_t event, uint32_t s, uint32_t e, uint32_t n)
+static void ask(struct peer_call *c, uint32_t participation, uint32_t event, uint32_t s, uint32_t e, uint32_t n, uint32_t method)
 {
     c->participation = participation;
     c->event = event;
     c->s = s;
     c->e = e;
     c->n = n;
+    c->method = method;
 }
 
 uint32_t hp_baseline(const uint8_t *file, size_t file_len, size_t event_place, uint8_t *out, size_t out_len)
@@ -158,22 +159,22 @@ int64_t hp_told(const uint8_t *file, size_t file_len, size_t event_place, uint32
 
 uint32_t hp_baseline_table(uint32_t first_day, const uint8_t *marks, size_t marks_len, const uint32_t *readings, size_t readings_len,
                            const uint32_t *moves, size_t moves_len, uint32_t participation_day, uint32_t event_day,
-                           uint32_t event_start, uint32_t event_end, uint32_t notice, uint32_t *out, size_t out_len)
+                           uint32_t event_start, uint32_t event_end, uint32_t notice, uint32_t method, uint32_t *out, size_t out_len)
 {
     struct peer_call *c = begin_table(PEER_BASELINE_TABLE, first_day, marks, marks_len, readings, readings_len);
     lend_moves(c, moves, moves_len);
-    ask(c, participation_day, event_day, event_start, event_end, notice);
+    ask(c, participation_day, event_day, event_start, event_end, notice, method);
     c->out_len = out_len;
     return (uint32_t)carry(c, out, 4 * out_len);
 }
 
 int64_t hp_told_table(uint32_t first_day, const uint8_t *marks, size_t marks_len, const uint32_t *readings, size_t readings_len,
                       const uint32_t *moves, size_t moves_len, uint32_t participation_day, uint32_t event_day, uint32_t event_start,
-                      uint32_t event_end, uint32_t notice, uint32_t name)
+                      uint32_t event_end, uint32_t notice, uint32_t method, uint32_t name)
 {
     struct peer_call *c = begin_table(PEER_TOLD_TABLE, first_day, marks, marks_len, readings, readings_len);
     lend_moves(c, moves, moves_len);
-    ask(c, participation_day, event_day, event_start, event_end, notice);
+    ask(c, participation_day, event_day, event_start, event_end, notice, method);
     c->name = name;
     return carry(c, NULL, 0);
 }
@@ -230,7 +231,7 @@ int64_t hp_write(uint32_t participation_day, uint32_t portfolio, uint32_t first_
 int64_t hp_day(uint32_t year, uint32_t month, uint32_t day)
 {
     struct peer_call *c = begin_file(PEER_DAY, NULL, 0, 0);
-    ask(c, 0, 0, year, month, day);
+    ask(c, 0, 0, year, month, day, 0);
     return carry(c, NULL, 0);
 }
 

@@ -14,10 +14,10 @@ static int64_t carry_out(struct peer_call *c)
         return hp_told(c->file, c->file_len, c->place, c->name);
     case PEER_BASELINE_TABLE:
         return hp_baseline_table(c->first, c->file, c->file_len, c->readings, c->readings_len, c->moves, c->moves_len, c->participation, c->event,
-                                 c->s, c->e, c->n, (uint32_t *)(void *)c->out, c->out_len);
+                                 c->s, c->e, c->n, c->method, (uint32_t *)(void *)c->out, c->out_len);
     case PEER_TOLD_TABLE:
         return hp_told_table(c->first, c->file, c->file_len, c->readings, c->readings_len, c->moves, c->moves_len, c->participation, c->event, c->s,
-                             c->e, c->n, c->name);
+                             c->e, c->n, c->method, c->name);
     case PEER_DAY_PART:
         return hp_day_part(c->first, c->file, c->file_len, c->readings, c->readings_len, c->event);
     case PEER_FILE:

@@ -11,7 +11,7 @@ enum peer_entry { PEER_BASELINE, PEER_TOLD, PEER_BASELINE_TABLE, PEER_TOLD_TABLE
 
 struct peer_call {
     uint32_t entry, name;
-    uint32_t first, participation, event, s, e, n, portfolio;
+    uint32_t first, participation, event, s, e, n, method, portfolio;
     uint64_t file_len, place, out_len, readings_len, moves_len, events_len;
     int64_t given;         /* what the entry gives back */
     uint8_t file[PEER_IN]; /* or the marks */

@@ -1,7 +1,8 @@
 //! The proved entries over a record file, beside the reference.
 
-use crate::lists::{count_event, count_file};
+use crate::lists::{count_event, count_file, number};
 use crate::met::Counts;
+use crate::methods;
 use crate::told::{some_names, Told, MOVE};
 use crate::writing::{self, compare_again};
 use crate::{begins, same, PlainAnswer, QUARTERS};
@@ -95,7 +96,8 @@ fn expected_output(result: &Result<Answer, Refusal>, room: usize) -> (u32, Vec<u
     }
 }
 
-/// How often each outcome was met: answers by group of the event day, refusals by number, what comes of moves, listings, and files written again.
+/// How often each outcome was met: answers by group of the event day, refusals by number, what comes of moves, the rows of Average X of Y, listings, and
+/// files written again.
 #[derive(Default, Debug, Clone)]
 pub struct Met {
     pub weekdays: u64,
@@ -104,6 +106,7 @@ pub struct Met {
     pub refused: [u64; 15],
     pub moves: Counts,
     pub moved_events: Counts,
+    pub averages: Counts,
     pub listed: u64,
     pub written: u64,
 }
@@ -190,6 +193,9 @@ pub fn compare(file: &[u8], seed: u64, met: &mut Met) -> Result<(), String> {
         met.count(&read, place, &result);
         if let Ok(contents) = &read {
             count_event(contents, place, room / 4, &result, &mut met.moved_events);
+            if let Some(request) = contents.events.get(place) {
+                methods::count_event(contents.table.view(), &contents.moves, request, number(&result), &mut met.averages);
+            }
         }
         let told = match result {
             Err(Refusal::Room) => Told::of(&expected_result(&read, place, 4 * QUARTERS)),

@@ -3,6 +3,7 @@
 pub mod files;
 pub mod lists;
 pub mod met;
+pub mod methods;
 pub mod probe;
 pub mod program;
 pub mod shrink;
@@ -49,11 +50,14 @@ macro_rules! over_a_table {
 }
 
 over_a_table! {
-    hp_baseline_table(moves: *const u32, moves_len: usize, p: u32, d: u32, s: u32, e: u32, n: u32, out: *mut u32, room: usize) -> u32;
-    hp_told_table(moves: *const u32, moves_len: usize, p: u32, d: u32, s: u32, e: u32, n: u32, name: u32) -> i64;
+    hp_baseline_table(
+        moves: *const u32, moves_len: usize, p: u32, d: u32, s: u32, e: u32, n: u32, method: u32, out: *mut u32, room: usize
+    ) -> u32;
+    hp_told_table(moves: *const u32, moves_len: usize, p: u32, d: u32, s: u32, e: u32, n: u32, method: u32, name: u32) -> i64;
     hp_day_part(day: u32) -> i64;
     plain_baseline(
-        moves: *const u32, moves_len: usize, p: u32, d: u32, s: u32, e: u32, n: u32, out: *mut u32, room: usize, answer: *mut PlainAnswer
+        moves: *const u32, moves_len: usize, p: u32, d: u32, s: u32, e: u32, n: u32, method: u32, out: *mut u32, room: usize,
+        answer: *mut PlainAnswer
     ) -> u32;
 }
 
@@ -103,16 +107,16 @@ fn lent(moves: &[u32]) -> *const u32 {
 
 /// 0 or the refusal number, and an output of so many words after the call.
 pub fn proved(table: &Table, moves: &[u32], request: &Request, room: usize) -> (u32, Vec<u32>) {
-    let Request { p, d, s, e, n } = *request;
+    let Request { p, d, s, e, n, method } = *request;
     let mut out = vec![UNTOUCHED; room];
-    let number = call!(hp_baseline_table, table, lent(moves), moves.len(), p, d, s, e, n, out.as_mut_ptr(), room);
+    let number = call!(hp_baseline_table, table, lent(moves), moves.len(), p, d, s, e, n, method, out.as_mut_ptr(), room);
     (number, out)
 }
 
 /// What is told of the result by a name.
 pub fn proved_told(table: &Table, moves: &[u32], request: &Request, name: u32) -> i64 {
-    let Request { p, d, s, e, n } = *request;
-    call!(hp_told_table, table, lent(moves), moves.len(), p, d, s, e, n, name)
+    let Request { p, d, s, e, n, method } = *request;
+    call!(hp_told_table, table, lent(moves), moves.len(), p, d, s, e, n, method, name)
 }
 
 /// The place of a day's first reading, or nothing.
@@ -123,10 +127,10 @@ pub fn proved_part(table: &Table, day: u32) -> i64 {
 /// The plain C version: its number and output, and what it tells.
 pub fn plain(call: &Draft) -> ((u32, Vec<u32>), Told) {
     let Draft { table, moves, request, room } = call;
-    let Request { p, d, s, e, n } = *request;
+    let Request { p, d, s, e, n, method } = *request;
     let mut out = vec![UNTOUCHED; *room];
     let mut answer = PlainAnswer::default();
-    let number = call!(plain_baseline, table, lent(moves), moves.len(), p, d, s, e, n, out.as_mut_ptr(), *room, &mut answer);
+    let number = call!(plain_baseline, table, lent(moves), moves.len(), p, d, s, e, n, method, out.as_mut_ptr(), *room, &mut answer);
     ((number, out), Told::of_plain(number, &answer))
 }
 
@@ -158,14 +162,22 @@ fn expected_part(table: &Table, day: u32) -> i64 {
     reference::day_part(table.view(), day).map_or(NOTHING, |part| part.start as i64)
 }
 
+/// How often each outcome of a call was met: of lists, and of methods.
+#[derive(Default)]
+pub struct Met {
+    pub lists: Counts,
+    pub methods: methods::Met,
+}
+
 /// Compares one generated call, what is told of it and the part of a day; gives its number, 0 for an answer.
-pub fn compare(seed: u64, met: &mut Counts) -> Result<u32, String> {
+pub fn compare(seed: u64, met: &mut Met) -> Result<u32, String> {
     let call = reference::gen_call(seed);
     let number = compare_call(&call, seed).map_err(|difference| {
         let Draft { request, moves, .. } = &call;
         format!("seed {seed}: {request:?}, moves {moves:?}: {difference}")
     })?;
-    lists::count_call(&call, number, met);
+    lists::count_call(&call, number, &mut met.lists);
+    methods::count_call(&call, number, &mut met.methods);
     Ok(number)
 }
 

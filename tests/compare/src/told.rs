@@ -9,7 +9,7 @@ use reference::{Answer, Refusal};
 pub const NOTHING: i64 = i64::MIN;
 
 /// How many names there are, from 0 on.
-pub const NAMES: usize = 24;
+pub const NAMES: usize = 25;
 
 /// The first names of each kind; those of a kind follow one another. tests/c/header.cpp holds the header to the same numbers.
 const RESULT: usize = 0;
@@ -21,6 +21,7 @@ const FILE: usize = 12;
 const EVENT: usize = 17;
 const FILE_MOVES: usize = 21;
 pub const MOVE: usize = 22;
+pub const EVENT_METHOD: usize = 24;
 
 /// The numbers by name.
 #[derive(Clone, Copy, PartialEq, Eq, Debug)]
@@ -76,6 +77,7 @@ impl Told {
         let mut told = Told::of_refusal(event.as_ref().err());
         if let Ok(r) = event {
             told.put(EVENT, [r.d, r.s, r.e, r.n].map(i64::from));
+            told.put(EVENT_METHOD, [i64::from(r.method)]);
         }
         told
     }

@@ -194,7 +194,7 @@ impl Case<'_> {
 type Outcome = (&'static str, fn(&Case) -> bool);
 
 /// What has to come up: each side of each edge, each reason alone, and refusals that go before others.
-const OUTCOMES: [Outcome; 53] = [
+const OUTCOMES: [Outcome; 57] = [
     ("written with just enough room", |c| c.written() && c.room == c.values.length()),
     ("with more", |c| c.written() && c.room > c.values.length()),
     ("with no days", |c| c.written() && c.days() == 0),
@@ -215,6 +215,8 @@ const OUTCOMES: [Outcome; 53] = [
     ("with s 255", |c| c.written() && c.has(1, 255)),
     ("with e 255", |c| c.written() && c.has(2, 255)),
     ("with n 255", |c| c.written() && c.has(3, 255)),
+    ("with method 1", |c| c.written() && c.has(4, 1)),
+    ("with method 255", |c| c.written() && c.has(4, 255)),
     ("with a bad mark", |c| c.written() && c.values.table.marks.iter().any(|mark| mark & !(EVENT | OUTAGE) != 0)),
     ("with a reading of 10,000,001", |c| c.written() && c.values.table.readings.contains(&(HIGHEST + 1))),
     ("with one below the missing mark", |c| c.written() && c.values.table.readings.contains(&(MISSING - 1))),
@@ -223,7 +225,7 @@ const OUTCOMES: [Outcome; 53] = [
     ("1 for a reading too many", |c| c.misshapen_by(1)),
     ("1 for readings and no days", |c| c.days() == 0 && c.given == -1),
     ("13 for 65 events", |c| c.for_alone(Reason::Events) && c.events() == MOST_EVENTS + 1),
-    ("13 for an event cut", |c| c.for_alone(Reason::Fours)),
+    ("13 for an event cut", |c| c.for_alone(Reason::Fives)),
     ("13 for 17 moves", |c| c.for_alone(Reason::Moves) && c.moves() == MOST_MOVES + 1),
     ("13 for a move cut", |c| c.for_alone(Reason::Twos)),
     ("13 for first day 65,536", |c| c.for_alone(Reason::First) && c.first_day(65_536)),
@@ -238,6 +240,8 @@ const OUTCOMES: [Outcome; 53] = [
     ("13 for s 256", |c| c.for_alone(Reason::S) && c.has(1, 256)),
     ("13 for e 256", |c| c.for_alone(Reason::E) && c.has(2, 256)),
     ("13 for n 256", |c| c.for_alone(Reason::N) && c.has(3, 256)),
+    ("13 for method 256", |c| c.for_alone(Reason::Method) && c.has(4, 256)),
+    ("13 for a higher method", |c| c.for_alone(Reason::Method) && c.has(4, u32::MAX)),
     ("13 for no days and F 1", |c| c.for_alone(Reason::NoDays) && c.values.table.first == 1),
     ("13 for no days and another F", |c| c.for_alone(Reason::NoDays) && c.values.table.first > 1),
     ("7 for one byte", |c| c.given == -7 && c.room + 1 == c.values.length()),

@@ -4,6 +4,7 @@
 use compare::files::{proved_event, proved_file, proved_listing, MOST_LISTING};
 use compare::probe::{Event, Standing};
 use compare::proved_date;
+use compare::told::EVENT_METHOD;
 use reference::record::{read, Contents};
 use reference::table::{EVENT, MISSING, OUTAGE};
 use reference::{Request, Table};
@@ -299,9 +300,10 @@ fn worked(file: &[u8], event: &Event, kind: &str, only_relevant: bool) -> Vec<St
 fn event(file: &[u8], place: usize) -> Event {
     let told = |name: u32| proved_event(file, place, name) as u32;
     let [d, s, e, n] = [0, 1, 2, 3].map(|name| told(EVENT_DAY + name));
+    let method = told(EVENT_METHOD as u32);
     let p = proved_file(file, FILE_PARTICIPATION) as u32;
     let Contents { table, moves, .. } = read(file).expect("a record file");
-    Event { table, moves, request: Request { p, d, s, e, n } }
+    Event { table, moves, request: Request { p, d, s, e, n, method } }
 }
 
 #[test]

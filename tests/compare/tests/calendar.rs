@@ -4,6 +4,7 @@ use compare::program::root;
 use compare::told::NOTHING;
 use compare::{expected_output, proved, proved_date, proved_day, proved_version};
 use reference::calendar::{dates, fixed_holidays, Date, LAST_DAY};
+use reference::table::{AVERAGE, HIGH};
 use reference::{verdict, Request, Table};
 use std::collections::{HashMap, HashSet};
 
@@ -40,7 +41,7 @@ fn every_date_has_its_day() {
 #[test]
 fn every_day_in_a_list() {
     let table = Table { first: 0, marks: vec![0], readings: vec![1000; 96] };
-    let ask = Request { p: 0, d: 0, s: 152, e: 156, n: 148 };
+    let ask = Request { p: 0, d: 0, s: 152, e: 156, n: 148, method: HIGH };
     let fixed: HashSet<u32> = fixed_holidays().iter().copied().collect();
     let number = |moves: &[u32]| proved(&table, moves, &ask, 4).0;
     for day in (0..=LAST_DAY + 1_000).chain([65_535, 65_536, 1 << 31, u32::MAX]) {
@@ -49,7 +50,7 @@ fn every_day_in_a_list() {
     }
 }
 
-/// Each fixed-date holiday moved, with events on the day, right after it and at the ends of the look-back.
+/// Each fixed-date holiday moved, with events by both methods on the day, right after it and at the ends of the look-back.
 #[test]
 fn every_fixed_holiday_moved() {
     let mut answered = 0;
@@ -58,16 +59,17 @@ fn every_fixed_holiday_moved() {
             let first = d.saturating_sub(47);
             let readings = (first..=d).flat_map(|day| [1000 + day % 10; 96]).collect();
             let table = Table { first, marks: vec![0; (d - first + 1) as usize], readings };
-            let ask = Request { p: 0, d, s: 152, e: 156, n: 148 };
-            for second in [holiday, holiday + 1, d.saturating_sub(1), d, LAST_DAY] {
+            let seconds = [holiday, holiday + 1, d.saturating_sub(1), d, LAST_DAY];
+            for (second, method) in seconds.into_iter().flat_map(|second| [(second, HIGH), (second, AVERAGE)]) {
+                let ask = Request { p: 0, d, s: 152, e: 156, n: 148, method };
                 let moves = [holiday, second];
                 let due = expected_output(&verdict(table.view(), &moves, &ask, 4), 4);
-                assert_eq!(proved(&table, &moves, &ask, 4), due, "event day {d}, moves {moves:?}");
+                assert_eq!(proved(&table, &moves, &ask, 4), due, "event day {d}, moves {moves:?}, method {method}");
                 answered += u32::from(due.0 == 0);
             }
         }
     }
-    assert!(answered > 20_000, "{answered}");
+    assert!(answered > 40_000, "{answered}");
 }
 
 #[test]

@@ -1,8 +1,7 @@
 //! The proved call and the reference agree: every number, and every word of the output.
 
-use compare::met::Counts;
 use compare::told::{some_names, Told, NAMES};
-use compare::{compare, expected_output, plain};
+use compare::{compare, expected_output, plain, Met};
 use reference::{gen_call, verdict};
 
 /// As many calls as are compared at each run; `cargo run --release --bin search` goes on.
@@ -11,16 +10,18 @@ const CALLS: u64 = 300_000;
 #[test]
 fn generated_calls_agree() {
     let mut outcomes = [0u64; 15];
-    let mut lists = Counts::default();
+    let mut met = Met::default();
     for seed in 0..CALLS {
-        match compare(seed, &mut lists) {
+        match compare(seed, &mut met) {
             Ok(number) => outcomes[number as usize] += 1,
             Err(difference) => panic!("{difference}"),
         }
     }
-    println!("{CALLS} calls from seed 0: {outcomes:?}; of those with a list: {lists:?}");
+    let Met { lists, methods } = met;
+    println!("{CALLS} calls from seed 0: {outcomes:?}; of those with a list: {lists:?}; by their methods: {methods:?}");
     assert!(outcomes[..=10].iter().all(|&n| n > 1000) && outcomes[14] > 1000, "each outcome occurs: {outcomes:?}");
     assert!(lists.least() > 100, "each outcome of a list occurs: {lists:?}");
+    assert!(methods.rows.least() > 500 && methods.least_others() > 100, "each outcome of a method occurs: {methods:?}");
 }
 
 /// Each name, and one that there is not, is asked for at thousands of calls.

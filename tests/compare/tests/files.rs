@@ -28,7 +28,7 @@ fn generated_files_agree() {
         check(&format!("file-{seed}"), &file, seed, &mut met);
     }
     println!("{FILES} files, seeds 0 to {}, {large} of over 40 days, the longest {longest} bytes: {met:?}", FILES - 1);
-    assert!(met.least() > 500 && met.least_moves() > 100, "each outcome occurs: {met:?}");
+    assert!(met.least() > 500 && met.least_moves() > 100 && met.averages.least() > 100, "each outcome occurs: {met:?}");
     assert!(large > 2_000 && longest >= 8 + 128 * 390 && met.listed > 10_000 && met.written > 100_000);
 }
 

@@ -1,15 +1,17 @@
-//! 01, "Checks on both sides of each line", the tables of 003 and the lines of 02's order 2, with their answers as they are written there, through
-//! every entry of the archive and through the program.
+//! 01, "Checks on both sides of each line", the tables of 003, the lines of 02's orders 2 and 3 and the tables of 001's section 3.2.2, with their
+//! answers as they are written there, through every entry of the archive and through the program.
 
 #[path = "../../reference/tests/common/mod.rs"]
 mod common;
 
-use common::{august, flat, request, set_day, set_mark, set_reading, worked_file, worked_table, TABLE_5, WORKED};
+use common::{august, average, flat, request, set_day, set_mark, set_reading, worked_file, worked_table, TABLE_5, WORKED};
 use compare::program::{prints, program, run};
-use compare::told::{every_name, Told, DAYS};
+use compare::told::{every_name, Told, DAYS, EVENT_METHOD};
+use compare::writing::{self, compare_again};
 use compare::{begins, files, proved, proved_part, proved_told, UNTOUCHED};
-use reference::table::MISSING;
-use reference::writer::{day_records, event_record, head_record, move_records};
+use reference::record::read;
+use reference::table::{EVENT, MISSING, OUTAGE};
+use reference::writer::{day_records, head_record, method_record, move_records};
 use reference::{Request, Table};
 
 /// What a line says of a call.
@@ -75,8 +77,8 @@ fn check_by(moves: &[u32], table: &Table, request: &Request, due: &Due) {
     assert_eq!(proved(table, moves, request, room), (due.number(), words), "hp_baseline_table: {request:?}, moves {moves:?}");
     due.told().check("hp_told_table", &every_name(), |name| proved_told(table, moves, request, name)).unwrap();
 
-    let Request { p, d, s, e, n } = *request;
-    let event = event_record(d as u16, s as u8, e as u8, n as u8);
+    let Request { p, d, s, e, n, method } = *request;
+    let event = method_record(d as u16, s as u8, e as u8, n as u8, method as u8);
     let records = [move_records(moves), day_records(table), vec![event]].concat();
     let file = [head_record(p as u16, 77), records.concat()].concat();
     let bytes = begins(&files::bytes_of(&numerators), files::FILL, 4 * room);
@@ -319,4 +321,292 @@ fn first_day_is_event_day() {
     let table = flat(of_august(28), of_august(28), 1000);
     check(&table, &at_three(of_august(28), of_august(28)), &Refused(9, &[0, 0]));
     check(&table, &at_three(of_august(29), of_august(28)), &Refused(6, &[]));
+}
+
+/// 1000 kW at each quarter, of two days without adjustment.
+const THOUSAND_AVERAGED: [(u32, u32); 4] = [(2000, 1000); 4];
+
+fn of_september(date: u32) -> u32 {
+    9009 + date
+}
+
+/// Lets each of these days be the highest and then the lowest: other days are averaged where it is one of the window, and only then. The window is
+/// given the nearest day first, and so many ranks are passed over.
+fn check_averaged_window(table: &Table, d: u32, days: impl Iterator<Item = u32>, window: &[u32], passed: usize) {
+    for (day, reading) in days.flat_map(|day| [(day, 1012), (day, 988)]) {
+        let mut table = table.clone();
+        for quarter in 56..60 {
+            set_reading(&mut table, day, quarter, reading);
+        }
+        let (of_window, mut ranked): (Vec<u32>, Vec<u32>) = window.iter().partition(|&&other| other == day);
+        let place = if reading > 1000 { 0 } else { ranked.len() };
+        ranked.splice(place..place, of_window);
+        let averaged = [0, 1].map(|rank| proved_told(&table, &[], &average(6900, d), DAYS as u32 + rank));
+        assert_eq!(averaged, [ranked[passed], ranked[passed + 1]].map(i64::from), "{day} at {reading}");
+    }
+}
+
+/// 001, Table 8, with events on 7 and 23 August: the ten days of 28 August and of 23 August, of which the 5th and 6th are averaged.
+#[test]
+fn days_of_001_s_table_8() {
+    let table = august(of_july(1));
+    let windows = [(28, 19, AUGUST_WINDOW), (23, 17, [21, 20, 19, 16, 14, 13, 12, 9, 8, 6])];
+    for (date, reach, window) in windows {
+        let window = window.map(of_august);
+        check(&table, &average(8700, of_august(date)), &Answered(&window[4..6], reach, 2, 0, &THOUSAND_AVERAGED));
+        check_averaged_window(&table, of_august(date), of_july(15)..of_august(date), &window, 4);
+    }
+    check(&august(of_august(9)), &average(8700, of_august(28)), &Answered(&[19, 16].map(of_august), 19, 2, 0, &THOUSAND_AVERAGED));
+    check(&august(of_august(10)), &average(8700, of_august(28)), &Refused(8, &[44]));
+}
+
+/// 001, Table 10: Saturday 14 September 2024, and Sunday the 22nd, whose window leaves 25 August out; the 2nd and 3rd are averaged.
+#[test]
+fn days_of_001_s_table_10() {
+    let mut table = flat(of_july(1), of_september(22), 1000);
+    set_mark(&mut table, of_august(25), EVENT);
+    let saturdays = [of_september(7), of_august(31), of_august(24), of_august(17)];
+    let sundays = [of_september(15), of_september(8), of_september(1), of_august(18)];
+    for (date, reach, window) in [(14, 28, saturdays), (22, 35, sundays)] {
+        let d = of_september(date);
+        check(&table, &average(8700, d), &Answered(&window[1..3], reach, 2, 0, &THOUSAND_AVERAGED));
+        check_averaged_window(&table, d, d - 50..d, &window, 1);
+        let mut held = flat(d - reach, d, 1000);
+        set_mark(&mut held, of_august(25), EVENT);
+        check(&held, &average(8700, d), &Answered(&window[1..3], reach, 2, 0, &THOUSAND_AVERAGED));
+    }
+    let mut held = flat(of_august(18), of_september(14), 1000);
+    check(&held, &average(8700, of_september(14)), &Refused(8, &[42]));
+    held.marks.fill(OUTAGE);
+    check(&held, &average(8700, of_september(14)), &Refused(8, &[42]));
+}
+
+/// 001, Tables 11 to 13, in kW: ranks 5 and 6 are Day 7 and Day 5, and the averages 5.10, 7.00, 5.80 and 5.75 MW.
+#[test]
+fn averages_of_001_s_tables_11_to_13() {
+    let mut table = august(of_july(1));
+    for (date, readings) in AUGUST_WINDOW.into_iter().zip(TABLE_5) {
+        for (quarter, reading) in (56..).zip(readings) {
+            set_reading(&mut table, of_august(date), quarter, reading);
+        }
+    }
+    let averages = [(10_200, 5100), (14_000, 7000), (11_600, 5800), (11_500, 5750)];
+    let due = Answered(&[14, 19].map(of_august), 19, 2, 0, &averages);
+    check(&table, &average(8700, of_august(28)), &due);
+    for day in [27, 28].map(of_august) {
+        set_day(&mut table, day, MISSING);
+    }
+    check(&table, &average(8700, of_august(28)), &due);
+    check(&table, &at_three(8700, of_august(28)), &Refused(10, &[19]));
+}
+
+/// An event by Average X of Y, with these days eligible, those spare and all others out; from 1000 kW, 60 days before it, each day is 10 kW above the
+/// one before.
+struct Short {
+    table: Table,
+    d: u32,
+}
+
+impl Short {
+    fn new(d: u32, eligible: &[u32], spare: &[u32]) -> Short {
+        let mut table = flat(d - 60, d, 1000);
+        for (place, day) in (d - 60..=d).enumerate() {
+            set_day(&mut table, day, 1000 + 10 * place as u32);
+        }
+        table.marks.fill(OUTAGE);
+        for (days, mark) in [(eligible, 0), (spare, EVENT)] {
+            for &day in days {
+                set_mark(&mut table, day, mark);
+            }
+        }
+        Short { table, d }
+    }
+
+    /// With P so many days before the event these days are averaged, the reach is this, and each quarter has this numerator and rounded kW.
+    fn averages(&self, back: u32, days: &[u32], reach: u32, quarter: (u32, u32)) -> &Short {
+        check(&self.table, &average(self.d - back, self.d), &Answered(days, reach, days.len() as u32, 0, &[quarter; 4]));
+        self
+    }
+
+    /// Refused 9.
+    fn leaves_none(&self, back: u32, size: u64, reach: u64) -> &Short {
+        check(&self.table, &average(self.d - back, self.d), &Refused(9, &[size, reach]));
+        self
+    }
+}
+
+/// Weekdays before Wednesday 28 August 2024.
+const WEEKDAYS: [u32; 11] = [26, 23, 22, 21, 20, 19, 16, 14, 13, 12, 9];
+
+fn wednesday(eligible: &[u32], spare: &[u32]) -> Short {
+    let days = |dates: &[u32]| dates.iter().map(|&date| of_august(date)).collect::<Vec<_>>();
+    Short::new(of_august(28), &days(eligible), &days(spare))
+}
+
+/// A weekday with ten eligible days or more: the 5th and 6th; with four to nine: the 2nd and 3rd, and the reach is to the oldest relevant day.
+#[test]
+fn weekdays_with_days_enough() {
+    let (fifth_and_sixth, second_and_third) = ([20, 19].map(of_august), [23, 22].map(of_august));
+    for eligible in [10, 11] {
+        wednesday(&WEEKDAYS[..eligible], &[8]).averages(300, &fifth_and_sixth, 16, (3030, 1515));
+    }
+    for eligible in [9, 5, 4] {
+        wednesday(&WEEKDAYS[..eligible], &[8, 7]).averages(300, &second_and_third, 44, (3090, 1545));
+    }
+    wednesday(&WEEKDAYS[..4], &[]).averages(7, &second_and_third, 7, (3090, 1545));
+}
+
+/// Fewer than four eligible weekdays, and the latest spare ones up to four in all, however high an older one is.
+#[test]
+fn weekdays_with_spare_days() {
+    let second_and_third = [23, 22].map(of_august);
+    for eligible in [3, 2, 1, 0] {
+        wednesday(&WEEKDAYS[..eligible], &WEEKDAYS[eligible..4]).averages(300, &second_and_third, 44, (3090, 1545));
+        let mut more = wednesday(&WEEKDAYS[..eligible], &WEEKDAYS[eligible..7]);
+        set_day(&mut more.table, of_august(WEEKDAYS[4]), 5000);
+        more.averages(300, &second_and_third, 44, (3090, 1545));
+        let mut highest = wednesday(&WEEKDAYS[..eligible], &WEEKDAYS[eligible..4]);
+        set_day(&mut highest.table, of_august(21), 5001);
+        highest.averages(300, &[26, 23].map(of_august), 44, (3130, 1565));
+    }
+}
+
+/// Three weekdays in all, of which the highest is left out, and two, with P seven days before the event and with six; with one there is none.
+#[test]
+fn weekdays_with_three_two_and_one() {
+    for eligible in [3, 2, 1, 0] {
+        let three = wednesday(&WEEKDAYS[..eligible], &WEEKDAYS[eligible..3]);
+        three.averages(7, &[23, 22].map(of_august), 7, (3090, 1545)).averages(8, &[23, 22].map(of_august), 8, (3090, 1545));
+        three.averages(300, &[23, 22].map(of_august), 44, (3090, 1545)).leaves_none(6, 3, 6);
+    }
+    for eligible in [2, 1, 0] {
+        let two = wednesday(&WEEKDAYS[..eligible], &WEEKDAYS[eligible..2]);
+        two.averages(7, &[26, 23].map(of_august), 7, (3130, 1565)).averages(300, &[26, 23].map(of_august), 44, (3130, 1565));
+        two.leaves_none(6, 2, 6).leaves_none(5, 2, 5);
+    }
+    for eligible in [1, 0] {
+        let one = wednesday(&WEEKDAYS[..eligible], &WEEKDAYS[eligible..1]);
+        one.leaves_none(2, 1, 2).leaves_none(6, 1, 6).leaves_none(7, 1, 7).leaves_none(300, 1, 44);
+    }
+    wednesday(&[], &[]).leaves_none(0, 0, 0).leaves_none(1, 0, 0).leaves_none(6, 0, 6).leaves_none(7, 0, 7).leaves_none(300, 0, 44);
+}
+
+/// Four weekdays are enough with six days: those before a Monday.
+#[test]
+fn weekdays_before_a_monday() {
+    let days = [23, 22, 21, 20].map(of_august);
+    for eligible in [4, 3, 0] {
+        Short::new(of_august(26), &days[..eligible], &days[eligible..]).averages(6, &days[1..3], 6, (3110, 1555));
+    }
+    Short::new(of_august(26), &days[..3], &[]).leaves_none(6, 3, 6);
+}
+
+/// Saturdays: the 2nd and 3rd of four and of three, both of two, one; event days are not taken.
+#[test]
+fn saturdays_of_every_number() {
+    let days = [of_september(7), of_august(31), of_august(24), of_august(17), of_august(10)];
+    let short = |eligible: usize| Short::new(of_september(14), &days[..eligible], &days[eligible..]);
+    short(5).averages(300, &days[1..3], 28, (2850, 1425));
+    short(4).averages(300, &days[1..3], 28, (2850, 1425));
+    short(3).averages(300, &days[1..3], 42, (2850, 1425));
+    short(2).averages(300, &days[..2], 42, (2990, 1495));
+    short(1).averages(300, &days[..1], 42, (1530, 1530)).averages(7, &days[..1], 7, (1530, 1530)).leaves_none(6, 0, 0);
+    short(0).leaves_none(300, 0, 42).leaves_none(7, 0, 7);
+}
+
+/// The holiday group has days within the week: Easter Monday 2024 has 5, 4, 3 and 1 May, and of these one alone needs seven days.
+#[test]
+fn holidays_within_the_week() {
+    let days = [5, 4, 3, 1].map(of_may);
+    let short = |eligible: usize| Short::new(of_may(6), &days[..eligible], &[]);
+    short(4).averages(5, &days[1..3], 5, (3150, 1575));
+    short(3).averages(3, &days[1..3], 3, (3150, 1575)).averages(6, &days[1..3], 5, (3150, 1575));
+    short(2).averages(2, &days[..2], 2, (3170, 1585)).averages(6, &days[..2], 5, (3170, 1585));
+    short(1).leaves_none(1, 1, 1).leaves_none(6, 1, 5).averages(7, &days[..1], 5, (1590, 1590)).averages(8, &days[..1], 8, (1590, 1590));
+    short(0).leaves_none(6, 0, 5).leaves_none(7, 0, 5);
+}
+
+/// Equal sums put the day nearer D first: at ranks 4 and 5, 5 and 6, 6 and 7, and at all of them.
+#[test]
+fn ties_about_the_averaged() {
+    let ties = |ranks: [u32; 10], places: [usize; 2], numerator: u32| {
+        let mut short = wednesday(&WEEKDAYS[..10], &[]);
+        for (date, rank) in WEEKDAYS.into_iter().zip(ranks) {
+            set_day(&mut short.table, of_august(date), 2000 - 10 * rank);
+        }
+        short.averages(300, &places.map(|place| of_august(WEEKDAYS[place])), 16, (numerator, numerator.div_ceil(2)));
+    };
+    ties([10, 9, 8, 7, 6, 5, 4, 3, 2, 1], [5, 4], 3890);
+    ties([10, 9, 8, 7, 6, 4, 4, 3, 2, 1], [6, 4], 3900);
+    ties([10, 9, 8, 7, 5, 5, 4, 3, 2, 1], [4, 5], 3900);
+    ties([10, 9, 8, 6, 6, 5, 4, 3, 2, 1], [5, 3], 3890);
+    ties([10, 9, 8, 5, 5, 5, 5, 3, 2, 1], [4, 5], 3900);
+    ties([5; 10], [4, 5], 3900);
+}
+
+/// A half is rounded up.
+#[test]
+fn halves_of_two_days() {
+    let mut short = wednesday(&WEEKDAYS[..4], &[]);
+    set_day(&mut short.table, of_august(23), 1551);
+    short.averages(300, &[23, 22].map(of_august), 44, (3091, 1546));
+}
+
+/// "`EV`'s zero byte becomes the request's method" and "an unknown method is 4": every byte, through each entry and the program, and written again.
+#[test]
+fn every_method_of_a_file() {
+    let table = august(of_july(1));
+    let head = [head_record(8700, 77), day_records(&table).concat()].concat();
+    let asks = (0..=255).map(|method| Request { method, ..at_three(8700, of_august(28)) });
+    let dues = [
+        Answered(&[26, 22, 21, 20, 19].map(of_august), 19, 60, 0, &THOUSAND),
+        Answered(&[19, 16].map(of_august), 19, 2, 0, &THOUSAND_AVERAGED),
+        Refused(4, &[]),
+    ];
+    for asks in asks.collect::<Vec<_>>().chunks(64) {
+        let mut file = head.clone();
+        let mut text = format!("portfolio 77 from 8700 held {} {}\n", table.first, table.marks.len());
+        for ask in asks {
+            file.extend(method_record(ask.d as u16, 152, 156, 148, ask.method as u8));
+            text += &dues[ask.method.min(2) as usize].lines(ask);
+        }
+        check_listing(&file, &text);
+        for (place, ask) in asks.iter().enumerate() {
+            let due = &dues[ask.method.min(2) as usize];
+            let bytes = begins(&files::bytes_of(&due.numerators()), files::FILL, 16);
+            assert_eq!(files::proved(&file, place, 16), (due.number(), bytes), "{ask:?}");
+            assert_eq!(files::proved_event(&file, place, EVENT_METHOD as u32), i64::from(ask.method));
+            due.told().check("hp_told", &every_name(), |name| files::proved_told(&file, place, name)).unwrap();
+        }
+        compare_again(&file, &read(&file).unwrap(), "hp_write", writing::proved).unwrap();
+    }
+}
+
+/// An unknown method is tested with the places of the event, after the list and before the event day; n is tested by either method.
+#[test]
+fn refusals_of_a_method() {
+    let table = august(of_july(1));
+    let unknown = |d| Request { method: 2, ..at_three(8700, d) };
+    check(&table, &unknown(of_august(28)), &Refused(4, &[]));
+    check(&table, &unknown(of_august(29)), &Refused(4, &[]));
+    check(&table, &average(8700, of_august(29)), &Refused(5, &[]));
+    check_by(&[of_august(14), 0], &table, &unknown(of_august(29)), &Refused(14, &[]));
+    check_by(&[of_august(15), 0], &table, &unknown(of_august(28)), &Refused(4, &[]));
+    let at = |n| Request { n, ..average(8700, of_august(28)) };
+    let due = Answered(&[19, 16].map(of_august), 19, 2, 0, &THOUSAND_AVERAGED);
+    for n in [0, 11, 12, 152] {
+        check(&table, &at(n), &due);
+    }
+    check(&table, &at(153), &Refused(4, &[]));
+}
+
+/// Over a table a method is any number of 32 bits.
+#[test]
+fn methods_of_a_table() {
+    let table = august(of_july(1));
+    let number = |method| proved(&table, &[], &Request { method, ..at_three(8700, of_august(28)) }, 4).0;
+    assert_eq!([0, 1].map(number), [0, 0]);
+    for method in (2..1_000).chain((16..32).flat_map(|bit| [1 << bit, (1 << bit) + 1])).chain([u32::MAX - 1, u32::MAX]) {
+        assert_eq!(number(method), 4, "method {method}");
+    }
 }

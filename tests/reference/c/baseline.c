@@ -11,7 +11,9 @@ enum {
     LOOK_BACK = 45,
     TWELVE = 12,
     EVENT = 1,
-    OUTAGE = 2
+    OUTAGE = 2,
+    AVERAGE = 1,
+    MOST_RANKS = 6
 };
 
 #define HIGHEST 10000000u
@@ -19,8 +21,8 @@ enum {
 
 /* Days by their distance before D, the highest sum first. */
 struct ranked {
-    uint32_t sum[5];
-    uint32_t back[5];
+    uint32_t sum[MOST_RANKS];
+    uint32_t back[MOST_RANKS];
     uint32_t count;
 };
 
@@ -298,6 +300,31 @@ static void add_spares(const struct event *event, uint64_t days, uint32_t most,
         insert(list, most, spare.sum[i], spare.back[i]);
 }
 
+/* Average X of Y: a weekday with fewer than four eligible days has the latest
+ * spare ones too, up to four in all; gives the size of the window. */
+static uint32_t add_latest(const struct event *event, uint64_t days, int weekday,
+                           uint32_t eligible, struct ranked *list)
+{
+    uint32_t farthest;
+    if (!weekday || eligible >= 4)
+        return eligible;
+    return eligible + rank_days(event, days, EVENT, 4 - eligible, MOST_RANKS, list, &farthest);
+}
+
+/* Average X of Y: leaves of a window of so many days those that are averaged;
+ * `seven` is whether there are seven days of data. Gives 0 where there are none. */
+static int take_middle(struct ranked *list, uint32_t size, int weekday, int seven)
+{
+    uint32_t least = weekday ? (seven ? 2 : 4) : (seven ? 1 : 2);
+    uint32_t passed = size == 10 ? 4 : size > 2, i;
+    if (size < least)
+        return 0;
+    list->count = size < 2 ? 1 : 2;
+    for (i = 0; i < list->count; i++)
+        list->back[i] = list->back[i + passed];
+    return 1;
+}
+
 /* The end of the latest twelve present quarters that end at or before s, or 0. */
 static uint32_t latest_twelve(const uint32_t *ruler, uint32_t s)
 {
@@ -355,8 +382,22 @@ static void write_numerators(const struct event *event, const struct ranked *lis
     }
 }
 
+/* The sum of one or two days at each quarter of the event. */
+static void write_sums(const struct event *event, const struct ranked *list,
+                       uint32_t *out)
+{
+    uint32_t length = event->end - event->start, t;
+    const uint32_t *part;
+    memcpy(out, day_part(event, list->back[0]) + event->start, length * sizeof *out);
+    if (list->count < 2)
+        return;
+    part = day_part(event, list->back[1]) + event->start;
+    for (t = 0; t < length; t++)
+        out[t] += part[t];
+}
+
 static void write_answer(struct plain_answer *answer, const struct ranked *list,
-                         uint32_t d, uint32_t reach, int32_t adj)
+                         uint32_t d, uint32_t reach, uint32_t over, int32_t adj)
 {
     uint32_t i;
     memset(answer, 0, sizeof *answer);
@@ -364,7 +405,7 @@ static void write_answer(struct plain_answer *answer, const struct ranked *list,
         answer->days[i] = d - list->back[i];
     answer->count = list->count;
     answer->reach = reach;
-    answer->denominator = 12 * list->count;
+    answer->denominator = over;
     answer->adjustment = adj;
 }
 
@@ -390,13 +431,13 @@ uint32_t plain_baseline(uint32_t first, const uint8_t *marks, size_t days,
                         const uint32_t *readings, size_t count,
                         const uint32_t *moves, size_t moves_len, uint32_t p,
                         uint32_t d, uint32_t s, uint32_t e, uint32_t n,
-                        uint32_t *out, size_t room,
+                        uint32_t method, uint32_t *out, size_t room,
                         struct plain_answer *answer)
 {
     struct ranked list = {{0}, {0}, 0};
     struct event event;
     uint64_t relevant, held;
-    uint32_t refused, before, y, most, eligible, oldest, reach, end;
+    uint32_t refused, before, y, most, eligible, size, oldest, reach, end;
     uint32_t farthest = 0;
     int32_t adj;
     int weekday;
@@ -406,7 +447,7 @@ uint32_t plain_baseline(uint32_t first, const uint8_t *marks, size_t days,
         return refused;
     if (!good_moves(moves, moves_len))
         return refuse(answer, 14, 0, 0, 0);
-    if (p > LAST_DAY || s < 96 || s > 191 || e <= s || e > 192 || n > s)
+    if (p > LAST_DAY || s < 96 || s > 191 || e <= s || e > 192 || n > s || method > AVERAGE)
         return refuse(answer, 4, 0, 0, 0);
     if (d < first || d - first >= days)
         return refuse(answer, 5, 0, 0, 0);
@@ -425,15 +466,23 @@ uint32_t plain_baseline(uint32_t first, const uint8_t *marks, size_t days,
     held = relevant;
     if (before < LOOK_BACK)
         held &= ((uint64_t)2 << before) - 1;
-    y = weekday ? 10 : 3;
-    most = weekday ? 5 : 2;
+    y = weekday ? 10 : method == AVERAGE ? 4 : 3;
+    most = method == AVERAGE ? (weekday ? MOST_RANKS : 3) : (weekday ? 5 : 2);
 
     eligible = rank_days(&event, held, 0, y, most, &list, &farthest);
     if (eligible < y && oldest > before)
         return refuse(answer, 8, 1, oldest, 0);
+    reach = eligible == y ? farthest : oldest;
+    if (method == AVERAGE) {
+        size = add_latest(&event, held, weekday, eligible, &list);
+        if (!take_middle(&list, size, weekday, d - p >= 7))
+            return refuse(answer, 9, 2, size, reach);
+        write_sums(&event, &list, out);
+        write_answer(answer, &list, d, reach, list.count, 0);
+        return 0;
+    }
     if (eligible < most)
         add_spares(&event, held, most, &list);
-    reach = eligible == y ? farthest : oldest;
     if (list.count < most)
         return refuse(answer, 9, 2, list.count, reach);
     end = adjustment_end(day_part(&event, 1), s, n);
@@ -442,6 +491,6 @@ uint32_t plain_baseline(uint32_t first, const uint8_t *marks, size_t days,
 
     adj = adjustment(&event, &list, end);
     write_numerators(&event, &list, adj, out);
-    write_answer(answer, &list, d, reach, adj);
+    write_answer(answer, &list, d, reach, 12 * list.count, adj);
     return 0;
 }

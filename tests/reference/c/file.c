@@ -1,5 +1,5 @@
-/* The record file and the host entry (document 01, with order 2's moves) and the writer (order 1), in plain C99, written from 01, the orders and the
- * headers alone. */
+/* The record file and the host entry (document 01, with order 2's moves and order 3's method) and the writer (order 1), in plain C99, written from 01,
+ * the orders and the headers alone. */
 #include "file.h"
 
 #include <string.h>
@@ -62,7 +62,7 @@ uint32_t plain_read(const uint8_t *file, size_t length, struct plain_file *shape
         days++;
         at += DY_SIZE;
     }
-    while (events < MOST_EVENTS && stands(file, length, at, EV_SIZE, "EV") && file[at + 7] == 0) {
+    while (events < MOST_EVENTS && stands(file, length, at, EV_SIZE, "EV")) {
         events++;
         at += EV_SIZE;
     }
@@ -91,6 +91,7 @@ struct plain_event plain_event_at(const uint8_t *file, const struct plain_file *
     event.s = record[4];
     event.e = record[5];
     event.n = record[6];
+    event.method = record[7];
     return event;
 }
 
@@ -137,8 +138,8 @@ static int events_fit(const uint32_t *events, size_t events_len)
     uint32_t beyond = 0;
     size_t i;
 
-    for (i = 0; i < events_len; i += 4)
-        beyond |= events[i] >> 16 | (events[i + 1] | events[i + 2] | events[i + 3]) >> 8;
+    for (i = 0; i < events_len; i += 5)
+        beyond |= events[i] >> 16 | (events[i + 1] | events[i + 2] | events[i + 3] | events[i + 4]) >> 8;
     return beyond == 0;
 }
 
@@ -183,12 +184,12 @@ static void put_events(uint8_t *record, const uint32_t *events, size_t events_le
 {
     size_t i;
 
-    for (i = 0; i < events_len; i += 4, record += EV_SIZE) {
+    for (i = 0; i < events_len; i += 5, record += EV_SIZE) {
         put_head(record, "EV", events[i]);
         record[4] = (uint8_t)events[i + 1];
         record[5] = (uint8_t)events[i + 2];
         record[6] = (uint8_t)events[i + 3];
-        record[7] = 0;
+        record[7] = (uint8_t)events[i + 4];
     }
 }
 
@@ -200,13 +201,13 @@ int64_t plain_write(uint32_t p, uint32_t portfolio, uint32_t first, const uint8_
 
     if (days > MOST_DAYS || count != QUARTERS * days)
         return -1;
-    if (events_len > 4 * MOST_EVENTS || events_len % 4 != 0 || p > 65535 || !events_fit(events, events_len))
+    if (events_len > 5 * MOST_EVENTS || events_len % 5 != 0 || p > 65535 || !events_fit(events, events_len))
         return -13;
     if (moves_len > 2 * MOST_MOVES || moves_len % 2 != 0 || !moves_fit(moves, moves_len))
         return -13;
     if (days == 0 ? first != 0 : first > 65536 - days)
         return -13;
-    length = PF_SIZE + MV_SIZE * (moves_len / 2) + DY_SIZE * days + EV_SIZE * (events_len / 4);
+    length = PF_SIZE + MV_SIZE * (moves_len / 2) + DY_SIZE * days + EV_SIZE * (events_len / 5);
     if (room < length)
         return -7;
     put_head(out, "PF", p);
@@ -238,7 +239,7 @@ uint32_t plain_host(const uint8_t *file, size_t length, size_t place, uint8_t *o
     plain_load_moves(file, &shape, moves);
     plain_load(file, &shape, marks, readings);
     number = plain_baseline(shape.first, marks, shape.days, readings, (size_t)QUARTERS * shape.days, moves, (size_t)2 * shape.moves, shape.p,
-                            event.d, event.s, event.e, event.n, numerators, fit, answer);
+                            event.d, event.s, event.e, event.n, event.method, numerators, fit, answer);
     if (number)
         return number;
     if (FILE_ORDER)

@@ -1,5 +1,5 @@
-/* The record file and the host entry (document 01, with order 2's moves) and the writer (order 1), in plain C99: the measure for speed, and the
- * fuzzer's second opinion. */
+/* The record file and the host entry (document 01, with order 2's moves and order 3's method) and the writer (order 1), in plain C99: the measure for
+ * speed, and the fuzzer's second opinion. */
 #ifndef PLAIN_FILE_H
 #define PLAIN_FILE_H
 
@@ -17,7 +17,7 @@ struct plain_file {
 
 /* An event of a file. */
 struct plain_event {
-    uint32_t d, s, e, n;
+    uint32_t d, s, e, n, method;
 };
 
 /* 0, or 11 and the offset of the record that is not as laid down. */
@@ -33,7 +33,7 @@ void plain_load_moves(const uint8_t *file, const struct plain_file *shape, uint3
 void plain_load(const uint8_t *file, const struct plain_file *shape, uint8_t marks[128], uint32_t readings[128 * 96]);
 
 /* Writes a record file: its length, with the file at the start of `out`, or minus the refusal number (1, 13, 7) and all of `out` is kept. `moves`
- * has two numbers for each moved holiday, `events` four for each event: D, s, e, n. */
+ * has two numbers for each moved holiday, `events` five for each event: D, s, e, n and the method. */
 int64_t plain_write(uint32_t p, uint32_t portfolio, uint32_t first, const uint8_t *marks, size_t days, const uint32_t *readings, size_t count,
                     const uint32_t *moves, size_t moves_len, const uint32_t *events, size_t events_len, uint8_t *out, size_t room);
 

@@ -44,7 +44,8 @@ static inline void plain_list(FILE *to, const uint8_t *file, size_t length)
     for (place = 0; place < shape.events; place++) {
         struct plain_event event = plain_event_at(file, &shape, place);
         uint32_t number = plain_baseline(shape.first, marks, shape.days, readings, (size_t)96 * shape.days, moves,
-                                         (size_t)2 * shape.moves, shape.p, event.d, event.s, event.e, event.n, out, 96, &answer);
+                                         (size_t)2 * shape.moves, shape.p, event.d, event.s, event.e, event.n, event.method, out, 96,
+                                         &answer);
         if (number)
             plain_list_refusal(to, &event, number, &answer);
         else

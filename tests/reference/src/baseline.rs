@@ -1,9 +1,10 @@
-//! Adjustment, baseline and the whole call (01, "Adjustment and baseline").
+//! Adjustment, baseline and the whole call (01, "Adjustment and baseline"; 02,
+//! order 3, for the baseline without adjustment).
 
-use crate::choice::choose;
+use crate::choice::{choose, Choice};
 use crate::moves::check_moves;
 use crate::refusal::Refusal;
-use crate::table::{check_request, check_table, Request, View, MISSING, QUARTERS};
+use crate::table::{check_request, check_table, Request, View, AVERAGE, MISSING, QUARTERS};
 use std::ops::Range;
 
 /// Ruler quarters in an adjustment window.
@@ -15,9 +16,9 @@ pub struct Answer {
     /// The chosen days in rank order.
     pub days: Vec<u32>,
     pub reach: u32,
-    /// 12N: 60 or 24.
+    /// 12N, which is 60 or 24; of Average X of Y the number averaged, 2 or 1.
     pub denominator: u32,
-    /// N·A - B, over the denominator.
+    /// N·A - B, over the denominator; of Average X of Y 0.
     pub adjustment: i64,
     /// One for each quarter of the event, over the denominator.
     pub numerators: Vec<u32>,
@@ -95,19 +96,52 @@ pub fn verdict(
     check_moves(moves)?;
     check_request(view, request, room)?;
     let choice = choose(view, moves, request)?;
-    let reach = u64::from(choice.reach);
-    let twelve = adjustment_window(view, request).ok_or(Refusal::NoAdjustment { reach })?;
-    let (a, b) = window_sums(view, request.d, &choice.days, twelve);
-    let n = choice.days.len() as i64;
-    let numerators = (request.s..request.e)
-        .map(|t| baseline_numerator(n, chosen_sum(view, &choice.days, t), a, b))
+    match request.method {
+        AVERAGE => Ok(average_answer(view, request, choice)),
+        _ => high_answer(view, request, choice),
+    }
+}
+
+/// At each quarter of the event the numerator that its S(t) gives.
+fn numerators(
+    view: View,
+    request: &Request,
+    days: &[u32],
+    numerator: impl Fn(i64) -> i64,
+) -> Vec<u32> {
+    (request.s..request.e)
+        .map(|t| numerator(chosen_sum(view, days, t)))
         .map(|numerator| u32::try_from(numerator).expect("never above 1,200,000,000"))
-        .collect();
+        .collect()
+}
+
+/// High X of Y: with the adjustment, or refusal 10.
+fn high_answer(view: View, request: &Request, choice: Choice) -> Result<Answer, Refusal> {
+    let Choice { days, reach, .. } = choice;
+    let no_adjustment = Refusal::NoAdjustment {
+        reach: u64::from(reach),
+    };
+    let twelve = adjustment_window(view, request).ok_or(no_adjustment)?;
+    let (a, b) = window_sums(view, request.d, &days, twelve);
+    let n = days.len() as i64;
     Ok(Answer {
-        reach: choice.reach,
-        denominator: 12 * choice.days.len() as u32,
+        reach,
+        denominator: 12 * days.len() as u32,
         adjustment: adjustment_numerator(n, a, b),
-        numerators,
-        days: choice.days,
+        numerators: numerators(view, request, &days, |s| baseline_numerator(n, s, a, b)),
+        days,
     })
+}
+
+/// Average X of Y: "average them per quarter, without adjustment"; "numerators
+/// are over the number averaged, and the listing's adj is 0".
+fn average_answer(view: View, request: &Request, choice: Choice) -> Answer {
+    let Choice { days, reach, .. } = choice;
+    Answer {
+        reach,
+        denominator: days.len() as u32,
+        adjustment: 0,
+        numerators: numerators(view, request, &days, |s| s),
+        days,
+    }
 }

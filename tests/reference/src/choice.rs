@@ -1,10 +1,13 @@
-//! Choosing the days (01, "Choosing the days"), by a list of moves (02, order 2).
-//! The table, the list and the request have passed refusals 1 to 7 and 14.
+//! Choosing the days (01, "Choosing the days"), by a list of moves (02, order 2)
+//! and by a method (02, order 3; its own rules are in `average`). The table, the
+//! list and the request have passed refusals 1 to 7 and 14.
 
+use crate::average;
 use crate::calendar::{group_of, Group};
 use crate::refusal::Refusal;
-use crate::table::{Request, View, EVENT, MISSING, OUTAGE};
+use crate::table::{Request, View, AVERAGE, EVENT, MISSING, OUTAGE};
 use std::cmp::Reverse;
+use std::ops::RangeInclusive;
 
 /// Days in the look-back.
 pub const LOOK_BACK: u32 = 45;
@@ -19,11 +22,19 @@ pub struct Choice {
     pub reach: u32,
 }
 
-/// Y and N: 10 and 5 for a weekday, 3 and 2 otherwise.
+/// Y and N of High X of Y: 10 and 5 for a weekday, 3 and 2 otherwise.
 pub fn sizes(moves: &[u32], d: u32) -> (usize, usize) {
     match group_of(d, moves) {
         Some(Group::Weekday) => (10, 5),
         _ => (3, 2),
+    }
+}
+
+/// Y by the request's method.
+pub fn most(moves: &[u32], request: &Request) -> usize {
+    match request.method {
+        AVERAGE => average::most(moves, request),
+        _ => sizes(moves, request.d).0,
     }
 }
 
@@ -88,9 +99,17 @@ pub fn ranked(view: View, request: &Request, mut days: Vec<u32>) -> Vec<u32> {
     days
 }
 
-/// The window: the Y most recent eligible days, or all of them, filled up to N
-/// with the highest spare days.
+/// The window by the request's method.
 pub fn window(view: View, moves: &[u32], request: &Request) -> Vec<u32> {
+    match request.method {
+        AVERAGE => average::window(view, moves, request),
+        _ => high_window(view, moves, request),
+    }
+}
+
+/// The window of High X of Y: the Y most recent eligible days, or all of them,
+/// filled up to N with the highest spare days.
+fn high_window(view: View, moves: &[u32], request: &Request) -> Vec<u32> {
     let (y, n) = sizes(moves, request.d);
     let mut window = eligible_days(view, moves, request);
     window.truncate(y);
@@ -112,7 +131,7 @@ fn relevant_reach(moves: &[u32], request: &Request) -> u32 {
 /// D minus the window's oldest day if it holds Y days; otherwise D minus the
 /// oldest relevant day, or 0.
 pub fn reach(moves: &[u32], request: &Request, window: &[u32]) -> u32 {
-    let (y, _) = sizes(moves, request.d);
+    let y = most(moves, request);
     match window.iter().min() {
         Some(oldest) if window.len() == y => request.d - oldest,
         _ => relevant_reach(moves, request),
@@ -121,7 +140,7 @@ pub fn reach(moves: &[u32], request: &Request, window: &[u32]) -> u32 {
 
 /// Refusal 8: eligible held days below Y and a relevant day before F.
 pub fn check_margin(view: View, moves: &[u32], request: &Request) -> Result<(), Refusal> {
-    let (y, _) = sizes(moves, request.d);
+    let y = most(moves, request);
     let few = eligible_days(view, moves, request).len() < y;
     let cut = relevant_days(moves, request)
         .iter()
@@ -133,20 +152,28 @@ pub fn check_margin(view: View, moves: &[u32], request: &Request) -> Result<(), 
     Ok(())
 }
 
-/// Refusals 8 and 9, or the window, the first N of its ranking and the reach.
+/// The ranks that are chosen, from 1, of a window of so many days: of High X of Y
+/// the first N; none where it has too few.
+fn ranks(moves: &[u32], request: &Request, size: usize) -> Option<RangeInclusive<usize>> {
+    let (_, n) = sizes(moves, request.d);
+    match request.method {
+        AVERAGE => average::ranks(moves, request, size),
+        _ => (size >= n).then_some(1..=n),
+    }
+}
+
+/// Refusals 8 and 9, or the window, the chosen of its ranking and the reach.
 pub fn choose(view: View, moves: &[u32], request: &Request) -> Result<Choice, Refusal> {
     check_margin(view, moves, request)?;
-    let (_, n) = sizes(moves, request.d);
     let window = window(view, moves, request);
     let reach = reach(moves, request, &window);
-    if window.len() < n {
-        return Err(Refusal::TooFew {
-            size: window.len() as u64,
-            reach: u64::from(reach),
-        });
-    }
-    let mut days = ranked(view, request, window.clone());
-    days.truncate(n);
+    let too_few = Refusal::TooFew {
+        size: window.len() as u64,
+        reach: u64::from(reach),
+    };
+    let ranks = ranks(moves, request, window.len()).ok_or(too_few)?;
+    let ranked = ranked(view, request, window.clone());
+    let days = ranks.map(|rank| ranked[rank - 1]).collect();
     Ok(Choice {
         window,
         days,

@@ -4,6 +4,7 @@
 mod calls;
 mod files;
 mod look_back;
+mod methods;
 mod moves;
 mod source;
 mod writings;

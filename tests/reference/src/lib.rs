@@ -4,6 +4,7 @@
 //! Nothing here is meant to be fast. Each function follows one clause of them
 //! and names it, so that the two can be laid side by side.
 
+pub mod average;
 pub mod baseline;
 pub mod calendar;
 pub mod choice;

@@ -1,5 +1,5 @@
 //! The record file and the host entry (01, "Record file, listing, host entry";
-//! 02, order 2, for the moves).
+//! 02, order 2, for the moves, and order 3 for the method).
 
 use crate::baseline::{verdict, Answer};
 use crate::moves::{MOST_MOVES, MOVE_NUMBERS};
@@ -67,7 +67,8 @@ fn add_day(table: &mut Table, bytes: &[u8]) {
     debug_assert_eq!(table.readings.len(), QUARTERS * table.marks.len());
 }
 
-/// An EV that may follow the events already read.
+/// An EV that may follow the events already read: "`EV`'s zero byte becomes the
+/// request's method", whatever it is.
 fn next_event(file: &[u8], at: usize, p: u32, events: &[Request]) -> Option<Request> {
     let bytes = record(file, at, b"EV", EV_LENGTH)?;
     let request = Request {
@@ -76,8 +77,9 @@ fn next_event(file: &[u8], at: usize, p: u32, events: &[Request]) -> Option<Requ
         s: u32::from(bytes[4]),
         e: u32::from(bytes[5]),
         n: u32::from(bytes[6]),
+        method: u32::from(bytes[7]),
     };
-    (events.len() < MOST_EVENTS && bytes[7] == 0).then_some(request)
+    (events.len() < MOST_EVENTS).then_some(request)
 }
 
 /// One PF, then up to 16 MV (02, order 2: "between `PF` and `DY`"), then up to

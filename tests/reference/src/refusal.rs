@@ -1,5 +1,5 @@
 //! The refusals and the numbers they carry (01, "Refusal numbers"; 13 and 14 are
-//! 02's).
+//! 02's, and so are the methods).
 
 /// Each refusal is a case of its own.
 #[derive(Clone, Copy, PartialEq, Eq, Debug)]
@@ -10,7 +10,7 @@ pub enum Refusal {
     Mark { place: u64 },
     /// 3: a reading above 10,000,000 that is not the missing mark; its place.
     Reading { place: u64 },
-    /// 4: P, s, e or n out of bounds.
+    /// 4: P, s, e or n out of bounds, or an unknown method (02, order 3).
     Bounds,
     /// 5: D not held.
     NotHeld,
@@ -20,7 +20,8 @@ pub enum Refusal {
     Room,
     /// 8: margin too short; D minus the oldest relevant day.
     Margin { days: u64 },
-    /// 9: window below N; its size and the reach.
+    /// 9: window below N, or none of it to average (02, order 3); its size and
+    /// the reach.
     TooFew { size: u64, reach: u64 },
     /// 10: no adjustment window; the reach.
     NoAdjustment { reach: u64 },

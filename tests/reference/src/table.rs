@@ -17,6 +17,9 @@ pub const MISSING: u32 = 4_294_967_295;
 pub const EVENT: u8 = 1;
 /// Mark bit 1: outage or force majeure.
 pub const OUTAGE: u8 = 2;
+/// The methods (02, order 3): "0 High X of Y, 1 this one", Average X of Y.
+pub const HIGH: u32 = 0;
+pub const AVERAGE: u32 = 1;
 
 /// An extract that owns its bytes.
 #[derive(Clone, PartialEq, Eq, Debug, Default)]
@@ -34,7 +37,8 @@ pub struct View<'a> {
     pub readings: &'a [u32],
 }
 
-/// Participation start P, event day D, and s, e, n on the two-day ruler.
+/// Participation start P, event day D, s, e, n on the two-day ruler, and the
+/// method.
 #[derive(Clone, Copy, PartialEq, Eq, Debug)]
 pub struct Request {
     pub p: u32,
@@ -42,6 +46,7 @@ pub struct Request {
     pub s: u32,
     pub e: u32,
     pub n: u32,
+    pub method: u32,
 }
 
 impl Request {
@@ -144,7 +149,8 @@ fn check_readings(view: View) -> Result<(), Refusal> {
 fn check_bounds(request: &Request) -> Result<(), Refusal> {
     let Request { p, s, e, n, .. } = *request;
     let inside = p <= LAST_DAY && (96..=191).contains(&s) && s < e && e <= 192 && n <= s;
-    if inside {
+    let known = [HIGH, AVERAGE].contains(&request.method);
+    if inside && known {
         Ok(())
     } else {
         Err(Refusal::Bounds)

@@ -1,5 +1,6 @@
-//! The writer of the record file (02, order 1, and order 2 for the moves), and
-//! the records that it writes (01, "Record file, listing, host entry").
+//! The writer of the record file (02, order 1, order 2 for the moves, and order 3
+//! for the method), and the records that it writes (01, "Record file, listing,
+//! host entry").
 
 use crate::moves::{first_days, second_days, MOST_MOVES, MOVE_NUMBERS};
 use crate::record::{Contents, DY_LENGTH, EV_LENGTH, MOST_EVENTS, MV_LENGTH, PF_LENGTH};
@@ -24,8 +25,14 @@ pub fn day_record(day: u16, mark: u8, readings: &[u32]) -> Record {
     record
 }
 
+/// An event by High X of Y, whose method is the zero that 01 has there.
 pub fn event_record(d: u16, s: u8, e: u8, n: u8) -> Record {
-    [&b"EV"[..], &d.to_le_bytes(), &[s, e, n, 0]].concat()
+    method_record(d, s, e, n, 0)
+}
+
+/// An event by any method.
+pub fn method_record(d: u16, s: u8, e: u8, n: u8, method: u8) -> Record {
+    [&b"EV"[..], &d.to_le_bytes(), &[s, e, n, method]].concat()
 }
 
 /// The days of a table.
@@ -44,8 +51,8 @@ pub fn move_records(moves: &[u32]) -> Vec<Record> {
         .collect()
 }
 
-/// The numbers of an event: D, s, e, n.
-pub const EVENT_NUMBERS: usize = 4;
+/// The numbers of an event: D, s, e, n and the method.
+pub const EVENT_NUMBERS: usize = 5;
 
 /// "From P, a portfolio number, an extract and up to 64 events", and the list of
 /// order 2.
@@ -57,7 +64,7 @@ pub struct Values {
     pub table: Table,
     /// The two days of each move, as the C entry takes them.
     pub moves: Vec<u32>,
-    /// D, s, e and n of each event, as the C entry takes them.
+    /// D, s, e, n and the method of each event, as the C entry takes them.
     pub events: Vec<u32>,
 }
 
@@ -66,14 +73,14 @@ pub struct Values {
 pub enum Reason {
     /// More than 64 events.
     Events,
-    /// Not four numbers for each event (include/honeyplank.h).
-    Fours,
+    /// Not five numbers for each event (include/honeyplank.h).
+    Fives,
     /// More than 16 pairs (02, order 2: "the writer gives 13 for it").
     Moves,
     /// Not two numbers for each move (include/honeyplank.h).
     Twos,
     /// A field or day that its bytes can't hold: P, a move's first and second
-    /// day, a held day, D, s, e, n.
+    /// day, a held day, D, s, e, n, the method.
     P,
     First,
     Second,
@@ -82,14 +89,15 @@ pub enum Reason {
     S,
     E,
     N,
+    Method,
     /// No days with F other than 0.
     NoDays,
 }
 
 impl Reason {
-    pub const ALL: [Reason; 13] = [
+    pub const ALL: [Reason; 14] = [
         Reason::Events,
-        Reason::Fours,
+        Reason::Fives,
         Reason::Moves,
         Reason::Twos,
         Reason::P,
@@ -100,6 +108,7 @@ impl Reason {
         Reason::S,
         Reason::E,
         Reason::N,
+        Reason::Method,
         Reason::NoDays,
     ];
 
@@ -115,7 +124,7 @@ impl Reason {
         let mut days = (u64::from(table.first)..).take(table.marks.len());
         match self {
             Reason::Events => events.len() > EVENT_NUMBERS * MOST_EVENTS,
-            Reason::Fours => events.len() % EVENT_NUMBERS != 0,
+            Reason::Fives => events.len() % EVENT_NUMBERS != 0,
             Reason::Moves => moves.len() > MOVE_NUMBERS * MOST_MOVES,
             Reason::Twos => moves.len() % MOVE_NUMBERS != 0,
             Reason::P => u16::try_from(*p).is_err(),
@@ -126,6 +135,7 @@ impl Reason {
             Reason::S => field(1).any(|&s| u8::try_from(s).is_err()),
             Reason::E => field(2).any(|&e| u8::try_from(e).is_err()),
             Reason::N => field(3).any(|&n| u8::try_from(n).is_err()),
+            Reason::Method => field(4).any(|&method| u8::try_from(method).is_err()),
             Reason::NoDays => table.marks.is_empty() && table.first != 0,
         }
     }
@@ -140,7 +150,9 @@ impl Values {
             portfolio: contents.portfolio,
             table: contents.table.clone(),
             moves: contents.moves.clone(),
-            events: events.flat_map(|r| [r.d, r.s, r.e, r.n]).collect(),
+            events: events
+                .flat_map(|r| [r.d, r.s, r.e, r.n, r.method])
+                .collect(),
         }
     }
 
@@ -167,8 +179,8 @@ impl Values {
 
     fn event_records(&self) -> Vec<Record> {
         let record = |event: &[u32]| {
-            let [s, e, n] = [1, 2, 3].map(|place| event[place] as u8);
-            event_record(event[0] as u16, s, e, n)
+            let [s, e, n, method] = [1, 2, 3, 4].map(|place| event[place] as u8);
+            method_record(event[0] as u16, s, e, n, method)
         };
         self.events.chunks(EVENT_NUMBERS).map(record).collect()
     }

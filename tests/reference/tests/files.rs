@@ -255,10 +255,11 @@ fn zero_bytes_and_marks() {
     assert_eq!(altered(398, b'E'), Some(398));
     assert_eq!(altered(398 + 5, 255), Some(398));
     assert_eq!(altered(788 + 1, b'Y'), Some(788));
-    assert_eq!(altered(788 + 7, 1), Some(788));
     assert_eq!(altered(8 + 4, 255), None);
     assert_eq!(altered(8 + 6, 255), None);
     assert_eq!(altered(788 + 6, 255), None);
+    assert_eq!(altered(788 + 7, 1), None);
+    assert_eq!(altered(788 + 7, 255), None);
 }
 
 #[test]

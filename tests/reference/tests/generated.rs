@@ -2,6 +2,7 @@
 //! kind of answer comes up, and no case stops the call.
 
 use reference::record::read;
+use reference::table::AVERAGE;
 use reference::{gen_call, gen_file, gen_writing, host, listing, verdict};
 
 #[test]
@@ -18,9 +19,13 @@ fn seeds_are_kept() {
 fn calls_reach_every_outcome() {
     let mut outcomes = [0; 15];
     let (mut floored, mut falling, mut weekdays) = (0, 0, 0);
+    let mut averaged = [0; 2];
     for seed in 0..40_000 {
         let call = gen_call(seed);
         match verdict(call.table.view(), &call.moves, &call.request, call.room) {
+            Ok(answer) if call.request.method == AVERAGE => {
+                averaged[answer.days.len() - 1] += 1;
+            }
             Ok(answer) => {
                 outcomes[0] += 1;
                 floored += u32::from(answer.numerators.contains(&0));
@@ -31,9 +36,11 @@ fn calls_reach_every_outcome() {
         }
     }
     println!("outcomes {outcomes:?}, floored {floored}, falling {falling}, weekdays {weekdays}");
+    println!("averages of one day and of two {averaged:?}");
     assert!(outcomes[..=10].iter().all(|&count| count > 200) && outcomes[14] > 200);
     assert!([floored, falling, weekdays]
         .iter()
+        .chain(&averaged)
         .all(|&count| count > 200));
 }
 

@@ -1,4 +1,5 @@
-//! Refusals 1 to 10 on both sides of each line, and their order, with no list.
+//! Refusals 1 to 10 of High X of Y on both sides of each line, and their order,
+//! with no list.
 
 mod common;
 
@@ -14,6 +15,7 @@ const ASK: Request = Request {
     s: 152,
     e: 156,
     n: 148,
+    method: 0,
 };
 
 fn held() -> Table {

@@ -1,4 +1,4 @@
-//! The writer (02, order 1, with order 2's list): both sides of each line of its refusals, their
+//! The writer (02, order 1, with order 2's list and order 3's method): both sides of each line of its refusals, their
 //! order, and that writing and reading undo each other.
 
 mod common;
@@ -39,7 +39,7 @@ fn held(first: u32, h: usize) -> Table {
 
 /// So many events.
 fn events(count: usize) -> Vec<u32> {
-    [6972, 152, 156, 148].repeat(count)
+    [6972, 152, 156, 148, 1].repeat(count)
 }
 
 fn values(table: Table, events: Vec<u32>) -> Values {
@@ -69,7 +69,7 @@ fn moves(count: usize) -> Vec<u32> {
 fn worked() -> Values {
     values(
         worked_table(),
-        vec![6972, 152, 156, 148, 6966, 152, 156, 148],
+        vec![6972, 152, 156, 148, 0, 6966, 152, 156, 148, 0],
     )
 }
 
@@ -91,7 +91,9 @@ fn every_byte() {
             readings: (0..192).map(|place| 0x7F6F_5F00 + place).collect(),
         },
         moves: vec![0x1615, 0x1817, 0x1A19, 0x1C1B],
-        events: vec![0x0C0B, 0x0D, 0x0E, 0x0F, 0x1110, 0x12, 0x13, 0x14],
+        events: vec![
+            0x0C0B, 0x0D, 0x0E, 0x0F, 0x1D, 0x1110, 0x12, 0x13, 0x14, 0x1E,
+        ],
     };
     let mut file = b"PF\x01\x02\x03\x04\x05\x06".to_vec();
     file.extend(b"MV\x15\x16\x17\x18MV\x19\x1A\x1B\x1C");
@@ -100,7 +102,7 @@ fn every_byte() {
         let first = 96 * (day - 0xFE);
         file.extend((first..first + 96).flat_map(|place| [place, 0x5F, 0x6F, 0x7F]));
     }
-    file.extend(b"EV\x0B\x0C\x0D\x0E\x0F\0EV\x10\x11\x12\x13\x14\0");
+    file.extend(b"EV\x0B\x0C\x0D\x0E\x0F\x1DEV\x10\x11\x12\x13\x14\x1E");
     assert_eq!(given(&values, ANY), 816);
     assert_eq!(written(&values, 816), Ok(file));
 }
@@ -144,14 +146,14 @@ fn count_of_events() {
 }
 
 #[test]
-fn four_numbers_for_each_event() {
+fn five_numbers_for_each_event() {
     let with = |numbers: usize| {
         let numbers = events(65).into_iter().take(numbers).collect();
         given(&values(held(6951, 1), numbers), ANY)
     };
-    for numbers in 0..=260 {
-        let fits = numbers % 4 == 0 && numbers <= 256;
-        let length = 398 + 2 * numbers as i64;
+    for numbers in 0..=325 {
+        let fits = numbers % 5 == 0 && numbers <= 320;
+        let length = 398 + 8 * (numbers as i64 / 5);
         assert_eq!(with(numbers), if fits { length } else { -13 });
     }
 }
@@ -205,7 +207,7 @@ fn fields() {
         given(&values, ANY)
     };
     assert_eq!([0, 65_536, u32::MAX].map(with_portfolio), [8604; 3]);
-    for place in 0..8 {
+    for place in 0..10 {
         let with = |number| {
             let mut values = worked();
             values.events[place] = number;
@@ -213,7 +215,7 @@ fn fields() {
         };
         assert_eq!([0, 254, 255].map(with), [8604; 3]);
         assert_eq!(above.map(with), [-13; 5]);
-        let wide = if place % 4 == 0 { 8604 } else { -13 };
+        let wide = if place % 5 == 0 { 8604 } else { -13 };
         assert_eq!([256, 257, 511, 512, 65_535].map(with), [wide; 5]);
     }
 }
@@ -287,7 +289,10 @@ fn unwritable() -> Vec<(Reason, Values)> {
     };
     vec![
         (Reason::Events, values(held(6951, 1), events(65))),
-        (Reason::Fours, values(held(6951, 1), vec![6972, 152, 156])),
+        (
+            Reason::Fives,
+            values(held(6951, 1), vec![6972, 152, 156, 148]),
+        ),
         (Reason::Moves, with_moves(moves(17))),
         (Reason::Twos, with_moves(vec![8887])),
         (Reason::First, with_moves(vec![65_536, 0])),
@@ -300,10 +305,11 @@ fn unwritable() -> Vec<(Reason, Values)> {
             },
         ),
         (Reason::Held, values(held(u32::MAX, 2), events(1))),
-        (Reason::D, altered(4, 65_536)),
+        (Reason::D, altered(5, 65_536)),
         (Reason::S, altered(1, 256)),
-        (Reason::E, altered(6, 256)),
+        (Reason::E, altered(7, 256)),
         (Reason::N, altered(3, 256)),
+        (Reason::Method, altered(9, 256)),
         (Reason::NoDays, values(held(1, 0), events(1))),
     ]
 }
@@ -328,9 +334,9 @@ fn order() {
         portfolio: 77,
         table: held(u32::MAX, 129),
         moves: vec![65_536; 35],
-        events: vec![65_536; 261],
+        events: vec![65_536; 326],
     };
-    assert_eq!(every.reasons(), Reason::ALL[..12]);
+    assert_eq!(every.reasons(), Reason::ALL[..13]);
     assert_eq!(given(&every, 0), -1);
 }
 

@@ -2,7 +2,7 @@
 //! differs.
 
 use compare::met::Counts;
-use compare::writing;
+use compare::{writing, Met};
 
 fn main() {
     let mut words = std::env::args().skip(1);
@@ -15,9 +15,9 @@ fn main() {
     };
     let (first, count) = (number(0), number(1_000_000));
     let mut outcomes = [0u64; 15];
-    let (mut lists, mut met) = (Counts::default(), Counts::default());
+    let (mut met, mut written) = (Met::default(), Counts::default());
     for seed in first..first + count {
-        match compare::compare(seed, &mut lists).and_then(|number| writing::compare(seed, &mut met).map(|()| number)) {
+        match compare::compare(seed, &mut met).and_then(|number| writing::compare(seed, &mut written).map(|()| number)) {
             Ok(number) => outcomes[number as usize] += 1,
             Err(difference) => {
                 println!("{difference}");
@@ -26,6 +26,7 @@ fn main() {
         }
     }
     println!("{count} calls from seed {first} agree: answers {}, refusals 1 to 10 {:?}, 14 {}", outcomes[0], &outcomes[1..=10], outcomes[14]);
-    println!("of those with a list: {lists:?}");
-    println!("{count} writings from seed {first} agree: {met:?}");
+    println!("of those with a list: {:?}", met.lists);
+    println!("by their methods: {:?}", met.methods);
+    println!("{count} writings from seed {first} agree: {written:?}");
 }

@@ -1,10 +1,13 @@
 //! Generated calls: a table, a list of moves, a request and the room of the output.
 
+use super::methods::{short, short_from, some_method, unknown_method};
 use super::moves::{both_ways, good_list, some_list};
 use super::source::Source;
 use crate::calendar::{fixed_holidays, holidays, LAST_DAY};
-use crate::choice::{relevant_days, sizes};
-use crate::table::{Request, Table, EVENT, HIGHEST, MISSING, MOST_DAYS, OUTAGE, QUARTERS};
+use crate::choice::{most, relevant_days, sizes};
+use crate::table::{
+    Request, Table, AVERAGE, EVENT, HIGH, HIGHEST, MISSING, MOST_DAYS, OUTAGE, QUARTERS,
+};
 
 /// A call, also one in the making.
 #[derive(Clone, PartialEq, Eq, Debug)]
@@ -21,14 +24,15 @@ pub fn gen_call(seed: u64) -> Draft {
     let turn = source.below(16);
     match turn {
         _ if source.aside().once_in(12) => moved(source),
-        0..=3 => plain(source),
+        _ if source.beside().once_in(3) => short(source),
+        0..=2 => plain(source),
         4 => feast(source),
         5 => start_edges(source),
-        6 | 7 => ruler_edges(source),
-        8..=10 => count_edges(source),
+        6..=8 => ruler_edges(source),
+        9 | 10 => count_edges(source),
         11 => reading_edges(source),
         12 => shape_edges(source),
-        13 => request_edges(source),
+        3 | 13 => request_edges(source),
         14 => calendar_edges(source),
         _ => damaged(source),
     }
@@ -38,6 +42,7 @@ pub fn gen_call(seed: u64) -> Draft {
 pub fn well_shaped(source: &mut Source) -> Draft {
     match source.below(8) {
         _ if source.aside().once_in(12) => moved(source),
+        _ if source.beside().once_in(4) => short(source),
         0 => plain(source),
         1 => feast(source),
         2 => start_edges(source),
@@ -50,6 +55,10 @@ pub fn well_shaped(source: &mut Source) -> Draft {
 
 /// A draft of at most three weeks; participation mostly starts within it.
 pub fn small(source: &mut Source) -> Draft {
+    if source.beside().once_in(4) {
+        let back = source.pick(&[3, 5, 6, 6, 6, 7, 7, 7, 8, 9, 13, 14, 16, 20, 21, 21]);
+        return short_from(source, back);
+    }
     let before = source.pick(&[0, 1, 2, 7, 8, 9, 10, 14, 15, 16, 20, 21, 21, 21]);
     let after = source.pick(&[0, 0, 0, 1]);
     let holiday = source.pick(holidays());
@@ -67,7 +76,7 @@ pub fn small(source: &mut Source) -> Draft {
         _ => d.saturating_sub(before),
     };
     if source.once_in(2) {
-        calm_days(source, &mut draft, 0, 0);
+        calm_all(&mut draft);
     }
     match source.below(10) {
         0 | 1 => blank_all_but_runs(source, &mut draft),
@@ -90,12 +99,12 @@ fn plain(source: &mut Source) -> Draft {
 
 /// A draft that holds `before` days before `d` and `after` days after it, or as
 /// many as there are from day 0 to day 36,524, with some list.
-fn around(source: &mut Source, d: u32, before: u32, after: u32) -> Draft {
+pub fn around(source: &mut Source, d: u32, before: u32, after: u32) -> Draft {
     let moves = some_list(&mut source.aside(), d);
     around_with(source, moves, d, before, after)
 }
 
-fn around_with(source: &mut Source, moves: Vec<u32>, d: u32, before: u32, after: u32) -> Draft {
+pub fn around_with(source: &mut Source, moves: Vec<u32>, d: u32, before: u32, after: u32) -> Draft {
     let first = d.saturating_sub(before);
     let last = (d + after).min(LAST_DAY);
     let h = (last - first + 1) as usize;
@@ -139,11 +148,11 @@ fn moved(source: &mut Source) -> Draft {
     let before = source.pick(&[20, 44, 45, 46, 60]);
     let moves = good_list(&mut source.aside(), d);
     let mut draft = around_with(source, moves, d, before, 0);
-    let (y, n) = sizes(&draft.moves, d);
+    let (y, n) = full_and_least(&draft);
     match source.below(4) {
         0 => calm_days(source, &mut draft, y - 1, 1),
         1 => calm_days(source, &mut draft, n, 0),
-        2 => calm_days(source, &mut draft, 0, 0),
+        2 => calm_all(&mut draft),
         _ => {}
     }
     draft
@@ -166,10 +175,12 @@ fn start_edges(source: &mut Source) -> Draft {
     draft
 }
 
-/// Missing readings on the ruler, and n, s and e at their ends.
+/// Missing readings on the ruler, and n, s and e at their ends; mostly by High X
+/// of Y, which alone looks at the ruler.
 fn ruler_edges(source: &mut Source) -> Draft {
     let mut draft = plain(source);
-    calm_days(source, &mut draft, 0, 0);
+    draft.request.method = source.beside().pick(&[HIGH, HIGH, HIGH, AVERAGE]);
+    calm_all(&mut draft);
     draft.request.s = source.pick(&[96, 97, 107, 108, 109, 150, 191]);
     draft.request.e = event_end(source, draft.request.s);
     let s = draft.request.s;
@@ -188,6 +199,15 @@ fn ruler_edges(source: &mut Source) -> Draft {
     draft
 }
 
+/// Y, and what spare days are added up to: N of High X of Y.
+fn full_and_least(draft: &Draft) -> (usize, usize) {
+    let Draft { moves, request, .. } = draft;
+    match request.method {
+        AVERAGE => (most(moves, request), 4),
+        _ => sizes(moves, request.d),
+    }
+}
+
 /// Eligible and spare days in numbers around Y and N, with the table's start on
 /// either side of the oldest relevant day.
 fn count_edges(source: &mut Source) -> Draft {
@@ -197,7 +217,7 @@ fn count_edges(source: &mut Source) -> Draft {
         let before = source.pick(&[45, 46, 60]);
         draft = around(source, d, before, 0);
     }
-    let (y, n) = sizes(&draft.moves, draft.request.d);
+    let (y, n) = full_and_least(&draft);
     let eligible = match source.below(6) {
         0 => y - 1,
         1 => y,
@@ -269,7 +289,7 @@ fn request_edges(source: &mut Source) -> Draft {
     let mut draft = plain(source);
     let Draft { table, request, .. } = &mut draft;
     let last = table.first + table.marks.len() as u32 - 1;
-    match source.below(7) {
+    match source.below(8) {
         0 => {
             request.s = source.pick(&[0, 95, 96, 97, 190, 191, 192, u32::MAX]);
             request.e = source.pick(&[request.e, request.s.saturating_add(1)]);
@@ -293,6 +313,7 @@ fn request_edges(source: &mut Source) -> Draft {
             let eve = first.saturating_sub(1);
             request.d = source.pick(&[eve, first, first + 1, last, last + 1, u32::MAX]);
         }
+        6 => request.method = unknown_method(source),
         _ => {}
     }
     let length = request.e.saturating_sub(request.s).min(1000) as usize;
@@ -311,7 +332,7 @@ fn calendar_edges(source: &mut Source) -> Draft {
     let after = source.pick(&[0, 3]);
     let mut draft = around(source, d, before, after);
     if source.once_in(2) {
-        calm_days(source, &mut draft, 12, 0);
+        calm_all(&mut draft);
     }
     draft.request.p = source.pick(&[0, 0, 1, d.saturating_sub(45), draft.request.p]);
     draft
@@ -361,7 +382,15 @@ fn likely_request(source: &mut Source, d: u32) -> Request {
         _ => d.saturating_sub(200),
     };
     let e = event_end(source, s);
-    Request { p, d, s, e, n }
+    let method = some_method(&mut source.beside());
+    Request {
+        p,
+        d,
+        s,
+        e,
+        n,
+        method,
+    }
 }
 
 fn likely_room(source: &mut Source, request: &Request) -> usize {
@@ -436,20 +465,33 @@ fn strike_days(source: &mut Source, draft: &mut Draft) {
 }
 
 /// Both groups other than weekdays, evenly, away from the calendar's start.
-fn some_resting_day(source: &mut Source) -> u32 {
+pub fn some_resting_day(source: &mut Source) -> u32 {
     7 * source.between(20, LAST_DAY / 7 - 1) + source.below(2)
 }
 
-/// Every relevant held day is spoilt, but for `eligible` eligible ones and
-/// `spare` spare ones; 0 and 0 makes all of them eligible.
-fn calm_days(source: &mut Source, draft: &mut Draft, eligible: usize, spare: usize) {
+/// The relevant held days.
+fn held_relevant(draft: &Draft) -> Vec<u32> {
     let mut days = relevant_days(&draft.moves, &draft.request);
     days.retain(|&day| day >= draft.table.first);
+    days
+}
+
+/// Every relevant held day is eligible.
+fn calm_all(draft: &mut Draft) {
+    for day in held_relevant(draft) {
+        fill_missing(&mut draft.table, day);
+        set_mark(&mut draft.table, day, 0);
+    }
+}
+
+/// Every relevant held day is spoilt, but for `eligible` eligible ones and
+/// `spare` spare ones.
+pub fn calm_days(source: &mut Source, draft: &mut Draft, eligible: usize, spare: usize) {
+    let mut days = held_relevant(draft);
     shuffle(source, &mut days);
-    let all = eligible + spare == 0;
     for (place, &day) in days.iter().enumerate() {
         fill_missing(&mut draft.table, day);
-        let mark = if all || place < eligible {
+        let mark = if place < eligible {
             0
         } else if place < eligible + spare {
             EVENT
@@ -496,7 +538,7 @@ fn spoil(source: &mut Source, table: &mut Table, day: u32) -> u8 {
 }
 
 /// Moves the table's start, or P, near the oldest relevant day.
-fn cut_start(source: &mut Source, draft: &mut Draft) {
+pub fn cut_start(source: &mut Source, draft: &mut Draft) {
     let days = relevant_days(&draft.moves, &draft.request);
     let Some(&oldest) = days.last() else { return };
     let some = source.pick(&days);
@@ -525,7 +567,7 @@ fn extreme_readings(source: &mut Source, draft: &mut Draft) {
     for day in draft.table.readings.chunks_mut(QUARTERS) {
         day.fill(source.pick(&[0, HIGHEST, HIGHEST]));
     }
-    calm_days(source, draft, 0, 0);
+    calm_all(draft);
 }
 
 /// The place of a ruler quarter in the readings, if it is held.
@@ -618,6 +660,7 @@ fn any_request(source: &mut Source, request: &mut Request) {
         &mut request.s,
         &mut request.e,
         &mut request.n,
+        &mut request.method,
     ];
     for field in fields {
         if source.once_in(2) {

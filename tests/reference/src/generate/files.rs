@@ -1,6 +1,7 @@
 //! Generated record files, valid, at their edges, cut and damaged.
 
 use super::calls::{small, well_shaped, Draft};
+use super::methods::some_method;
 use super::moves::list_of;
 use super::source::Source;
 use crate::calendar::LAST_DAY;
@@ -8,7 +9,8 @@ use crate::moves::MOST_MOVES;
 use crate::record::{DY_LENGTH, MV_LENGTH, PF_LENGTH};
 use crate::table::{Request, HIGHEST, MISSING};
 use crate::writer::{
-    day_record, day_records, event_record, head_record, move_record, move_records, Record,
+    day_record, day_records, event_record, head_record, method_record, move_record, move_records,
+    Record,
 };
 
 /// The file of a seed.
@@ -65,7 +67,7 @@ pub fn gen_cuts() -> Vec<Vec<u8>> {
         .map(|day| day_record(6951 + day, 0, &[7; 96]))
         .collect();
     file.events.truncate(1);
-    file.events.push(event_record(6952, 152, 156, 148));
+    file.events.push(method_record(6952, 152, 156, 148, 1));
     let whole = file.bytes();
     (0..=whole.len())
         .map(|length| whole[..length].to_vec())
@@ -122,14 +124,18 @@ fn held_in_two_bytes(moves: &[u32]) -> Vec<u32> {
 }
 
 fn draft_events(source: &mut Source, draft: &Draft) -> Vec<Record> {
-    let Request { d, s, e, n, .. } = draft.request;
-    let mut events = vec![event_record(d as u16, s as u8, e as u8, n as u8)];
+    let Request {
+        d, s, e, n, method, ..
+    } = draft.request;
+    let [s, e, n, method] = [s, e, n, method].map(|number| number as u8);
+    let mut events = vec![method_record(d as u16, s, e, n, method)];
     for _ in 0..source.below(4) {
+        let method = some_method(&mut source.beside()) as u8;
         let d = d.saturating_sub(source.below(12)) as u16;
         let s = source.between(96, 191) as u8;
         let e = source.between(u32::from(s) + 1, 192) as u8;
         let n = source.below(u32::from(s) + 1) as u8;
-        events.push(event_record(d, s, e, n));
+        events.push(method_record(d, s, e, n, method));
     }
     events
 }
@@ -246,7 +252,8 @@ fn misplace(source: &mut Source, file: &mut Draw) {
     file.replace(records);
 }
 
-/// One of the bytes that are laid down: a mark's or the zero.
+/// One of the bytes that are laid down, a mark's or a day's zero, or the method,
+/// which was one before order 3.
 fn alter_fixed_byte(source: &mut Source, file: &mut Draw) {
     let byte = source.pick(&[0, 1, b'P', b'F', b'D', b'Y', b'E', b'V', 255]);
     let place = source.below(file.days.len() as u32) as usize;
@@ -307,8 +314,8 @@ fn event_edges(source: &mut Source, file: &mut Draw) {
     let likely = file.events[0].clone();
     for _ in 0..source.between(1, 8) {
         let mut event = likely.clone();
-        let byte = source.pick(&[0, 11, 12, 13, 95, 96, 97, 191, 192, 193, 255]);
-        event[source.between(2, 6) as usize] = byte;
+        let byte = source.pick(&[0, 1, 2, 11, 12, 13, 95, 96, 97, 191, 192, 193, 255]);
+        event[source.between(2, 7) as usize] = byte;
         file.events.push(event);
     }
 }
@@ -345,6 +352,7 @@ fn extend(source: &mut Source, mut bytes: Vec<u8>) -> Vec<u8> {
         b"EV\x38\x1b\x98\x9c\x94",
         b"EV\x38\x1b\x98\x9c\x94\x00",
         b"EV\x38\x1b\x98\x9c\x94\x01",
+        b"EV\x38\x1b\x98\x9c\x94\x02",
         b"PF\x00\x00\x00\x00\x00\x00",
         b"DY",
         b"MV",

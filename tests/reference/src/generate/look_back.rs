@@ -1,11 +1,11 @@
-//! Record files of one event whose look-back is cut by the file in every way, with one day spoiled: at the file's ends, at the ends of the
+//! Record files of one event, by both methods, whose look-back is cut by the file in every way, with one day spoiled: at the file's ends, at the ends of the
 //! look-back, and just past them.
 
 use std::ops::RangeInclusive;
 
 use super::source::Source;
 use crate::table::{HIGHEST, MISSING, QUARTERS};
-use crate::writer::{day_record, event_record, head_record, move_record};
+use crate::writer::{day_record, head_record, method_record, move_record};
 
 /// The first day of each, 23 April 2024.
 const FIRST: i64 = 8879;
@@ -84,7 +84,7 @@ fn spoil_day(spoil: Spoil, mark: &mut u8, readings: &mut [u32]) {
     }
 }
 
-/// The file of `h` days with an event on the day at place `d`, which need not be one of them, and the day at place `spoiled` spoiled.
+/// The file of `h` days with an event by each method on the day at place `d`, which need not be one of them, and the day at place `spoiled` spoiled.
 fn file(h: i64, d: i64, spoiled: usize, spoil: Spoil) -> Vec<u8> {
     let source = &mut Source::new((h * 1000 + d) as u64);
     let last = h as usize - 1;
@@ -112,6 +112,8 @@ fn file(h: i64, d: i64, spoiled: usize, spoil: Spoil) -> Vec<u8> {
         }
         records.push(day_record((FIRST + place as i64) as u16, mark, &readings));
     }
-    records.push(event_record((FIRST + d) as u16, 152, 160, 148));
+    for method in [0, 1] {
+        records.push(method_record((FIRST + d) as u16, 152, 160, 148, method));
+    }
     records.concat()
 }

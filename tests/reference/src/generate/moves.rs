@@ -91,6 +91,20 @@ pub fn both_ways() -> &'static [u32] {
     })
 }
 
+/// Holidays from anywhere moved onto the event day and onto some of the days of
+/// the week before it, so that a week has many of the holiday group.
+pub fn crowded_week(source: &mut Source, d: u32) -> Vec<u32> {
+    let start = source.below((fixed_holidays().len() - MOST_MOVES) as u32) as usize;
+    let days = (0..=8).filter(|&back| back == 0 || !source.once_in(3));
+    let days: Vec<u32> = days.map(|back| d.saturating_sub(back)).collect();
+    let firsts = &fixed_holidays()[start..];
+    firsts
+        .iter()
+        .zip(days)
+        .flat_map(|(&first, day)| [first, day])
+        .collect()
+}
+
 /// A list that is mostly refused, for one reason or two; on the other side of a
 /// line it is not.
 fn bad_list(source: &mut Source, d: u32) -> Vec<u32> {

@@ -7,9 +7,14 @@ impl Source {
         Source(seed)
     }
 
-    /// Another source, which draws nothing from this one.
+    /// Another source, which draws nothing from this one: for lists of moves.
     pub fn aside(&self) -> Source {
         Source(self.0 ^ 0xA51D_E000_0000_0000)
+    }
+
+    /// A third, for methods.
+    pub fn beside(&self) -> Source {
+        Source(self.0 ^ 0xBE51_DE00_0000_0000)
     }
 
     pub fn next(&mut self) -> u64 {

@@ -92,7 +92,7 @@ fn some_events(source: &mut Source, count: usize) -> Vec<u32> {
         .collect()
 }
 
-/// D has two bytes; s, e and n have one each.
+/// D has two bytes; s, e, n and the method have one each.
 fn highest_at(place: usize) -> u32 {
     if place % EVENT_NUMBERS == 0 {
         TWO_BYTES
@@ -111,7 +111,7 @@ fn to_edge(source: &mut Source, values: &mut Values) {
             let count = source.pick(&[MOST_EVENTS - 1, MOST_EVENTS, MOST_EVENTS + 1]);
             values.events = some_events(source, count);
         }
-        8 => not_four(source, &mut values.events),
+        8 => not_five(source, &mut values.events),
         9 => {
             let h = source.pick(&[MOST_DAYS - 1, MOST_DAYS, MOST_DAYS + 1, MOST_DAYS + 2]);
             values.table = some_table(source, h);
@@ -173,8 +173,8 @@ fn move_edges(source: &mut Source, moves: &mut Vec<u32>) {
     }
 }
 
-/// Up to three numbers after the last event.
-fn not_four(source: &mut Source, events: &mut Vec<u32>) {
+/// Up to four numbers after the last event.
+fn not_five(source: &mut Source, events: &mut Vec<u32>) {
     let more = source.between(1, EVENT_NUMBERS as u32 - 1) as usize;
     events.extend(&some_events(source, 1)[..more]);
 }

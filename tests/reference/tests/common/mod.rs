@@ -2,6 +2,7 @@
 #![allow(dead_code)]
 
 use reference::calendar::{day_number, Date};
+use reference::table::{AVERAGE, HIGH};
 use reference::writer::{day_records, event_record, head_record};
 use reference::{Request, Table};
 
@@ -29,8 +30,24 @@ pub fn set_day(table: &mut Table, day: u32, reading: u32) {
     }
 }
 
+/// By High X of Y.
 pub fn request(p: u32, d: u32, s: u32, e: u32, n: u32) -> Request {
-    Request { p, d, s, e, n }
+    Request {
+        p,
+        d,
+        s,
+        e,
+        n,
+        method: HIGH,
+    }
+}
+
+/// By Average X of Y: 15:00 to 16:00, with notice at 14:00.
+pub fn average(p: u32, d: u32) -> Request {
+    Request {
+        method: AVERAGE,
+        ..request(p, d, 152, 156, 148)
+    }
 }
 
 pub fn day(year: u32, month: u32, day: u32) -> u32 {
@@ -49,7 +66,7 @@ pub fn august(first: u32) -> Table {
     table
 }
 
-/// 003, Table 5 in kW.
+/// 003, Table 5 in kW; 001's Table 11 is the same.
 pub const TABLE_5: [[u32; 4]; 10] = [
     [6300, 7700, 6200, 7300],
     [6200, 7300, 7500, 6100],
