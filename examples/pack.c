@@ -13,7 +13,8 @@
 #define PORTFOLIO "portfolio NUMBER from DAY"
 #define MOVE "move DAY DAY"
 #define DAY "day DAY MARK READING.."
-#define EVENT "event DAY START END NOTICE"
+#define EVENT "event DAY START END NOTICE [METHOD]"
+#define EVENT_NUMBERS 5 /* of an event, as hp_write takes them */
 
 /* Where this does not hold: says why, and ends. NEED is for a line of the text, which is named, and WORKS for a file. */
 #define STOP_UNLESS(status, holds, ...) do { if (!(holds)) { fprintf(stderr, __VA_ARGS__); exit(status); } } while (0)
@@ -22,18 +23,20 @@
 
 static const char help[] = USAGE
     "Writes FILE, the record file that TEXT describes; they are standard output and\ninput where they are - or not given. One line a record:\n\n"
-    "  " PORTFOLIO "    the first line; participation starts on that DAY\n"
-    "  " MOVE "                 a moved holiday, and the day that replaces it\n"
-    "  " DAY "       a day that is held, and its 96 readings in kW\n"
-    "  " EVENT "   an event; 96 is 01:00 of its DAY, 152 is 15:00\n\n"
+    "  " PORTFOLIO "            first; participation starts on DAY\n"
+    "  " MOVE "                         a moved holiday, and its new DAY\n"
+    "  " DAY "               a day held, 96 readings in kW\n"
+    "  " EVENT "  an event; 152 is 15:00 of its DAY\n\n"
     "A DAY is a date, 2024-08-28, or its number, 9006. Move lines stand before the\nfirst day or event line; each day line is of the day after the one "
     "before. MARK\nis 0, or 1 for an event recorded, 2 for an outage, 3 for both. A reading may be\n`missing`; 1300*56 is 56 times 1300. "
-    "What follows a # is a remark.\n\n"
+    "START, END and NOTICE are places on a\nruler of two days, where 96 is 01:00 of the event's DAY. METHOD is high (or 0),\nfor High X of Y, which it is where "
+    "none is given, or average (or 1), for Average\nX of Y, the day-ahead baseline. What follows a # is a remark.\n\n"
     "Exit status: 0 written; 1 a bad line, which is named, and nothing is written;\n2 a wrong call, or a file that can't be read or written.\n";
 
 /* What the text has said up to this line. */
 static size_t line, portfolio_line, days, moves_len, events_len;
-static uint32_t portfolio, participation, first, readings[HP_MOST_DAYS * HP_QUARTERS], moves[2 * HP_MOST_MOVES], events[4 * HP_MOST_EVENTS];
+static uint32_t portfolio, participation, first, readings[HP_MOST_DAYS * HP_QUARTERS], moves[2 * HP_MOST_MOVES];
+static uint32_t events[EVENT_NUMBERS * HP_MOST_EVENTS];
 static uint8_t marks[HP_MOST_DAYS];
 
 static uint32_t number(const char *word, unsigned long most, const char *what)
@@ -53,6 +56,13 @@ static uint32_t day(const char *word)
     int64_t value = read == 3 ? hp_day((uint32_t)year, (uint32_t)month, (uint32_t)date) : HP_NOTHING;
     NEED(end == 10 && word[10] == '\0' && strspn(word, "0123456789-") == 10 && value >= 0, "'%s' is no date from 2000-01-01 to 2099-12-31", word);
     return (uint32_t)value;
+}
+
+static uint32_t method(const char *word)
+{
+    if (strcmp(word, "high") == 0)
+        return HP_METHOD_HIGH;
+    return strcmp(word, "average") == 0 ? HP_METHOD_AVERAGE : number(word, UINT8_MAX, "method, and not `high` or `average`");
 }
 
 /* Puts the readings of a word at this place of a day, as far as there is room: gives the place behind them. */
@@ -82,6 +92,16 @@ static void take_day(char **words, size_t count)
     days++;
 }
 
+static void take_event(char **words, size_t count)
+{
+    NEED(count == 5 || count == 6, "an event line is: %s", EVENT);
+    NEED(events_len < EVENT_NUMBERS * HP_MOST_EVENTS, "a file has at most %d events", HP_MOST_EVENTS);
+    events[events_len++] = day(words[1]);
+    for (size_t i = 2; i < 5; i++)
+        events[events_len++] = number(words[i], UINT8_MAX, "place");
+    events[events_len++] = count == 6 ? method(words[5]) : HP_METHOD_HIGH;
+}
+
 static void take_record(char **words, size_t count)
 {
     int opens = strcmp(words[0], "portfolio") == 0, move = strcmp(words[0], "move") == 0, event = strcmp(words[0], "event") == 0;
@@ -98,13 +118,9 @@ static void take_record(char **words, size_t count)
         NEED(moves_len < 2 * HP_MOST_MOVES, "a file has at most %d moves", HP_MOST_MOVES);
         for (size_t i = 1; i < count; i++)
             moves[moves_len++] = day(words[i]);
-    } else if (event) {
-        NEED(count == 5, "an event line is: %s", EVENT);
-        NEED(events_len < 4 * HP_MOST_EVENTS, "a file has at most %d events", HP_MOST_EVENTS);
-        events[events_len++] = day(words[1]);
-        for (size_t i = 2; i < count; i++)
-            events[events_len++] = number(words[i], UINT8_MAX, "place");
-    } else
+    } else if (event)
+        take_event(words, count);
+    else
         take_day(words, count);
 }
 

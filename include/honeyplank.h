@@ -1,4 +1,5 @@
-/* honeyplank.h: the demand response baseline of the Greek transmission operator (methodology version 1.0, May 2020), for C and C++.
+/* honeyplank.h: the demand response baseline of the Greek transmission operator, for C and C++: High X of Y (methodology version 1.0, May 2020), and
+ * Average X of Y, the day-ahead baseline (version 5.0).
  *
  * Each entry answers every input, and its code is proved to give that answer and no other. Nothing is asked of the values: any numbers, any
  * bytes, any lengths.
@@ -25,6 +26,14 @@
  * that can be seen: the baseline is then adjusted by the three hours before 14:00 of the day before, and is another number. (Where n is below 12, or
  * a reading of the twelve quarters before it is missing, the latest twelve in a row that are all present and end at or before s are taken.)
  *
+ * An event is worked out by the method that its request names. Both rank the latest days of the event day's group that count, by what they used in the
+ * event's own quarters. HP_METHOD_HIGH, High X of Y, averages the highest and adjusts them by the three hours before notice. HP_METHOD_AVERAGE, Average
+ * X of Y, is for trades of the Day-Ahead and Intraday Market (version 5.0, section 3.2.2): it averages two days in the middle, the 5th and 6th of the
+ * latest ten, or the 2nd and 3rd of four where the event day is no weekday, and does not adjust; n plays no part then, and is tested all the same.
+ * With fewer days it averages the 2nd and 3rd of three to nine, both of two, or one. Weekdays below four are filled up to four with the latest
+ * event days; three or two of them, or one day of another group, are enough only where P is at least 7 days before D. Both methods look back
+ * HP_LOOK_BACK days, and so need the same overlap.
+ *
  * Eight holidays have a fixed date: 1 and 6 January, 25 March, 1 May, 15 August, 28 October, 25 and 26 December. A decree can move one: in 2024 the
  * day off for 1 May was 7 May. No rule of the calendar tells which were moved, so a call over a table is lent a list of moves, up to 16, two numbers
  * for each: the fixed-date holiday, and the day that replaces it, any day up to 36524, which is then a holiday. The fixed-date holiday is then none,
@@ -36,7 +45,7 @@
  *   one PF       8 bytes: the letters PF, P (2 bytes), the portfolio's number (4)
  *   up to 16 MV  6 bytes each: the letters MV, a fixed-date holiday (2), the day that replaces it (2)
  *   up to 128 DY 390 bytes each, consecutive days: the letters DY, the day (2), its mark (1), a zero byte, 96 readings (4 each)
- *   up to 64 EV  8 bytes each: the letters EV, D (2), s, e, n (1 each), a zero byte
+ *   up to 64 EV  8 bytes each: the letters EV, D (2), s, e, n and the method (1 each)
  *
  * docs/RECORD-FILE.md has it field by field. A refused file's offset is where the first record starts that is not so.
  *
@@ -50,9 +59,9 @@
 #include <stdint.h>
 
 #define HP_VERSION_MAJOR 0
-#define HP_VERSION_MINOR 5
+#define HP_VERSION_MINOR 6
 #define HP_VERSION_PATCH 0
-#define HP_VERSION "0.5.0"
+#define HP_VERSION "0.6.0"
 /* What hp_version() gives where the library is of this header. Before 1.0.0 another second number may break callers: the soname has both. */
 #define HP_VERSION_NUMBER (10000 * HP_VERSION_MAJOR + 100 * HP_VERSION_MINOR + HP_VERSION_PATCH)
 
@@ -69,13 +78,13 @@
 #define HP_BAD_TABLE 1              /* no days, more than 128, not 96 readings a day, or days after 36524: nothing */
 #define HP_BAD_MARK 2               /* a mark with another bit than HP_MARK_EVENT and HP_MARK_OUTAGE: the day's place, from 0 */
 #define HP_BAD_READING 3            /* a reading above HP_HIGHEST that is not HP_MISSING: its place, from 0 over the whole table */
-#define HP_BAD_REQUEST 4            /* P after 36524, s outside 96..191, e outside s+1..192, or n above s: nothing */
+#define HP_BAD_REQUEST 4            /* P after 36524, s outside 96..191, e outside s+1..192, n above s, or an unknown method: nothing */
 #define HP_NOT_HELD 5               /* the event day is not in the table: nothing */
 #define HP_NOT_YET_PARTICIPATING 6  /* P is later than the event day: nothing */
 #define HP_NO_ROOM 7                /* `out` is too short: nothing */
 #define HP_MARGIN_TOO_SHORT 8       /* the table starts too late to tell: so many days before the event always suffice */
-#define HP_TOO_FEW 9                /* too few days to choose from: how many there are; the reach */
-#define HP_NO_ADJUSTMENT_WINDOW 10  /* no twelve quarters in a row are present: the reach */
+#define HP_TOO_FEW 9                /* too few days to choose from, by the method: how many there are; the reach */
+#define HP_NO_ADJUSTMENT_WINDOW 10  /* no twelve quarters in a row are present, which HP_METHOD_AVERAGE does not ask: the reach */
 #define HP_UNWRITABLE 13            /* hp_write alone: no record file says this: nothing */
 #define HP_BAD_MOVES 14             /* after 3 and before 4: more than 16 moves, or not two numbers for each; a day after 36524; a first day that is
                                        no fixed-date holiday; or the same first day twice: nothing */
@@ -83,7 +92,7 @@
 /* Days, and how many of what there are. */
 #define HP_QUARTERS 96     /* quarters of a day, and so readings of a day */
 #define HP_LAST_DAY 36524  /* 31 December 2099, where the calendar ends */
-#define HP_LOOK_BACK 45    /* days before the event that are looked at: with so many held before it, HP_MARGIN_TOO_SHORT never comes */
+#define HP_LOOK_BACK 45    /* days before the event that are looked at: with so many held before it, HP_MARGIN_TOO_SHORT never comes, by either method */
 #define HP_MOST_DAYS 128   /* days of a table or a file, at most */
 #define HP_MOST_EVENTS 64  /* events of a file, at most */
 #define HP_MOST_MOVES 16   /* moves of a list or a file, at most */
@@ -94,6 +103,10 @@
 #define HP_MARK_EVENT 1         /* a demand response event was recorded */
 #define HP_MARK_OUTAGE 2        /* outage or force majeure */
 
+/* The method of a request. Any other number is HP_BAD_REQUEST. */
+#define HP_METHOD_HIGH 0     /* High X of Y: the highest days, adjusted */
+#define HP_METHOD_AVERAGE 1  /* Average X of Y, of day-ahead and intraday trades: the days in the middle, without adjustment */
+
 /* The names of what can be asked, one number a call. No two names are the same number, and what an entry does not tell is HP_NOTHING: a name
  * that does not exist, a name of another entry, a day past the last one chosen, a move past the last one, what a refusal does not carry. */
 #define HP_NOTHING INT64_MIN
@@ -102,15 +115,15 @@
 #define HP_CARRIED 1         /* refused: the first number that the refusal carries */
 #define HP_CARRIED_SECOND 2  /* refused: the second */
 /* Of an answer (hp_told, hp_told_table): */
-#define HP_COUNT 3         /* N, how many days are chosen: 5 for a weekday, 2 otherwise */
-#define HP_DAY_1 4         /* the chosen days by rank: the highest, */
+#define HP_COUNT 3         /* how many days are chosen, and averaged: 5 for a weekday, 2 otherwise; by HP_METHOD_AVERAGE 2, or 1 */
+#define HP_DAY_1 4         /* the chosen days by rank: the highest of them, */
 #define HP_DAY_2 5         /* the second, */
-#define HP_DAY_3 6         /* and so on, up to N */
+#define HP_DAY_3 6         /* and so on, up to HP_COUNT */
 #define HP_DAY_4 7
 #define HP_DAY_5 8
 #define HP_REACH 9         /* so many days before the event were needed */
-#define HP_DENOMINATOR 10  /* what the numerators and the adjustment are over: 60 or 24 */
-#define HP_ADJUSTMENT 11   /* the adjustment's numerator, which may be negative */
+#define HP_DENOMINATOR 10  /* what the numerators and the adjustment are over: 60 or 24; by HP_METHOD_AVERAGE 2 or 1, which is HP_COUNT */
+#define HP_ADJUSTMENT 11   /* the adjustment's numerator, which may be negative; by HP_METHOD_AVERAGE 0 */
 /* Of a file (hp_file): */
 #define HP_FILE_PARTICIPATION 12  /* P, the first day of participation */
 #define HP_FILE_PORTFOLIO 13      /* the portfolio's number */
@@ -123,6 +136,7 @@
 #define HP_EVENT_START 18   /* s */
 #define HP_EVENT_END 19     /* e */
 #define HP_EVENT_NOTICE 20  /* n */
+#define HP_EVENT_METHOD 24  /* its method, as the file has it: 0 to 255 */
 /* Of a move of a file (hp_move): */
 #define HP_MOVE_FROM 22  /* the fixed-date holiday that is moved */
 #define HP_MOVE_TO 23    /* the day that replaces it */
@@ -144,7 +158,7 @@ extern "C" {
 /* The baseline of the event at `event_place` of a record file, 0 for its first event: HP_ANSWERED or the number of one refusal.
  *
  * Answered: the first 4(e-s) bytes of `out` are the numerators, one a quarter, four bytes each, the low byte first; the rest is kept. The
- * baseline in kW is the numerator over the denominator, 60 for a weekday event and 24 for another (hp_told gives it).
+ * baseline in kW is the numerator over the denominator, which hp_told gives (HP_DENOMINATOR).
  * Refused: `out` is kept. HP_NO_ROOM means that out_len is below 4(e-s). */
 uint32_t hp_baseline(const uint8_t *file, size_t file_len, size_t event_place, uint8_t *out, size_t out_len);
 
@@ -156,16 +170,17 @@ int64_t hp_told(const uint8_t *file, size_t file_len, size_t event_place, uint32
  *                                             is how many numbers there are; NULL and 0 where none was moved
  *   first_day, participation_day, event_day   are days: F, P and D
  *   event_start, event_end, notice            are places on the ruler of two days: s, e and n; 96 is where the event day starts
+ *   method                                    is HP_METHOD_HIGH or HP_METHOD_AVERAGE
  * Gives HP_ANSWERED or a refusal, 1 to 10 or 14. Answered: the first e-s elements of `out` are the numerators, and the rest is kept. Refused:
  * `out` is kept. HP_NO_ROOM means that out_len is below e-s. */
 uint32_t hp_baseline_table(uint32_t first_day, const uint8_t *marks, size_t marks_len, const uint32_t *readings, size_t readings_len,
                            const uint32_t *moves, size_t moves_len, uint32_t participation_day, uint32_t event_day,
-                           uint32_t event_start, uint32_t event_end, uint32_t notice, uint32_t *out, size_t out_len);
+                           uint32_t event_start, uint32_t event_end, uint32_t notice, uint32_t method, uint32_t *out, size_t out_len);
 
 /* What that result tells, with room for any event, as hp_told does. */
 int64_t hp_told_table(uint32_t first_day, const uint8_t *marks, size_t marks_len, const uint32_t *readings, size_t readings_len,
                       const uint32_t *moves, size_t moves_len, uint32_t participation_day, uint32_t event_day, uint32_t event_start,
-                      uint32_t event_end, uint32_t notice, uint32_t name);
+                      uint32_t event_end, uint32_t notice, uint32_t method, uint32_t name);
 
 /* Where the 96 readings of a day stand in a table in memory: the place of its first in `readings`, from 0. HP_NOTHING where the day is not
  * held, or the table is one that HP_BAD_TABLE refuses. */
@@ -191,19 +206,20 @@ int64_t hp_listing(const uint8_t *file, size_t file_len, uint8_t *out, size_t ou
  *   participation_day, first_day   are days: P and F
  *   marks, readings                are those of a table in memory, one byte and 96 readings a day; marks_len is the number of days, and may be 0
  *   moves                          has two numbers for each moved holiday, as above; moves_len is how many numbers there are
- *   events                         has four numbers for each event: D, s, e and n; events_len is how many numbers there are
+ *   events                         has five numbers for each event: D, s, e, n and the method; events_len is how many numbers there are
  * The refusals, tested in this order:
  *   -HP_BAD_TABLE    there are more than 128 days, or not 96 readings a day
- *   -HP_UNWRITABLE   there are more than 64 events, or not four numbers for each; more than 16 moves, or not two numbers for each; P, a day that is
- *                    held, a day of a move or D is above 65535; s, e or n is above 255; or there are no days, and first_day is not 0
+ *   -HP_UNWRITABLE   there are more than 64 events, or not five numbers for each; more than 16 moves, or not two numbers for each; P, a day that is
+ *                    held, a day of a move or D is above 65535; s, e, n or a method is above 255; or there are no days, and first_day
+ *                    is not 0
  *   -HP_NO_ROOM      out_len is below the file's length, which is 8 + 6 for each move + 390 for each day + 8 for each event; HP_MOST_FILE bytes are
  *                    enough for any
- * Nothing else is asked: marks and readings that mean nothing, days after HP_LAST_DAY, moves that mean nothing and events out of range are written as
- * they are, and the entries above refuse them when they read the file. What is written reads back as the same values, and a file that was read is
- * written again byte for byte.
+ * Nothing else is asked: marks and readings that mean nothing, days after HP_LAST_DAY, moves that mean nothing, events out of range and unknown
+ * methods are written as they are, and the entries above refuse them when they read the file. What is written reads back as the same values, and a
+ * file that was read is written again byte for byte.
  *
- *   uint32_t events[] = {6972, 152, 156, 148, 6966, 152, 156, 148};
- *   int64_t length = hp_write(6900, 77, 6951, marks, 22, readings, 22 * HP_QUARTERS, NULL, 0, events, 8, out, sizeof out);   8604, or below 0 */
+ *   uint32_t events[] = {6972, 152, 156, 148, HP_METHOD_HIGH, 6966, 152, 156, 148, HP_METHOD_AVERAGE};
+ *   int64_t length = hp_write(6900, 77, 6951, marks, 22, readings, 22 * HP_QUARTERS, NULL, 0, events, 10, out, sizeof out);   8604, or below 0 */
 int64_t hp_write(uint32_t participation_day, uint32_t portfolio, uint32_t first_day, const uint8_t *marks, size_t marks_len,
                  const uint32_t *readings, size_t readings_len, const uint32_t *moves, size_t moves_len, const uint32_t *events,
                  size_t events_len, uint8_t *out, size_t out_len);
@@ -235,7 +251,7 @@ static inline const char *hp_refusal_text(uint32_t number)
     case HP_BAD_READING:
         return "A reading is above 10,000,000 kW and is not the missing mark.";
     case HP_BAD_REQUEST:
-        return "The request is out of range.";
+        return "The request is out of range, or its method is unknown.";
     case HP_NOT_HELD:
         return "The event day is not held.";
     case HP_NOT_YET_PARTICIPATING:
@@ -253,7 +269,7 @@ static inline const char *hp_refusal_text(uint32_t number)
     case HP_NO_EVENT:
         return "The file has no event at that place.";
     case HP_UNWRITABLE:
-        return "No record file can say this: over 64 events or not four numbers for each, over 16 moves or not two numbers for each, a number that its "
+        return "No record file can say this: over 64 events or not five numbers for each, over 16 moves or not two numbers for each, a number that its "
                "bytes can't hold, or a first day with no days.";
     case HP_BAD_MOVES:
         return "The list of moves has over 16 moves or not two numbers for each, a day after 2099, a first day that is no fixed-date holiday, or the "

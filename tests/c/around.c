@@ -16,7 +16,8 @@ static struct values values; /* those of the file */
 static ucontext_t home, away;
 static size_t place, listing_room;
 
-/* A file as large as there is: 16 moves, 128 days of about this load, each a thousandth higher, and 64 events, the last one over all of its day. */
+/* A file as large as there is: 16 moves, 128 days of about this load, each a thousandth higher, and 64 events by both methods, the last two over all
+ * of their day. */
 static void put_largest(struct record_file *largest, uint32_t load)
 {
     uint32_t i;
@@ -24,20 +25,21 @@ static void put_largest(struct record_file *largest, uint32_t load)
     put_far_moves(largest, HP_MOST_MOVES);
     for (i = 0; i < 128; i++)
         put_day(largest, 8879 + i, 0, load + load / 1000 * i);
-    for (i = 0; i < 63; i++)
-        put_event(largest, 9006 - i, 152, 156, 148);
-    put_event(largest, 9006, 96, 192, 96);
+    for (i = 0; i < 62; i++)
+        put_event_by(largest, 9006 - i, 152, 156, 148, i % 2);
+    put_event_by(largest, 9006, 96, 192, 96, HP_METHOD_AVERAGE);
+    put_event_by(largest, 9006, 96, 192, 96, HP_METHOD_HIGH);
 }
 
-/* Every entry but hp_listing, by every name. */
+/* Every entry but hp_listing, by every name; over a table by the one method or the other. */
 static void call_all(void)
 {
     static uint8_t out[HP_MOST_BYTES], written[HP_MOST_FILE], marks[128];
     static uint32_t readings[128 * QUARTERS], numerators[QUARTERS];
-    const uint32_t *moves = values.moves;
+    const uint32_t *moves = values.moves, method = place % 2;
     uint32_t name;
     hp_baseline(file.bytes, file.length, place, out, sizeof out);
-    hp_baseline_table(8879, marks, 128, readings, 128 * QUARTERS, moves, values.moved, 0, 9006, 96, 192, 96, numerators, QUARTERS);
+    hp_baseline_table(8879, marks, 128, readings, 128 * QUARTERS, moves, values.moved, 0, 9006, 96, 192, 96, method, numerators, QUARTERS);
     hp_day_part(8879, marks, 128, readings, 128 * QUARTERS, 9006);
     write_values(&values, written, sizeof written);
     hp_day(2024, 8, 28);
@@ -45,7 +47,7 @@ static void call_all(void)
     hp_version();
     for (name = 0; name <= LAST_NAME; name++) {
         hp_told(file.bytes, file.length, place, name);
-        hp_told_table(8879, marks, 128, readings, 128 * QUARTERS, moves, values.moved, 0, 9006, 96, 192, 96, name);
+        hp_told_table(8879, marks, 128, readings, 128 * QUARTERS, moves, values.moved, 0, 9006, 96, 192, 96, method, name);
         hp_file(file.bytes, file.length, name);
         hp_event(file.bytes, file.length, place, name);
         hp_move(file.bytes, file.length, place, name);

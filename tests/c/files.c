@@ -1,4 +1,4 @@
-/* The entries over a record file: the worked case, each refusal, its moves, the listing, and every buffer between guards. */
+/* The entries over a record file: the worked case, each refusal, its moves, both methods, the listing, and every buffer between guards. */
 #include <inttypes.h>
 
 #include "check.h"
@@ -55,7 +55,8 @@ static void expect_at(int line, const char *what, void (*check)(const uint8_t *,
 }
 
 #define FILE_HOLDS(p, portfolio, moves, first, days, events) expect_file(__LINE__, held(p, portfolio, moves, first, days, events))
-#define EVENT_IS(place, d, s, e, n) expect_at(__LINE__, "event", check_event, place, event_of(d, s, e, n))
+#define EVENT_BY(place, d, s, e, n, method) expect_at(__LINE__, "event", check_event, place, event_of(d, s, e, n, method))
+#define EVENT_IS(place, d, s, e, n) EVENT_BY(place, d, s, e, n, HP_METHOD_HIGH)
 #define MOVE_IS(place, from, to) expect_at(__LINE__, "move", check_move, place, move_of(from, to))
 #define NO_MOVE(place) MOVE_IS(place, NONE, NONE)
 #define FILE_REFUSED(offset) expect_file(__LINE__, told_refusal(HP_BAD_FILE, offset, NONE))
@@ -105,11 +106,11 @@ static void highest_numbers(void)
     put_move(&file, 65535, 0);
     put_move(&file, 0, 65535);
     put_day(&file, 65535, 255, HP_MISSING);
-    put_event(&file, 65535, 255, 255, 255);
+    put_event_by(&file, 65535, 255, 255, 255, 255);
     FILE_HOLDS(65535, 4294967295, 2, 65535, 1, 1);
     MOVE_IS(0, 65535, 0);
     MOVE_IS(1, 0, 65535);
-    EVENT_IS(0, 65535, 255, 255, 255);
+    EVENT_BY(0, 65535, 255, 255, 255, 255);
     put_head(&file, 0, 0);
     put_event(&file, 0, 0, 0, 0);
     FILE_HOLDS(0, 0, 0, 0, 0, 1);
@@ -340,6 +341,78 @@ static void labour_day(void)
     }
 }
 
+/* Days from 14 July 2024 (8961) to Wednesday 28 August (9006), participation from this day on; each day is one kW below the day before it, so that the
+ * farthest rank highest. */
+static void put_sloping(uint32_t p)
+{
+    uint32_t day;
+    put_head(&file, p, 7);
+    for (day = 8961; day <= 9006; day++)
+        put_day(&file, day, 0, 2000 - (day - 8961));
+}
+
+/* One event by each method, and by methods that are unknown: the file is read, these are refused 4, and the others are answered. */
+static void methods(void)
+{
+    static const uint32_t middle[] = {8997, 8998}, highest[] = {8990, 8991, 8992, 8994, 8997}, few[] = {9000, 9001};
+    static const uint32_t events[] = {0, 1, 2, 255, 1, 128, 0};
+    uint32_t i;
+    put_sloping(8000);
+    for (i = 0; i < 7; i++)
+        put_event_by(&file, 9006, 152, 156, 148, events[i]);
+    FILE_HOLDS(8000, 7, 0, 8961, 46, 7);
+    for (i = 0; i < 7; i++) {
+        EVENT_BY(i, 9006, 152, 156, 148, events[i]);
+        if (events[i] == HP_METHOD_HIGH)
+            ANSWERED(i, 16, answered(highest, 5, 16, 60 * 1955 - 12 * 9841, 4, 60 * 1955));
+        else if (events[i] == HP_METHOD_AVERAGE)
+            ANSWERED(i, 16, averaged(middle, 2, 16, 4, 1964 + 1963));
+        else
+            REFUSED(i, 16, HP_BAD_REQUEST, NONE, NONE);
+    }
+    NO_ROOM(1, 15, averaged(middle, 2, 16, 4, 1964 + 1963));
+    put_sloping(8999); /* 7 days before the event, and 6 */
+    put_event_by(&file, 9006, 152, 156, 148, HP_METHOD_AVERAGE);
+    ANSWERED(0, 16, averaged(few, 2, 7, 4, 1961 + 1960));
+    put_sloping(9000);
+    put_event_by(&file, 9006, 152, 156, 148, HP_METHOD_AVERAGE);
+    REFUSED(0, 16, HP_TOO_FEW, 3, 6);
+}
+
+/* Every byte is a method that the reader takes; it is told, and refused where it is unknown. */
+static void every_method(void)
+{
+    uint32_t method;
+    put_worked(&file);
+    for (method = 0; method <= 255; method++) {
+        file.bytes[file.length - EVENT_BYTES - 1] = (uint8_t)method;
+        FILE_HOLDS(6900, 77, 0, 6951, 22, 2);
+        EVENT_BY(0, 6972, 152, 156, 148, method);
+        EVENT_IS(1, 6966, 152, 156, 148);
+        if (method == HP_METHOD_HIGH)
+            ANSWERED(0, 16, worked_answer());
+        else
+            REFUSED(0, 16, method == HP_METHOD_AVERAGE ? HP_MARGIN_TOO_SHORT : HP_BAD_REQUEST, method == HP_METHOD_AVERAGE ? 42 : NONE, NONE);
+    }
+}
+
+/* Saturdays of the worked case, by participation from three of them before the event on: three, two, one and none. */
+static void saturdays(void)
+{
+    static const uint32_t days[] = {6965, 6958};
+    static const uint32_t start[] = {6951, 6952, 6959, 6966};
+    uint32_t i;
+    for (i = 0; i < 4; i++) {
+        put_head(&file, start[i], 77);
+        put_worked_days(&file);
+        put_event_by(&file, 6972, 152, 156, 148, HP_METHOD_AVERAGE);
+        if (i < 3)
+            ANSWERED(0, 16, averaged(days, i < 2 ? 2 : 1, 21 - 7 * i, 4, i < 2 ? 2300 : 1200));
+        else
+            REFUSED(0, 16, HP_TOO_FEW, 0, 0);
+    }
+}
+
 /* 11 and 12: the file. */
 static void refused_files(void)
 {
@@ -419,8 +492,8 @@ static void altered_files(void)
     expect_altered(8 + 5, 1, 8);
     expect_altered(8 + 21 * DAY_BYTES + 5, 255, 8 + 21 * DAY_BYTES);
     expect_altered(8 + 22 * DAY_BYTES, 'D', 8 + 22 * DAY_BYTES);
-    expect_altered(8 + 22 * DAY_BYTES + 7, 1, 8 + 22 * DAY_BYTES);
-    expect_altered(file.length - 1, 1, 8 + 22 * DAY_BYTES + EVENT_BYTES);
+    expect_altered(8 + 22 * DAY_BYTES + 1, 'Y', 8 + 22 * DAY_BYTES);
+    expect_altered(file.length - EVENT_BYTES, 'e', 8 + 22 * DAY_BYTES + EVENT_BYTES);
     ANSWERED(0, 16, worked_answer());
     put_moved(2);
     expect_altered(8, 'm', 8);
@@ -555,6 +628,16 @@ static void listings(void)
            "154 30264 1261\n155 30264 1261\n6966 152 156 refused 8 42\n");
     file.length--;
     LISTED("file refused 8596\n");
+    put_sloping(8000);
+    put_event_by(&file, 9006, 152, 154, 148, HP_METHOD_AVERAGE);
+    put_event_by(&file, 9006, 152, 154, 148, 2);
+    put_event_by(&file, 9006, 152, 154, 148, HP_METHOD_HIGH);
+    LISTED("portfolio 7 from 8000 held 8961 46\n9006 152 154 days 2 8997 8998 reach 16 over 2 adj 0\n152 3927 1964\n153 3927 1964\n"
+           "9006 152 154 refused 4\n9006 152 154 days 5 8990 8991 8992 8994 8997 reach 16 over 60 adj -792\n152 117300 1955\n153 117300 1955\n");
+    put_head(&file, 6965, 77);
+    put_worked_days(&file);
+    put_event_by(&file, 6972, 152, 154, 148, HP_METHOD_AVERAGE);
+    LISTED("portfolio 77 from 6965 held 6951 22\n6972 152 154 days 1 6965 reach 7 over 1 adj 0\n152 1200 1200\n153 1200 1200\n");
     put_moved(HP_MOST_MOVES);
     LISTED("portfolio 77 from 6900 held 6951 22\n6972 152 156 days 2 6951 6965 reach 21 over 24 adj 264\n152 30348 1265\n153 30264 1261\n"
            "154 30264 1261\n155 30264 1261\n");
@@ -635,6 +718,9 @@ int main(void)
         misplaced_moves();
         refused_moves();
         labour_day();
+        methods();
+        every_method();
+        saturdays();
         cut_files(0);
         cut_files(2);
         altered_files();

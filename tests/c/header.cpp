@@ -5,8 +5,8 @@
 #include "honeyplank.h"
 
 // Every constant, in the header's order. The names' numbers are those of tests/compare/src/told.rs too.
-static_assert(HP_VERSION_MAJOR == 0 && HP_VERSION_MINOR == 5 && HP_VERSION_PATCH == 0 && std::string_view(HP_VERSION) == "0.5.0");
-static_assert(HP_VERSION_NUMBER == 500);
+static_assert(HP_VERSION_MAJOR == 0 && HP_VERSION_MINOR == 6 && HP_VERSION_PATCH == 0 && std::string_view(HP_VERSION) == "0.6.0");
+static_assert(HP_VERSION_NUMBER == 600);
 static_assert(HP_STACK == 28672);
 static_assert(HP_STACK_LISTING == 327680);
 static_assert(HP_ANSWERED == 0);
@@ -34,6 +34,8 @@ static_assert(HP_HIGHEST == 10000000);
 static_assert(HP_MISSING == 0xFFFFFFFF);
 static_assert(HP_MARK_EVENT == 1);
 static_assert(HP_MARK_OUTAGE == 2);
+static_assert(HP_METHOD_HIGH == 0);
+static_assert(HP_METHOD_AVERAGE == 1);
 static_assert(HP_NOTHING == -0x7FFFFFFFFFFFFFFF - 1);
 static_assert(HP_RESULT == 0);
 static_assert(HP_CARRIED == 1);
@@ -57,6 +59,7 @@ static_assert(HP_EVENT_DAY == 17);
 static_assert(HP_EVENT_START == 18);
 static_assert(HP_EVENT_END == 19);
 static_assert(HP_EVENT_NOTICE == 20);
+static_assert(HP_EVENT_METHOD == 24);
 static_assert(HP_MOVE_FROM == 22);
 static_assert(HP_MOVE_TO == 23);
 static_assert(HP_MOST_BYTES == 384);
@@ -68,9 +71,9 @@ static_assert(HP_MOST_FILE == 50536);
 HAS_TYPE(hp_baseline, uint32_t (*)(const uint8_t *, size_t, size_t, uint8_t *, size_t));
 HAS_TYPE(hp_told, int64_t (*)(const uint8_t *, size_t, size_t, uint32_t));
 HAS_TYPE(hp_baseline_table, uint32_t (*)(uint32_t, const uint8_t *, size_t, const uint32_t *, size_t, const uint32_t *, size_t, uint32_t, uint32_t,
-                                         uint32_t, uint32_t, uint32_t, uint32_t *, size_t));
+                                         uint32_t, uint32_t, uint32_t, uint32_t, uint32_t *, size_t));
 HAS_TYPE(hp_told_table, int64_t (*)(uint32_t, const uint8_t *, size_t, const uint32_t *, size_t, const uint32_t *, size_t, uint32_t, uint32_t,
-                                    uint32_t, uint32_t, uint32_t, uint32_t));
+                                    uint32_t, uint32_t, uint32_t, uint32_t, uint32_t));
 HAS_TYPE(hp_day_part, int64_t (*)(uint32_t, const uint8_t *, size_t, const uint32_t *, size_t, uint32_t));
 HAS_TYPE(hp_file, int64_t (*)(const uint8_t *, size_t, uint32_t));
 HAS_TYPE(hp_event, int64_t (*)(const uint8_t *, size_t, size_t, uint32_t));
@@ -86,8 +89,8 @@ HAS_TYPE(hp_refusal_text, const char *(*)(uint32_t));
 int main()
 {
     return hp_baseline(nullptr, 0, 0, nullptr, 0) == HP_BAD_FILE && hp_told(nullptr, 0, 0, HP_RESULT) == HP_BAD_FILE &&
-                   hp_baseline_table(0, nullptr, 0, nullptr, 0, nullptr, 0, 0, 0, 0, 0, 0, nullptr, 0) == HP_BAD_TABLE &&
-                   hp_told_table(0, nullptr, 0, nullptr, 0, nullptr, 0, 0, 0, 0, 0, 0, HP_RESULT) == HP_BAD_TABLE &&
+                   hp_baseline_table(0, nullptr, 0, nullptr, 0, nullptr, 0, 0, 0, 0, 0, 0, 0, nullptr, 0) == HP_BAD_TABLE &&
+                   hp_told_table(0, nullptr, 0, nullptr, 0, nullptr, 0, 0, 0, 0, 0, 0, 0, HP_RESULT) == HP_BAD_TABLE &&
                    hp_day_part(0, nullptr, 0, nullptr, 0, 0) == HP_NOTHING && hp_file(nullptr, 0, HP_RESULT) == HP_BAD_FILE &&
                    hp_event(nullptr, 0, 0, HP_RESULT) == HP_BAD_FILE && hp_move(nullptr, 0, 0, HP_RESULT) == HP_BAD_FILE &&
                    hp_listing(nullptr, 0, nullptr, 0) == -HP_NO_ROOM &&

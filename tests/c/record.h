@@ -1,4 +1,5 @@
-/* Record files for the tests, built record by record (document 01, "Record file, listing, host entry"; order 2 for the moves). */
+/* Record files for the tests, built record by record (document 01, "Record file, listing, host entry"; order 2 for the moves, order 3 for
+ * the method). */
 #ifndef RECORD_H
 #define RECORD_H
 
@@ -61,14 +62,20 @@ static inline void put_day(struct record_file *file, uint32_t day, uint32_t mark
         put(file, reading, 4);
 }
 
-static inline void put_event(struct record_file *file, uint32_t d, uint32_t s, uint32_t e, uint32_t n)
+static inline void put_event_by(struct record_file *file, uint32_t d, uint32_t s, uint32_t e, uint32_t n, uint32_t method)
 {
     put(file, 'E' | 'V' << 8, 2);
     put(file, d, 2);
     put(file, s, 1);
     put(file, e, 1);
     put(file, n, 1);
-    put(file, 0, 1);
+    put(file, method, 1);
+}
+
+/* By method 0, High X of Y. */
+static inline void put_event(struct record_file *file, uint32_t d, uint32_t s, uint32_t e, uint32_t n)
+{
+    put_event_by(file, d, s, e, n, 0);
 }
 
 /* Where a reading stands in a file with so many moves, by its place over the whole table. */

@@ -1,4 +1,5 @@
-/* The entries over a table in memory: the worked case, refusals 1 to 10 and 14, the moves, the part of a day, and every buffer between guards. */
+/* The entries over a table in memory: the worked case, refusals 1 to 10 and 14, the moves, both methods, the part of a day, and every buffer between
+ * guards. */
 #include "check.h"
 #include "honeyplank.h"
 #include "told.h"
@@ -11,7 +12,7 @@ static uint8_t marks[MOST];
 static uint32_t readings[MOST * QUARTERS];
 static uint32_t moves[2 * (HP_MOST_MOVES + 1)];
 static size_t days, count, moved; /* moved: how many numbers the moves are */
-static uint32_t p, d, s, e, n;
+static uint32_t p, d, s, e, n, method;
 static int at_end;
 
 /* Document 01's worked case. */
@@ -23,7 +24,7 @@ static void worked(void)
     count = 22 * QUARTERS;
     moved = 0;
     fill_worked(readings, MOST);
-    p = 6900, d = 6972, s = 152, e = 156, n = 148;
+    p = 6900, d = 6972, s = 152, e = 156, n = 148, method = HP_METHOD_HIGH;
 }
 
 static void add_move(uint32_t from, uint32_t to)
@@ -48,10 +49,10 @@ static void expect(int line, size_t room, uint32_t number, struct result result)
     const uint32_t *lent = (const uint32_t *)(const void *)r.bytes, *list = (const uint32_t *)(const void *)v.bytes;
     size_t written = number == HP_ANSWERED ? 4 * result.quarters : 0;
     int before = failures, i;
-    CHECK(hp_baseline_table(first, m.bytes, days, lent, count, list, moved, p, d, s, e, n, (uint32_t *)(void *)out.bytes, room) == number);
+    CHECK(hp_baseline_table(first, m.bytes, days, lent, count, list, moved, p, d, s, e, n, method, (uint32_t *)(void *)out.bytes, room) == number);
     CHECK(kept(&out, written) && memcmp(out.bytes, result.numerators, written) == 0);
     for (i = 0; i < NAMES; i++)
-        CHECK(tells(&result.told, name_at(i), hp_told_table(first, m.bytes, days, lent, count, list, moved, p, d, s, e, n, name_at(i))));
+        CHECK(tells(&result.told, name_at(i), hp_told_table(first, m.bytes, days, lent, count, list, moved, p, d, s, e, n, method, name_at(i))));
     if (failures != before)
         printf("  in the call of line %d\n", line);
     give_back(&m);
@@ -153,7 +154,7 @@ static void every_first_day(void)
     worked(), days = 1, count = QUARTERS, p = d = first;
     for (day = 0; day <= HP_LAST_DAY + 366; day++) {
         uint32_t due = day <= HP_LAST_DAY && is_fixed(hp_date(day)) ? HP_TOO_FEW : HP_BAD_MOVES, list[] = {day, 0};
-        CHECK(hp_baseline_table(first, marks, days, readings, count, list, 2, p, d, s, e, n, out, 4) == due);
+        CHECK(hp_baseline_table(first, marks, days, readings, count, list, 2, p, d, s, e, n, method, out, 4) == due);
     }
 }
 
@@ -277,6 +278,195 @@ static void any_second_day(void)
     add_move(6934, 6942), CHOSEN(5, 20, 6946, 6943, 6941, 6939, 6936); /* 26 December 2018 to 3 January */
 }
 
+/* Days from this one on, each one kW below the day before it, so that the farthest rank highest; the event is of four quarters of this day, by
+ * HP_METHOD_AVERAGE. */
+static void sloping(uint32_t from, uint32_t day)
+{
+    uint32_t i;
+    even(from, day);
+    for (i = 0; i < MOST * QUARTERS; i++)
+        readings[i] = 2000 - i / QUARTERS;
+    method = HP_METHOD_AVERAGE;
+}
+
+/* Every day with this mark. */
+static void mark_all(uint8_t mark)
+{
+    memset(marks, mark, sizeof marks);
+}
+
+static void set_mark(uint32_t day, uint8_t mark)
+{
+    marks[day - first] = mark;
+}
+
+static uint32_t load(uint32_t day)
+{
+    return readings[QUARTERS * (day - first)];
+}
+
+/* Two days averaged, over 2, or one, over 1. */
+#define TWO(reach, one, two) ANSWERED(4, averaged((const uint32_t[]){one, two}, 2, reach, 4, load(one) + load(two)))
+#define ONE(reach, day) ANSWERED(4, averaged((const uint32_t[]){day}, 1, reach, 4, load(day)))
+
+/* Wednesday 28 August 2024 (9006) has the weekdays 9004, 9001 to 8997, 8994 and 8992 to 8990 in its window of ten: 9005 is the day before, 8993 is 15
+ * August. The 5th and 6th by rank are averaged. */
+static void average_of_ten(void)
+{
+    sloping(8961, 9006), TWO(16, 8997, 8998);
+    sloping(8990, 9006), TWO(16, 8997, 8998);
+    sloping(8991, 9006), REFUSED(4, HP_MARGIN_TOO_SHORT, 44, NONE), NO_ROOM(3, refused(HP_MARGIN_TOO_SHORT, 44, NONE));
+    sloping(8961, 9006), s = 96, e = 192, n = 0, ANSWERED(96, averaged((const uint32_t[]){8997, 8998}, 2, 16, 96, load(8997) + load(8998)));
+    sloping(8961, 9006), NO_ROOM(3, averaged((const uint32_t[]){8997, 8998}, 2, 16, 4, load(8997) + load(8998)));
+    even(8961, 9006), method = HP_METHOD_AVERAGE, TWO(16, 8998, 8997); /* equal sums: the nearer first */
+    even(8961, 9006), CHOSEN(5, 16, 9004, 9001, 9000, 8999, 8998);
+    sloping(8961, 9006), set_mark(9004, HP_MARK_EVENT), set_mark(9001, HP_MARK_OUTAGE), TWO(20, 8992, 8994); /* to 8987 and 8986 */
+    sloping(8961, 9006), readings[QUARTERS * (8990 - 8961) + 95] = HP_MISSING, TWO(19, 8997, 8998); /* to 8987 */
+}
+
+/* The sum over the event's quarters ranks, and equal sums put the nearer first: that of 8998 is 4 below 8997's and 16 below 8994's. */
+static void ranked_by_sums(void)
+{
+    static const uint32_t more[] = {0, 3, 4, 5, 15}, upper[] = {8997, 8997, 8998, 8998, 8998}, lower[] = {8998, 8998, 8997, 8997, 8997};
+    int i;
+    for (i = 0; i < 5; i++) {
+        struct result result;
+        sloping(8961, 9006), result = averaged((const uint32_t[]){upper[i], lower[i]}, 2, 16, 4, load(8997) + load(8998));
+        result.numerators[1] += more[i];
+        readings[QUARTERS * (8998 - 8961) + 57] += more[i];
+        ANSWERED(4, result);
+    }
+    sloping(8961, 9006), readings[QUARTERS * (8998 - 8961) + 57] += 16, TWO(16, 8994, 8997); /* the 4th now */
+    sloping(8961, 9006), readings[QUARTERS * (8998 - 8961) + 55] += 17, TWO(16, 8997, 8998); /* before the event */
+    sloping(8961, 9006), readings[QUARTERS * (8998 - 8961) + 60] += 17, TWO(16, 8997, 8998); /* after it */
+}
+
+/* Participation that starts later leaves four to nine weekdays: the 2nd and 3rd are averaged. */
+static void average_of_some(void)
+{
+    static const uint32_t window[] = {8991, 8992, 8994, 8997, 8998, 8999, 9000, 9001, 9004};
+    uint32_t i;
+    for (i = 0; i <= 5; i++)
+        sloping(8961, 9006), p = window[i], TWO(9006 - window[i], window[i + 1], window[i + 2]);
+    sloping(8961, 9006), p = 8993, TWO(12, 8997, 8998); /* the holiday is not relevant */
+    sloping(8961, 9006), p = 8990, set_mark(8998, HP_MARK_EVENT), TWO(16, 8991, 8992); /* nine, and a spare day that is not needed */
+}
+
+/* Three and two weekdays, where participation started 7 days before the event, and 6. */
+static void average_of_few(void)
+{
+    sloping(8961, 9006), p = 8999, TWO(7, 9000, 9001); /* four */
+    p = 9000, REFUSED(4, HP_TOO_FEW, 3, 6), NO_ROOM(3, refused(HP_TOO_FEW, 3, 6));
+    p = 9001, REFUSED(4, HP_TOO_FEW, 2, 5);
+    p = 9002, REFUSED(4, HP_TOO_FEW, 1, 2);
+    p = 9005, REFUSED(4, HP_TOO_FEW, 0, 0);
+    p = 9006, REFUSED(4, HP_TOO_FEW, 0, 0);
+    p = 9007, REFUSED(4, HP_NOT_YET_PARTICIPATING, NONE, NONE);
+    sloping(8961, 9006), p = 8999, set_mark(8999, HP_MARK_OUTAGE), TWO(7, 9001, 9004); /* three: the highest is left out */
+    p = 9000, REFUSED(4, HP_TOO_FEW, 3, 6);
+    set_mark(9000, HP_MARK_OUTAGE), p = 8999, TWO(7, 9001, 9004); /* two: both */
+    p = 9000, REFUSED(4, HP_TOO_FEW, 2, 6);
+    set_mark(9001, HP_MARK_OUTAGE), p = 8999, REFUSED(4, HP_TOO_FEW, 1, 7);
+    set_mark(9004, HP_MARK_OUTAGE), REFUSED(4, HP_TOO_FEW, 0, 7);
+    sloping(8961, 9004), p = 8998, TWO(6, 8999, 9000); /* Monday 26 August: four weekdays in six days */
+    p = 8999, REFUSED(4, HP_TOO_FEW, 3, 5);
+    sloping(8961, 9006), mark_all(HP_MARK_OUTAGE), set_mark(8962, 0), set_mark(9004, 0), TWO(44, 8962, 9004);
+    p = 8963, REFUSED(4, HP_TOO_FEW, 1, 43);
+}
+
+/* Below four weekdays the latest event days are added up to four, not the highest: the farthest are the highest here. */
+static void average_with_spares(void)
+{
+    sloping(8961, 9006), mark_all(HP_MARK_EVENT), TWO(44, 9000, 9001);
+    p = 9000, REFUSED(4, HP_TOO_FEW, 3, 6);
+    p = 8999, TWO(7, 9000, 9001);
+    sloping(8961, 9006), mark_all(HP_MARK_EVENT), set_mark(8962, 0), TWO(44, 9000, 9001); /* 8962, 9000, 9001, 9004 */
+    set_mark(8963, 0), TWO(44, 8963, 9001);
+    set_mark(8964, 0), TWO(44, 8963, 8964);
+    set_mark(8965, 0), TWO(44, 8963, 8964); /* four, and no spare day */
+    sloping(8961, 9006), mark_all(HP_MARK_EVENT | HP_MARK_OUTAGE), set_mark(9000, HP_MARK_EVENT), set_mark(8990, 0), TWO(44, 8990, 9000);
+    set_mark(8990, HP_MARK_EVENT | HP_MARK_OUTAGE), REFUSED(4, HP_TOO_FEW, 1, 44);
+    sloping(8999, 9006), p = 8999, mark_all(HP_MARK_EVENT), readings[95] = HP_MISSING, TWO(7, 9001, 9004); /* not complete: three */
+    p = 9000, set_mark(9001, 0), REFUSED(4, HP_TOO_FEW, 3, 6);
+}
+
+/* Saturday 31 August 2024 (9009) has 9002, 8995, 8988 and 8981 in its window of four; event days are never added. */
+static void average_of_saturdays(void)
+{
+    sloping(8961, 9009), TWO(28, 8988, 8995);
+    sloping(8981, 9009), TWO(28, 8988, 8995);
+    sloping(8982, 9009), REFUSED(4, HP_MARGIN_TOO_SHORT, 42, NONE);
+    sloping(8961, 9009), set_mark(8995, HP_MARK_EVENT), TWO(35, 8981, 8988);
+    sloping(8961, 9009), p = 8982, TWO(21, 8995, 9002); /* three: the last two by rank */
+    p = 8989, TWO(14, 8995, 9002); /* two */
+    set_mark(8995, HP_MARK_EVENT), ONE(14, 9002); /* one: the event day plays no part */
+    set_mark(8995, 0), p = 8996, ONE(7, 9002);
+    set_mark(9002, HP_MARK_EVENT), REFUSED(4, HP_TOO_FEW, 0, 7);
+    p = 9003, REFUSED(4, HP_TOO_FEW, 0, 0);
+    worked(), method = HP_METHOD_AVERAGE, REFUSED(4, HP_MARGIN_TOO_SHORT, 42, NONE); /* the worked case holds three, and High X of Y needs no more */
+    p = 6951, ANSWERED(4, averaged((const uint32_t[]){6965, 6958}, 2, 21, 4, 2300));
+}
+
+/* Easter Sunday 2024 (8891) comes after Good Friday and Holy Saturday, which are of its group: one day alone, 7 days after participation started and
+ * 6. Two are enough at any time. */
+static void average_of_holidays(void)
+{
+    sloping(8840, 8891), TWO(7, 8887, 8889); /* 1 May, and the Sunday before: four in the window */
+    p = 8889, TWO(2, 8889, 8890);
+    p = 8890, REFUSED(4, HP_TOO_FEW, 1, 1);
+    sloping(8840, 8891), set_mark(8884, HP_MARK_OUTAGE), set_mark(8887, HP_MARK_EVENT), set_mark(8889, HP_MARK_OUTAGE);
+    p = 8884, ONE(7, 8890);
+    p = 8885, REFUSED(4, HP_TOO_FEW, 1, 4);
+    p = 8878, ONE(7, 8890);
+    p = 8877, TWO(14, 8877, 8890);
+    add_move(8887, 8893), set_mark(8887, 0), p = 8884, ONE(7, 8890); /* 1 May moved: a weekday */
+}
+
+/* Refusal 4: an unknown method, after 14 and before 5; n is tested by either method. */
+static void methods(void)
+{
+    static const uint32_t unknown[] = {2, 3, 5, 255, 256, 257, 65536, 65537, 2147483648u, UINT32_MAX};
+    size_t i;
+    for (i = 0; i < sizeof unknown / sizeof unknown[0]; i++) {
+        worked(), method = unknown[i], REFUSED(4, HP_BAD_REQUEST, NONE, NONE), REFUSED(0, HP_BAD_REQUEST, NONE, NONE);
+        worked(), method = unknown[i], d = 6973, REFUSED(4, HP_BAD_REQUEST, NONE, NONE);
+        worked(), method = unknown[i], p = 6973, REFUSED(4, HP_BAD_REQUEST, NONE, NONE);
+        worked(), method = unknown[i], add_move(8888, 8893), REFUSED(4, HP_BAD_MOVES, NONE, NONE);
+        worked(), method = unknown[i], readings[2111] = HP_HIGHEST + 1, REFUSED(4, HP_BAD_READING, 2111, NONE);
+    }
+    sloping(8961, 9006), n = 153, REFUSED(4, HP_BAD_REQUEST, NONE, NONE);
+    sloping(8961, 9006), s = 95, REFUSED(4, HP_BAD_REQUEST, NONE, NONE);
+    sloping(8961, 9006), e = 152, REFUSED(4, HP_BAD_REQUEST, NONE, NONE);
+    sloping(8961, 9006), p = 36525, REFUSED(4, HP_BAD_REQUEST, NONE, NONE);
+    sloping(8961, 9006), d = 9007, REFUSED(4, HP_NOT_HELD, NONE, NONE);
+}
+
+/* Nothing read on the day before nor on the event day: High X of Y has no adjustment window, Average X of Y needs none, whatever n is. */
+static void no_adjustment(void)
+{
+    uint32_t i;
+    sloping(8961, 9006);
+    for (i = QUARTERS * (9005 - 8961); i < QUARTERS * (9007 - 8961); i++)
+        readings[i] = HP_MISSING;
+    for (n = 0; n <= s; n++)
+        TWO(16, 8997, 8998);
+    n = 148, method = HP_METHOD_HIGH, REFUSED(4, HP_NO_ADJUSTMENT_WINDOW, 16, NONE);
+}
+
+/* The highest readings: no numerator is higher. */
+static void highest_average(void)
+{
+    uint32_t i;
+    sloping(8961, 9009);
+    for (i = 0; i < count; i++)
+        readings[i] = HP_HIGHEST;
+    TWO(28, 8995, 8988);
+    p = 8996, ONE(7, 9002);
+    for (i = 0; i < count; i++)
+        readings[i] = 0;
+    ONE(7, 9002);
+}
+
 /* What the header says of places that are counted within the day: s and e are refused; n is taken, as a place of the day before. */
 static void within_the_day(void)
 {
@@ -346,14 +536,14 @@ static void nothing_lent(void)
 {
     uint32_t out[4] = {0};
     worked();
-    CHECK(hp_baseline_table(0, NULL, 0, NULL, 0, NULL, 0, 0, 0, 0, 0, 0, NULL, 0) == HP_BAD_TABLE);
-    CHECK(hp_told_table(0, NULL, 0, NULL, 0, NULL, 0, 0, 0, 0, 0, 0, HP_RESULT) == HP_BAD_TABLE);
+    CHECK(hp_baseline_table(0, NULL, 0, NULL, 0, NULL, 0, 0, 0, 0, 0, 0, 0, NULL, 0) == HP_BAD_TABLE);
+    CHECK(hp_told_table(0, NULL, 0, NULL, 0, NULL, 0, 0, 0, 0, 0, 0, 0, HP_RESULT) == HP_BAD_TABLE);
     CHECK(hp_day_part(0, NULL, 0, NULL, 0, 0) == HP_NOTHING);
-    CHECK(hp_baseline_table(first, marks, days, NULL, 0, NULL, 0, p, d, s, e, n, out, 4) == HP_BAD_TABLE);
-    CHECK(hp_baseline_table(first, NULL, 0, readings, count, NULL, 0, p, d, s, e, n, out, 4) == HP_BAD_TABLE);
-    CHECK(hp_baseline_table(first, marks, days, readings, count, NULL, 0, p, d, s, e, n, NULL, 0) == HP_NO_ROOM);
-    CHECK(hp_baseline_table(first, marks, days, readings, count, NULL, 0, p, d, s, e, n, out, 4) == HP_ANSWERED && out[0] == 30348);
-    CHECK(hp_told_table(first, marks, days, readings, count, NULL, 0, p, d, s, e, n, HP_ADJUSTMENT) == 264);
+    CHECK(hp_baseline_table(first, marks, days, NULL, 0, NULL, 0, p, d, s, e, n, method, out, 4) == HP_BAD_TABLE);
+    CHECK(hp_baseline_table(first, NULL, 0, readings, count, NULL, 0, p, d, s, e, n, method, out, 4) == HP_BAD_TABLE);
+    CHECK(hp_baseline_table(first, marks, days, readings, count, NULL, 0, p, d, s, e, n, method, NULL, 0) == HP_NO_ROOM);
+    CHECK(hp_baseline_table(first, marks, days, readings, count, NULL, 0, p, d, s, e, n, method, out, 4) == HP_ANSWERED && out[0] == 30348);
+    CHECK(hp_told_table(first, marks, days, readings, count, NULL, 0, p, d, s, e, n, method, HP_ADJUSTMENT) == 264);
 }
 
 int main(void)
@@ -370,6 +560,16 @@ int main(void)
         thursday();
         stays_a_holiday();
         any_second_day();
+        average_of_ten();
+        ranked_by_sums();
+        average_of_some();
+        average_of_few();
+        average_with_spares();
+        average_of_saturdays();
+        average_of_holidays();
+        methods();
+        no_adjustment();
+        highest_average();
         within_the_day();
         day_parts();
         nothing_lent();

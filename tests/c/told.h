@@ -5,7 +5,7 @@
 #include "check.h"
 #include "honeyplank.h"
 
-enum { LAST_NAME = HP_MOVE_TO };
+enum { LAST_NAME = HP_EVENT_METHOD };
 
 #define NONE HP_NOTHING
 
@@ -45,8 +45,8 @@ static inline struct result refused(uint32_t number, int64_t first, int64_t seco
     return result;
 }
 
-/* Answered with these days, and the same numerator at every quarter. */
-static inline struct result answered(const uint32_t *days, uint32_t count, int64_t reach, int64_t adjustment, size_t quarters, uint32_t numerator)
+/* Averaged over these days without adjustment, by HP_METHOD_AVERAGE, and the same numerator at every quarter. */
+static inline struct result averaged(const uint32_t *days, uint32_t count, int64_t reach, size_t quarters, uint32_t numerator)
 {
     struct result result = {0};
     size_t i;
@@ -55,11 +55,20 @@ static inline struct result answered(const uint32_t *days, uint32_t count, int64
     for (i = 0; i < count; i++)
         result.told.numbers[HP_DAY_1 + i] = days[i];
     result.told.numbers[HP_REACH] = reach;
-    result.told.numbers[HP_DENOMINATOR] = 12 * count;
-    result.told.numbers[HP_ADJUSTMENT] = adjustment;
+    result.told.numbers[HP_DENOMINATOR] = count;
+    result.told.numbers[HP_ADJUSTMENT] = 0;
     result.quarters = quarters;
     for (i = 0; i < quarters; i++)
         result.numerators[i] = numerator;
+    return result;
+}
+
+/* The same by HP_METHOD_HIGH, with this adjustment. */
+static inline struct result answered(const uint32_t *days, uint32_t count, int64_t reach, int64_t adjustment, size_t quarters, uint32_t numerator)
+{
+    struct result result = averaged(days, count, reach, quarters, numerator);
+    result.told.numbers[HP_DENOMINATOR] = 12 * count;
+    result.told.numbers[HP_ADJUSTMENT] = adjustment;
     return result;
 }
 
@@ -86,13 +95,14 @@ static inline struct told move_of(int64_t from, int64_t to)
 }
 
 /* What hp_event tells of an event. */
-static inline struct told event_of(int64_t d, int64_t s, int64_t e, int64_t n)
+static inline struct told event_of(int64_t d, int64_t s, int64_t e, int64_t n, int64_t method)
 {
     struct told told = told_refusal(HP_ANSWERED, NONE, NONE);
     told.numbers[HP_EVENT_DAY] = d;
     told.numbers[HP_EVENT_START] = s;
     told.numbers[HP_EVENT_END] = e;
     told.numbers[HP_EVENT_NOTICE] = n;
+    told.numbers[HP_EVENT_METHOD] = method;
     return told;
 }
 

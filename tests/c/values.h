@@ -26,6 +26,9 @@ static inline void fill_worked(uint32_t *readings, uint32_t days)
     fill_day(readings, 6972, 1261);
 }
 
+/* Of an event: D, s, e, n and the method. */
+enum { EVENT_NUMBERS = 5 };
+
 /* With room for a day, a move and an event more than a file has. */
 struct values {
     uint32_t p, portfolio, first;
@@ -33,7 +36,7 @@ struct values {
     uint8_t marks[HP_MOST_DAYS + 1];
     uint32_t readings[(HP_MOST_DAYS + 1) * QUARTERS];
     uint32_t moves[2 * (HP_MOST_MOVES + 1)];
-    uint32_t events[4 * (HP_MOST_EVENTS + 1)];
+    uint32_t events[EVENT_NUMBERS * (HP_MOST_EVENTS + 1)];
 };
 
 static inline int64_t write_values(const struct values *values, uint8_t *out, size_t room)
@@ -53,13 +56,14 @@ static inline void put_values(struct record_file *file, const struct values *val
         put_day(file, values->first + (uint32_t)i, values->marks[i], 0);
     for (i = 0; i < values->count; i++)
         set_reading(file, i, values->readings[i]);
-    for (; event < values->events + values->numbers; event += 4)
-        put_event(file, event[0], event[1], event[2], event[3]);
+    for (; event < values->events + values->numbers; event += EVENT_NUMBERS)
+        put_event_by(file, event[0], event[1], event[2], event[3], event[4]);
 }
 
 /* The values of a file that is as laid down, by the entries: all but marks and readings. */
 static inline void take_told(struct values *values, const uint8_t *file, size_t length)
 {
+    static const uint32_t names[EVENT_NUMBERS] = {HP_EVENT_DAY, HP_EVENT_START, HP_EVENT_END, HP_EVENT_NOTICE, HP_EVENT_METHOD};
     size_t i;
     values->p = (uint32_t)hp_file(file, length, HP_FILE_PARTICIPATION);
     values->portfolio = (uint32_t)hp_file(file, length, HP_FILE_PORTFOLIO);
@@ -67,11 +71,11 @@ static inline void take_told(struct values *values, const uint8_t *file, size_t 
     values->days = (size_t)hp_file(file, length, HP_FILE_DAYS);
     values->count = QUARTERS * values->days;
     values->moved = 2 * (size_t)hp_file(file, length, HP_FILE_MOVES);
-    values->numbers = 4 * (size_t)hp_file(file, length, HP_FILE_EVENTS);
+    values->numbers = EVENT_NUMBERS * (size_t)hp_file(file, length, HP_FILE_EVENTS);
     for (i = 0; i < values->moved; i++)
         values->moves[i] = (uint32_t)hp_move(file, length, i / 2, HP_MOVE_FROM + i % 2);
     for (i = 0; i < values->numbers; i++)
-        values->events[i] = (uint32_t)hp_event(file, length, i / 4, HP_EVENT_DAY + i % 4);
+        values->events[i] = (uint32_t)hp_event(file, length, i / EVENT_NUMBERS, names[i % EVENT_NUMBERS]);
 }
 
 /* All of them: marks and readings from the bytes. */

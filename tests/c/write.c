@@ -37,7 +37,7 @@ static void expect(int line, size_t room, int64_t due)
 static void expect_refused(int line, int64_t number)
 {
     expect(line, 0, -number);
-    expect(line, 8 + MOVE_BYTES * (values.moved / 2 + 1) + DAY_BYTES * values.days + EVENT_BYTES * (values.numbers / 4 + 1), -number);
+    expect(line, 8 + MOVE_BYTES * (values.moved / 2 + 1) + DAY_BYTES * values.days + EVENT_BYTES * (values.numbers / EVENT_NUMBERS + 1), -number);
 }
 
 /* With just its room the file is written, with a byte less nothing is. */
@@ -57,16 +57,17 @@ static void expect_read_back(int line)
     static uint8_t out[HP_MOST_FILE];
     int64_t given = write_values(&values, out, sizeof out);
     size_t length = given < 0 ? 0 : (size_t)given, i;
-    struct told due = held(values.p, values.portfolio, (int64_t)values.moved / 2, values.first, (int64_t)values.days, (int64_t)values.numbers / 4);
+    int64_t moves = (int64_t)values.moved / 2, events = (int64_t)values.numbers / EVENT_NUMBERS;
+    struct told due = held(values.p, values.portfolio, moves, values.first, (int64_t)values.days, events);
     int before = failures;
     check_file(out, length, &due);
     for (i = 0; i < values.moved / 2; i++) {
         due = move_of(values.moves[2 * i], values.moves[2 * i + 1]);
         check_move(out, length, i, &due);
     }
-    for (i = 0; i < values.numbers / 4; i++) {
-        const uint32_t *event = values.events + 4 * i;
-        due = event_of(event[0], event[1], event[2], event[3]);
+    for (i = 0; i < values.numbers / EVENT_NUMBERS; i++) {
+        const uint32_t *event = values.events + EVENT_NUMBERS * i;
+        due = event_of(event[0], event[1], event[2], event[3], event[4]);
         check_event(out, length, i, &due);
     }
     if (failures != before)
@@ -78,10 +79,10 @@ static void expect_read_back(int line)
 /* Document 01's worked case. */
 static void worked(void)
 {
-    static const uint32_t events[] = {6972, 152, 156, 148, 6966, 152, 156, 148};
+    static const uint32_t events[] = {6972, 152, 156, 148, HP_METHOD_HIGH, 6966, 152, 156, 148, HP_METHOD_HIGH};
     memset(&values, 0, sizeof values);
     values.p = 6900, values.portfolio = 77, values.first = 6951;
-    values.days = 22, values.count = 22 * QUARTERS, values.numbers = 8;
+    values.days = 22, values.count = 22 * QUARTERS, values.numbers = 2 * EVENT_NUMBERS;
     fill_worked(values.readings, HP_MOST_DAYS + 1);
     memcpy(values.events, events, sizeof events);
 }
@@ -91,7 +92,7 @@ static void fill(uint32_t moves, uint32_t days, uint32_t events)
 {
     uint32_t i;
     worked();
-    values.days = days, values.count = days * QUARTERS, values.moved = 2 * moves, values.numbers = 4 * events;
+    values.days = days, values.count = days * QUARTERS, values.moved = 2 * moves, values.numbers = EVENT_NUMBERS * events;
     values.first = days == 0 ? 0 : 250;
     for (i = 0; i < days; i++)
         values.marks[i] = (uint8_t)(255 - i);
@@ -99,8 +100,8 @@ static void fill(uint32_t moves, uint32_t days, uint32_t events)
         values.readings[i] = (i + days) * 2654435761u;
     for (i = 0; i < 2 * moves; i++)
         values.moves[i] = (i + 1) * 2654435761u >> 16;
-    for (i = 0; i < 4 * events; i++)
-        values.events[i] = i * 2654435761u >> (i % 4 == 0 ? 16 : 24);
+    for (i = 0; i < EVENT_NUMBERS * events; i++)
+        values.events[i] = i * 2654435761u >> (i % EVENT_NUMBERS == 0 ? 16 : 24);
 }
 
 /* The worked case is the sample, and has its listing; `out` may stand at any address. */
@@ -145,7 +146,7 @@ static void highest_numbers(void)
 {
     int i;
     fill(1, 1, 1), values.p = 65535, values.portfolio = UINT32_MAX, values.marks[0] = 255;
-    values.moves[0] = values.moves[1] = values.events[0] = 65535, values.events[1] = values.events[2] = values.events[3] = 255;
+    values.moves[0] = values.moves[1] = values.events[0] = 65535, values.events[1] = values.events[2] = values.events[3] = values.events[4] = 255;
     for (i = 0; i < QUARTERS; i++)
         values.readings[i] = i % 2 == 0 ? UINT32_MAX : UINT32_MAX - 1;
     WRITTEN(), READ_BACK();
@@ -160,7 +161,7 @@ static void refused_tables(void)
     worked(), values.days--, REFUSED(HP_BAD_TABLE);
     worked(), values.days = 0, values.first = 0, REFUSED(HP_BAD_TABLE);
     worked(), values.days = 129, values.count = 129 * QUARTERS, REFUSED(HP_BAD_TABLE);
-    values.p = values.events[0] = UINT32_MAX, values.numbers = 257, REFUSED(HP_BAD_TABLE);
+    values.p = values.events[0] = UINT32_MAX, values.numbers = EVENT_NUMBERS * HP_MOST_EVENTS + 1, REFUSED(HP_BAD_TABLE);
     worked(), values.count--, values.first = UINT32_MAX, REFUSED(HP_BAD_TABLE);
     fill(HP_MOST_MOVES + 1, 2, 1), values.count--, REFUSED(HP_BAD_TABLE);
     fill(1, 2, 1), values.count--, values.moved = 1, values.moves[0] = UINT32_MAX, REFUSED(HP_BAD_TABLE);
@@ -169,10 +170,10 @@ static void refused_tables(void)
 /* 13: P, and how many numbers the events and the moves have. */
 static void refused_counts(void)
 {
-    static const size_t numbers[] = {1, 2, 3, 5, 6, 7, 253, 254, 255, 257, 258, 259, 260};
     size_t i;
-    for (i = 0; i < sizeof numbers / sizeof numbers[0]; i++)
-        fill(0, 2, HP_MOST_EVENTS + 1), values.numbers = numbers[i], REFUSED(HP_UNWRITABLE);
+    for (i = 1; i <= EVENT_NUMBERS * (HP_MOST_EVENTS + 1); i++)
+        if (i % EVENT_NUMBERS != 0 || i > EVENT_NUMBERS * HP_MOST_EVENTS)
+            fill(0, 2, HP_MOST_EVENTS + 1), values.numbers = i, REFUSED(HP_UNWRITABLE);
     for (i = 1; i <= 2 * HP_MOST_MOVES; i += 2)
         fill(HP_MOST_MOVES + 1, 2, 1), values.moved = i, REFUSED(HP_UNWRITABLE);
     for (i = 2 * HP_MOST_MOVES + 1; i <= 2 * (HP_MOST_MOVES + 1); i++)
@@ -206,8 +207,8 @@ static void refused_events(void)
     fill(0, 0, HP_MOST_EVENTS);
     for (i = 0; i < values.numbers; i++) {
         was = values.events[i];
-        values.events[i] = i % 4 == 0 ? 65536 : 256, REFUSED(HP_UNWRITABLE);
-        values.events[i] = was + (i % 4 == 0 ? 65536 : 256), REFUSED(HP_UNWRITABLE);
+        values.events[i] = i % EVENT_NUMBERS == 0 ? 65536 : 256, REFUSED(HP_UNWRITABLE);
+        values.events[i] = was + (i % EVENT_NUMBERS == 0 ? 65536 : 256), REFUSED(HP_UNWRITABLE);
         values.events[i] = UINT32_MAX, REFUSED(HP_UNWRITABLE);
         values.events[i] = was;
     }
@@ -230,6 +231,36 @@ static void refused_moves(void)
         values.moves[i] = was;
     }
     WRITTEN(), READ_BACK();
+}
+
+/* The method of an event: every byte is written and read back, the first above it is 13. */
+static void methods(void)
+{
+    static const uint32_t beyond[] = {256, 257, 65536, 65537, 2147483648u, UINT32_MAX};
+    uint32_t method, i;
+    for (method = 0; method <= 255; method++) {
+        worked(), values.events[4] = method, values.events[9] = 255 - method, WRITTEN(), READ_BACK();
+        CHECK(file.bytes[file.length - EVENT_BYTES - 1] == method && file.bytes[file.length - 1] == 255 - method);
+    }
+    for (i = 0; i < sizeof beyond / sizeof beyond[0]; i++) {
+        worked(), values.events[4] = beyond[i], REFUSED(HP_UNWRITABLE);
+        worked(), values.events[9] = beyond[i], REFUSED(HP_UNWRITABLE);
+    }
+}
+
+/* Four numbers an event, as up to version 0.5.0, are refused: they are no multiple of five, or a day stands where a method does. */
+static void four_numbers(void)
+{
+    static const uint32_t old[] = {6972, 152, 156, 148};
+    uint32_t events, i;
+    for (events = 1; events <= HP_MOST_EVENTS; events++) {
+        worked(), values.numbers = 4 * events;
+        for (i = 0; i < 4 * events; i++)
+            values.events[i] = old[i % 4];
+        REFUSED(HP_UNWRITABLE);
+    }
+    worked(), memset(values.events, 0, sizeof values.events), values.numbers = 20, WRITTEN(), READ_BACK();
+    CHECK(file.length == 8 + 22 * DAY_BYTES + 4 * EVENT_BYTES);
 }
 
 static int again;
@@ -277,6 +308,8 @@ int main(void)
         refused_days();
         refused_events();
         refused_moves();
+        methods();
+        four_numbers();
         samples_again();
         nothing_lent();
     }
