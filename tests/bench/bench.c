@@ -4,7 +4,8 @@
  * kW, are also written to DIR/largest.rec and DIR/high.rec, for the listing programs.
  * bench DIR once: each case once in each way, whose names its line has, between call_begins and call_ends, for an emulator to count instructions.
  * Compiled with BEFORE it also measures the entries of an earlier archive, in which every name that it exports begins with before_; with
- * BEFORE_WRITES its writer too. With BEFORE_MOVES they are those of this header; otherwise they take no list of moves, and have no case with one. */
+ * BEFORE_WRITES its writer too. With BEFORE_METHODS they are those of this header. With BEFORE_MOVES alone they take no method, otherwise no list of
+ * moves either; and they have no case with what they do not take. */
 #define _POSIX_C_SOURCE 200809L
 #include <stdio.h>
 #include <stdlib.h>
@@ -21,19 +22,33 @@ typedef uint32_t baseline_entry(const uint8_t *file, size_t length, size_t place
 typedef int64_t told_entry(const uint8_t *file, size_t length, size_t place, uint32_t name);
 typedef uint32_t baseline_table_entry(uint32_t first, const uint8_t *marks, size_t days, const uint32_t *readings, size_t count,
                                       const uint32_t *moves, size_t moved, uint32_t p, uint32_t d, uint32_t s, uint32_t e, uint32_t n,
-                                      uint32_t *out, size_t room);
+                                      uint32_t method, uint32_t *out, size_t room);
 typedef int64_t told_table_entry(uint32_t first, const uint8_t *marks, size_t days, const uint32_t *readings, size_t count, const uint32_t *moves,
-                                 size_t moved, uint32_t p, uint32_t d, uint32_t s, uint32_t e, uint32_t n, uint32_t name);
+                                 size_t moved, uint32_t p, uint32_t d, uint32_t s, uint32_t e, uint32_t n, uint32_t method, uint32_t name);
 typedef int64_t write_entry(uint32_t p, uint32_t portfolio, uint32_t first, const uint8_t *marks, size_t days, const uint32_t *readings, size_t count,
                             const uint32_t *moves, size_t moved, const uint32_t *events, size_t numbers, uint8_t *out, size_t room);
 
-/* Those that take no list of moves, as they were declared up to version 0.4.0. */
+/* Those that take no method, as they were declared in version 0.5.0; hp_write had the same type, and took four numbers an event. */
+typedef uint32_t listed_baseline_table_entry(uint32_t first, const uint8_t *marks, size_t days, const uint32_t *readings, size_t count,
+                                             const uint32_t *moves, size_t moved, uint32_t p, uint32_t d, uint32_t s, uint32_t e, uint32_t n,
+                                             uint32_t *out, size_t room);
+typedef int64_t listed_told_table_entry(uint32_t first, const uint8_t *marks, size_t days, const uint32_t *readings, size_t count,
+                                        const uint32_t *moves, size_t moved, uint32_t p, uint32_t d, uint32_t s, uint32_t e, uint32_t n,
+                                        uint32_t name);
+
+/* Those that take no list of moves either, as they were declared up to version 0.4.0. */
 typedef uint32_t unlisted_baseline_table_entry(uint32_t first, const uint8_t *marks, size_t days, const uint32_t *readings, size_t count, uint32_t p,
                                                uint32_t d, uint32_t s, uint32_t e, uint32_t n, uint32_t *out, size_t room);
 typedef int64_t unlisted_told_table_entry(uint32_t first, const uint8_t *marks, size_t days, const uint32_t *readings, size_t count, uint32_t p,
                                           uint32_t d, uint32_t s, uint32_t e, uint32_t n, uint32_t name);
 typedef int64_t unlisted_write_entry(uint32_t p, uint32_t portfolio, uint32_t first, const uint8_t *marks, size_t days, const uint32_t *readings,
                                      size_t count, const uint32_t *events, size_t numbers, uint8_t *out, size_t room);
+
+struct listed {
+    listed_baseline_table_entry *baseline_table;
+    listed_told_table_entry *told_table;
+    write_entry *write;
+};
 
 struct unlisted {
     unlisted_baseline_table_entry *baseline_table;
@@ -47,14 +62,15 @@ struct archive {
     baseline_table_entry *baseline_table;
     told_table_entry *told_table;
     write_entry *write;
-    const struct unlisted *unlisted; /* in place of the three above, or NULL */
+    const struct listed *listed;     /* in place of the three above, or NULL */
+    const struct unlisted *unlisted; /* the same */
 };
 
 /* The same in plain C, where an answer tells everything. */
 typedef uint32_t plain_entry(const uint8_t *file, size_t length, size_t place, uint8_t *out, size_t room, struct plain_answer *answer);
 typedef uint32_t plain_table_entry(uint32_t first, const uint8_t *marks, size_t days, const uint32_t *readings, size_t count, const uint32_t *moves,
-                                   size_t moved, uint32_t p, uint32_t d, uint32_t s, uint32_t e, uint32_t n, uint32_t *out, size_t room,
-                                   struct plain_answer *answer);
+                                   size_t moved, uint32_t p, uint32_t d, uint32_t s, uint32_t e, uint32_t n, uint32_t method, uint32_t *out,
+                                   size_t room, struct plain_answer *answer);
 
 struct plain {
     plain_entry *baseline;
@@ -66,19 +82,27 @@ plain_entry plain_host_gcc, plain_host_clang;
 plain_table_entry plain_baseline_gcc, plain_baseline_clang;
 write_entry plain_write_gcc, plain_write_clang;
 
-static const struct archive proved = {hp_baseline, hp_told, hp_baseline_table, hp_told_table, hp_write, NULL};
+static const struct archive proved = {hp_baseline, hp_told, hp_baseline_table, hp_told_table, hp_write, NULL, NULL};
 static const struct plain gcc = {plain_host_gcc, plain_baseline_gcc, plain_write_gcc};
 static const struct plain clang = {plain_host_clang, plain_baseline_clang, plain_write_clang};
 
 #ifdef BEFORE
 baseline_entry before_hp_baseline;
 told_entry before_hp_told;
-#ifdef BEFORE_MOVES
+#if defined BEFORE_METHODS
 baseline_table_entry before_hp_baseline_table;
 told_table_entry before_hp_told_table;
 write_entry before_hp_write;
 
-static const struct archive before = {before_hp_baseline, before_hp_told, before_hp_baseline_table, before_hp_told_table, before_hp_write, NULL};
+static const struct archive before = {before_hp_baseline, before_hp_told, before_hp_baseline_table, before_hp_told_table, before_hp_write,
+                                      NULL, NULL};
+#elif defined BEFORE_MOVES
+listed_baseline_table_entry before_hp_baseline_table;
+listed_told_table_entry before_hp_told_table;
+write_entry before_hp_write;
+
+static const struct listed before_listed = {before_hp_baseline_table, before_hp_told_table, before_hp_write};
+static const struct archive before = {before_hp_baseline, before_hp_told, NULL, NULL, NULL, &before_listed, NULL};
 #else
 unlisted_baseline_table_entry before_hp_baseline_table;
 unlisted_told_table_entry before_hp_told_table;
@@ -89,7 +113,7 @@ unlisted_write_entry before_hp_write;
 #endif
 
 static const struct unlisted before_unlisted = {before_hp_baseline_table, before_hp_told_table, before_hp_write};
-static const struct archive before = {before_hp_baseline, before_hp_told, NULL, NULL, NULL, &before_unlisted};
+static const struct archive before = {before_hp_baseline, before_hp_told, NULL, NULL, NULL, NULL, &before_unlisted};
 #endif
 #endif
 
@@ -116,9 +140,9 @@ static int count_taken;
 static struct record_file file;
 static size_t place;
 static uint8_t marks[128];
-static uint32_t readings[128 * QUARTERS], days, s, e;
+static uint32_t readings[128 * QUARTERS], days, s, e, method;
 static uint32_t list[2 * HP_MOST_MOVES], moved; /* the moves, and how many numbers they are */
-static uint32_t events[4 * HP_MOST_EVENTS], numbers; /* those of the file */
+static uint32_t events[5 * HP_MOST_EVENTS], old_events[4 * HP_MOST_EVENTS], count_events; /* those of the file, and the same without the method */
 static uint8_t out[HP_MOST_BYTES], written[HP_MOST_FILE];
 static uint32_t numerators[QUARTERS];
 static struct plain_answer answer;
@@ -149,9 +173,12 @@ static uint32_t call_table(const struct way *way)
     size_t count = days * QUARTERS;
     if (archive && archive->unlisted)
         return archive->unlisted->baseline_table(first, marks, days, readings, count, 8000, EVENT_DAY, s, e, s - 4, numerators, QUARTERS);
+    if (archive && archive->listed)
+        return archive->listed->baseline_table(first, marks, days, readings, count, moves, moved, 8000, EVENT_DAY, s, e, s - 4, numerators, QUARTERS);
     if (archive)
-        return archive->baseline_table(first, marks, days, readings, count, moves, moved, 8000, EVENT_DAY, s, e, s - 4, numerators, QUARTERS);
-    return way->plain->baseline_table(first, marks, days, readings, count, moves, moved, 8000, EVENT_DAY, s, e, s - 4, numerators, QUARTERS, &answer);
+        return archive->baseline_table(first, marks, days, readings, count, moves, moved, 8000, EVENT_DAY, s, e, s - 4, method, numerators, QUARTERS);
+    return way->plain->baseline_table(first, marks, days, readings, count, moves, moved, 8000, EVENT_DAY, s, e, s - 4, method, numerators, QUARTERS,
+                                      &answer);
 }
 
 /* The reach. */
@@ -162,8 +189,10 @@ static uint32_t call_told_table(const struct way *way)
     size_t count = days * QUARTERS;
     if (archive && archive->unlisted)
         return (uint32_t)archive->unlisted->told_table(first, marks, days, readings, count, 8000, EVENT_DAY, s, e, s - 4, HP_REACH);
+    if (archive && archive->listed)
+        return (uint32_t)archive->listed->told_table(first, marks, days, readings, count, moves, moved, 8000, EVENT_DAY, s, e, s - 4, HP_REACH);
     if (archive)
-        return (uint32_t)archive->told_table(first, marks, days, readings, count, moves, moved, 8000, EVENT_DAY, s, e, s - 4, HP_REACH);
+        return (uint32_t)archive->told_table(first, marks, days, readings, count, moves, moved, 8000, EVENT_DAY, s, e, s - 4, method, HP_REACH);
     call_table(way);
     return answer.reach;
 }
@@ -172,21 +201,24 @@ static uint32_t call_told_table(const struct way *way)
 static uint32_t call_write(const struct way *way)
 {
     const struct unlisted *unlisted = way->archive ? way->archive->unlisted : NULL;
-    write_entry *entry = way->archive ? way->archive->write : way->plain ? way->plain->write : NULL;
-    const uint32_t first = EVENT_DAY + 1 - days, *moves = moved ? list : NULL;
-    size_t count = days * QUARTERS;
+    const struct listed *listed = way->archive ? way->archive->listed : NULL;
+    write_entry *entry = listed ? listed->write : way->archive ? way->archive->write : way->plain ? way->plain->write : NULL;
+    const uint32_t first = EVENT_DAY + 1 - days, *moves = moved ? list : NULL, *asked = listed ? old_events : events;
+    size_t count = days * QUARTERS, numbers = (listed ? 4 : 5) * count_events;
     if (unlisted)
-        return (uint32_t)unlisted->write(8000, 77, first, marks, days, readings, count, events, numbers, written, sizeof written);
+        return (uint32_t)unlisted->write(8000, 77, first, marks, days, readings, count, old_events, 4 * count_events, written, sizeof written);
     if (entry)
-        return (uint32_t)entry(8000, 77, first, marks, days, readings, count, moves, moved, events, numbers, written, sizeof written);
+        return (uint32_t)entry(8000, 77, first, marks, days, readings, count, moves, moved, asked, numbers, written, sizeof written);
     memcpy(written, file.bytes, file.length);
     return (uint32_t)file.length;
 }
 
-/* Whether a way has a case: an earlier archive may take no moves and may have no writer, and a copy does nothing but write. */
+/* Whether a way has a case: an earlier archive may take no moves and no methods, and may have no writer, and a copy does nothing but write. */
 static int has_case(const struct way *way, case_call *call)
 {
     const struct unlisted *unlisted = way->archive ? way->archive->unlisted : NULL;
+    if (method != HP_METHOD_HIGH && way->archive && (way->archive->listed || unlisted))
+        return 0;
     if (unlisted && (call == call_file || call == call_told ? file.moves : moved) > 0)
         return 0;
     if (call == call_write)
@@ -347,16 +379,17 @@ static void put_days(uint32_t h)
     }
 }
 
-/* Events of the last days, put into the file and kept for the writer. */
+/* Events of the last days by the method, put into the file and kept for the writer. */
 static void put_events(uint32_t count, uint32_t end)
 {
     uint32_t i;
     for (i = 0; i < count; i++) {
-        const uint32_t event[] = {EVENT_DAY - i, 152, end, 148};
-        put_event(&file, event[0], event[1], event[2], event[3]);
-        memcpy(events + 4 * i, event, sizeof event);
+        const uint32_t event[] = {EVENT_DAY - i, 152, end, 148, method};
+        put_event_by(&file, event[0], event[1], event[2], event[3], event[4]);
+        memcpy(events + 5 * i, event, 5 * sizeof event[0]);
+        memcpy(old_events + 4 * i, event, 4 * sizeof event[0]);
     }
-    numbers = 4 * count;
+    count_events = count;
     place = 0;
 }
 
@@ -401,7 +434,7 @@ static void files(void)
     set_reading(&file, 128 * QUARTERS - 1, HP_HIGHEST + 1);
     report("file f. 128 days, refused 3 at the last reading", call_file);
     put_largest();
-    file.bytes[file.length - 1] = 1;
+    file.bytes[file.length - EVENT_BYTES] = 'X';
     report("file g. 128 days, refused 11 at the last record", call_file);
     load = high;
     put_largest();
@@ -480,6 +513,24 @@ static void with_moves(void)
     report("file m. 46 days, 16 moves, one event", call_file);
 }
 
+/* The same as tables a and d and files a and c, by Average X of Y, whose window is the same ten weekdays; and a portfolio that trades every day, whose window
+ * is the latest four event days. */
+static void by_average(void)
+{
+    method = HP_METHOD_AVERAGE;
+    moved = 0;
+    fill_table(128);
+    report("table l. 128 days, by Average X of Y", call_table);
+    fill_table(46);
+    report("table m. 46 days, by Average X of Y", call_table);
+    memset(marks, HP_MARK_EVENT, days);
+    report("table n. 46 days, all with an event, by Average X of Y", call_table);
+    put_largest();
+    report("file n. 128 days, 64 events by Average X of Y, the first", call_file);
+    put_one_event(46);
+    report("file o. 46 days, one event by Average X of Y", call_file);
+}
+
 static void write_largest(const char *directory, const char *name)
 {
     char path[4096];
@@ -508,5 +559,6 @@ int main(int argc, char **argv)
     tables();
     writing();
     with_moves();
+    by_average();
     return 0;
 }
