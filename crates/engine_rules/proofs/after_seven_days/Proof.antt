@@ -1,4 +1,4 @@
--- `engine_choice::after_seven_days` meets its contract: the test is D-P of at least 7.
+-- `engine_rules::after_seven_days` meets its contract: the test is D-P of at least 7.
 use Prim.Native.Nat.{_-_}
 use native.Mathlib.Omega.{arith}
 use borrow.Author.Needs.{needs}

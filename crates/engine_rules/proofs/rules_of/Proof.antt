@@ -1,4 +1,4 @@
--- `engine_choice::rules_of` meets its contract: one law a method.
+-- `engine_rules::rules_of` meets its contract: one law a method.
 use borrow.Author.Needs.{needs}
 use borrow.Author.Tests.{eq-eqb, ne-eqb}
 use Rattle.engine_rules.specs.Steps.{inNumbers}
