@@ -6,7 +6,7 @@ use mathlib.Core.Logic.{⊎-elim}
 use native.Mathlib.Omega.{arith}
 use borrow.Author.Tests.{leb-true}
 use lib.Dec.{leb, eqb}
-use Rattle.base_lists.proofs.Below.{at-each}
+use Rattle.base_lists.proofs.Below.{below, at-each}
 use Rattle.base_lists.proofs.Bools.{lt-or-le}
 use Rattle.base_lists.specs.Lists.{sumOf}
 use Rattle.calendar_dates.specs.Days.{lastDay, inCalendar, leap, months, newYear, dayNumber, isDate, numbered}
@@ -70,13 +70,16 @@ easter-bounds y h = omega (arith, easter-sum y h, moon-le y)
 pub julian-sum : (y : ℕ) → dayNumber y (easterQ y / 31) (easterQ y % 31 + 1) ≡ newYear y + leap y + 80 + easterD y + easterE y
 julian-sum y = omega (arith, march-or-april y (easterQ y) (omega arith) (omega arith))
 
+-- what is computed for each of the hundred years holds of a year of the calendar
+pub each-year : (p : ℕ → Bool) → below (λ k. p (2000 + k)) 100 ≡ true → (y : ℕ) → (2000 ≤ y) × (y ≤ 2099) → p y ≡ true
+each-year p all y inside =
+    let e : 2000 + (y - 2000) ≡ y = omega arith in
+    rw e at (at-each (λ k. p (2000 + k)) 100 all (y - 2000) (omega arith))
+
 -- day 0 is a Saturday, and Easter a Sunday
 sunday : ℕ → Bool
-sunday k = eqb (easter (2000 + k) % 7) 1
+sunday y = eqb (easter y % 7) 1
 
 pub on-sunday : (y : ℕ) → inCalendar y ≡ true → eqb (easter y % 7) 1 ≡ true
 unfolding sunday easter dayNumber months newYear leap sumOf
-on-sunday y h =
-    let b = in-calendar y h in
-    let e : 2000 + (y - 2000) ≡ y = omega arith in
-    rw e at (at-each sunday 100 refl (y - 2000) (omega arith))
+on-sunday y h = each-year sunday refl y (in-calendar y h)

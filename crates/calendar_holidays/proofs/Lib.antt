@@ -1,4 +1,4 @@
 pub mod EasterSum
-pub mod EasterDates
+pub mod EasterTable
 pub mod Holidays
 pub mod Laws

@@ -1,1 +1,2 @@
 pub mod Yearly
+pub mod Steps

@@ -1,18 +1,33 @@
 // Easter and the fourteen holidays of a year, of document 01, "Days and groups". None is known past the calendar.
+mod easter_sundays;
+
 ghost use mathlib.Core.Path.{_≡_};
 ghost use Prim.Native.Nat.{_+_, _≤_};
 ghost use Rattle.calendar_holidays.specs.Yearly.{easterD, easterE, easter as easterOf, isFixedHoliday, isEasterHoliday};
+ghost use Rattle.calendar_holidays.specs.Steps.{monthAndDay};
+use crate::easter_sundays::EASTER_SUNDAYS;
 use calendar_dates::Date;
 use calendar_dates::Numbered;
 
-// How many days after 1 March Easter Sunday lies. The Julian month and day need not be told apart: the days of March and April are counted
-// on from 1 March, and 34 is what stands before 22 March and the thirteen days to the Gregorian date.
+// Easter Sunday as month and day, looked up: 505 is 5 May.
+fn easter_sunday(year: u32) -> u16
+    requires { ⌜ (2000 ≤ year) × (year ≤ 2099) ⌝ }
+    ensures { λ r. ⌜ r ≡ monthAndDay (easterOf year) ⌝ }
+{
+    EASTER_SUNDAYS[(year - 2000) as usize]
+}
+
+// How many days after 1 March Easter Sunday lies. It is in April, whose first day is 31 after it, or in May, whose first is 61 after it.
 fn easter_from_march(year: u32) -> u32
+    requires { ⌜ (2000 ≤ year) × (year ≤ 2099) ⌝ }
     ensures { λ r. ⌜ (r ≡ 34 + easterD year + easterE year) × (r ≤ 69) ⌝ }
 {
-    let d = (19 * (year % 19) + 15) % 30;
-    let e = (2 * (year % 4) + 4 * (year % 7) + 34 - d) % 7;
-    34 + d + e
+    let sunday = easter_sunday(year) as u32;
+    if sunday < 500 {
+        sunday - 401 + 31
+    } else {
+        sunday - 501 + 61
+    }
 }
 
 // The day number of Easter Sunday, and 0 outside the calendar.

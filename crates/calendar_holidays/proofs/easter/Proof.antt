@@ -2,6 +2,7 @@
 use mathlib.Core.Path.{sym, _∙_}
 use native.Mathlib.Omega.{arith}
 use borrow.Author.Needs.{needs}
+use Rattle.calendar_dates.proofs.Dates.{date-is, numbered-is}
 use Rattle.calendar_holidays.proofs.EasterSum.{from-march, no-march}
 use Rattle.calendar_holidays.proofs.easter.Statement.{statement}
 use Rattle.calendar_holidays.proofs.easter.Tie as tie
@@ -13,7 +14,11 @@ enum-known-day : tie.Need-enum-known-day
 enum-known-day c = search needs
 
 easter-from-march-requires : tie.Need-easter-from-march-requires
-easter-from-march-requires c κs = search needs
+easter-from-march-requires c κs =
+    let m = c .before in
+    let n = m .before .before in
+    let march = date-is (n .before .args .year) 3 1 (numbered-is _ _ (sym (n .day-number .ensures) ∙ m .day .given .1) .0) in
+    search needs
 
 add-result : tie.Need-add-result
 add-result c =

@@ -4,7 +4,7 @@ use borrow.Author.Needs.{needs}
 use borrow.Author.Tests.{le-leb, lt-leb}
 use Rattle.calendar_dates.specs.Steps.{placeOf}
 use Rattle.calendar_holidays.specs.Yearly.{isEasterHoliday}
-use Rattle.calendar_dates.proofs.Years.{year-in-calendar, since-new-year}
+use Rattle.calendar_dates.proofs.Years.{year-of-in, year-in-calendar, since-new-year}
 use Rattle.calendar_dates.proofs.Dates.{place-leap}
 use Rattle.calendar_holidays.proofs.Holidays.{far-from-easter, before-easter, near-easter}
 use Rattle.calendar_holidays.proofs.is_easter_holiday.Statement.{statement}
@@ -39,7 +39,10 @@ add-monday c =
     omega (arith, place-leap (m .before .before .args .day) (m .place-of .ensures))
 
 easter-from-march-requires : tie.Need-easter-from-march-requires
-easter-from-march-requires c κs = search needs
+unfolding placeOf
+easter-from-march-requires c κs =
+    let m = c .before .before .before in
+    rw (m .place-of .ensures) (year-of-in (m .before .before .args .day) (m .before .if1 .left))
 
 add-monday-2 : tie.Need-add-monday-2
 add-monday-2 c =
