@@ -3,9 +3,10 @@
  * clock starts. Writing is also measured against a copy of as many bytes, the limit. The largest file, and the same with loads above eight million
  * kW, are also written to DIR/largest.rec and DIR/high.rec, for the listing programs.
  * bench DIR once: each case once in each way, whose names its line has, between call_begins and call_ends, for an emulator to count instructions.
+ * Compiled with GROUPS it also measures the group of a day by itself (tests/bench/groups).
  * Compiled with BEFORE it also measures the entries of an earlier archive, in which every name that it exports begins with before_; with
- * BEFORE_WRITES its writer too. With BEFORE_METHODS they are those of this header. With BEFORE_MOVES alone they take no method, otherwise no list of
- * moves either; and they have no case with what they do not take. */
+ * BEFORE_WRITES its writer too, with BEFORE_GROUPS its group of a day. With BEFORE_METHODS they are those of this header. With BEFORE_MOVES alone they
+ * take no method, otherwise no list of moves either; and they have no case with what they do not take. */
 #define _POSIX_C_SOURCE 200809L
 #include <stdio.h>
 #include <stdlib.h>
@@ -15,7 +16,10 @@
 #include "../c/record.h"
 #include "../reference/c/file.h"
 
-enum { ROUNDS = 41, CALLS = 500, AUGUST_15 = 8993, EVENT_DAY = 9006 };
+enum { ROUNDS = 41, CALLS = 500 };
+
+/* Days of 2024. */
+enum { JANUARY_1 = 8766, FEBRUARY_15 = 8811, MAY_15 = 8901, JUNE_27 = 8944, AUGUST_15 = 8993, AUGUST_28 = 9006, DECEMBER_31 = 9131 };
 
 /* The entries of an archive, as honeyplank.h declares them. */
 typedef uint32_t baseline_entry(const uint8_t *file, size_t length, size_t place, uint8_t *out, size_t room);
@@ -44,6 +48,9 @@ typedef int64_t unlisted_told_table_entry(uint32_t first, const uint8_t *marks, 
 typedef int64_t unlisted_write_entry(uint32_t p, uint32_t portfolio, uint32_t first, const uint8_t *marks, size_t days, const uint32_t *readings,
                                      size_t count, const uint32_t *events, size_t numbers, uint8_t *out, size_t room);
 
+/* No entry, but what tests/bench/groups has made: 0 weekday, 1 Saturday, 2 holiday group. */
+typedef uint32_t group_entry(uint32_t day);
+
 struct listed {
     listed_baseline_table_entry *baseline_table;
     listed_told_table_entry *told_table;
@@ -64,6 +71,7 @@ struct archive {
     write_entry *write;
     const struct listed *listed;     /* in place of the three above, or NULL */
     const struct unlisted *unlisted; /* the same */
+    group_entry *group;              /* NULL where it was not made */
 };
 
 /* The same in plain C, where an answer tells everything. */
@@ -76,15 +84,28 @@ struct plain {
     plain_entry *baseline;
     plain_table_entry *baseline_table;
     write_entry *write;
+    group_entry *group;
 };
 
 plain_entry plain_host_gcc, plain_host_clang;
 plain_table_entry plain_baseline_gcc, plain_baseline_clang;
 write_entry plain_write_gcc, plain_write_clang;
+group_entry plain_group_gcc, plain_group_clang;
 
-static const struct archive proved = {hp_baseline, hp_told, hp_baseline_table, hp_told_table, hp_write, NULL, NULL};
-static const struct plain gcc = {plain_host_gcc, plain_baseline_gcc, plain_write_gcc};
-static const struct plain clang = {plain_host_clang, plain_baseline_clang, plain_write_clang};
+#ifdef GROUPS
+group_entry measured_group;
+#else
+#define measured_group NULL
+#endif
+#ifdef BEFORE_GROUPS
+group_entry before_measured_group;
+#else
+#define before_measured_group NULL
+#endif
+
+static const struct archive proved = {hp_baseline, hp_told, hp_baseline_table, hp_told_table, hp_write, NULL, NULL, measured_group};
+static const struct plain gcc = {plain_host_gcc, plain_baseline_gcc, plain_write_gcc, plain_group_gcc};
+static const struct plain clang = {plain_host_clang, plain_baseline_clang, plain_write_clang, plain_group_clang};
 
 #ifdef BEFORE
 baseline_entry before_hp_baseline;
@@ -95,14 +116,14 @@ told_table_entry before_hp_told_table;
 write_entry before_hp_write;
 
 static const struct archive before = {before_hp_baseline, before_hp_told, before_hp_baseline_table, before_hp_told_table, before_hp_write,
-                                      NULL, NULL};
+                                      NULL, NULL, before_measured_group};
 #elif defined BEFORE_MOVES
 listed_baseline_table_entry before_hp_baseline_table;
 listed_told_table_entry before_hp_told_table;
 write_entry before_hp_write;
 
 static const struct listed before_listed = {before_hp_baseline_table, before_hp_told_table, before_hp_write};
-static const struct archive before = {before_hp_baseline, before_hp_told, NULL, NULL, NULL, &before_listed, NULL};
+static const struct archive before = {before_hp_baseline, before_hp_told, NULL, NULL, NULL, &before_listed, NULL, before_measured_group};
 #else
 unlisted_baseline_table_entry before_hp_baseline_table;
 unlisted_told_table_entry before_hp_told_table;
@@ -113,7 +134,7 @@ unlisted_write_entry before_hp_write;
 #endif
 
 static const struct unlisted before_unlisted = {before_hp_baseline_table, before_hp_told_table, before_hp_write};
-static const struct archive before = {before_hp_baseline, before_hp_told, NULL, NULL, NULL, NULL, &before_unlisted};
+static const struct archive before = {before_hp_baseline, before_hp_told, NULL, NULL, NULL, NULL, &before_unlisted, before_measured_group};
 #endif
 #endif
 
@@ -140,7 +161,8 @@ static int count_taken;
 static struct record_file file;
 static size_t place;
 static uint8_t marks[128];
-static uint32_t readings[128 * QUARTERS], days, s, e, method;
+static uint32_t readings[128 * QUARTERS], days, event_day = AUGUST_28, s, e, method;
+static uint32_t first_asked, last_asked; /* the days whose groups are asked for */
 static uint32_t list[2 * HP_MOST_MOVES], moved; /* the moves, and how many numbers they are */
 static uint32_t events[5 * HP_MOST_EVENTS], old_events[4 * HP_MOST_EVENTS], count_events; /* those of the file, and the same without the method */
 static uint8_t out[HP_MOST_BYTES], written[HP_MOST_FILE];
@@ -169,15 +191,15 @@ static uint32_t call_told(const struct way *way)
 static uint32_t call_table(const struct way *way)
 {
     const struct archive *archive = way->archive;
-    const uint32_t first = EVENT_DAY + 1 - days, *moves = moved ? list : NULL;
+    const uint32_t first = event_day + 1 - days, *moves = moved ? list : NULL;
     size_t count = days * QUARTERS;
     if (archive && archive->unlisted)
-        return archive->unlisted->baseline_table(first, marks, days, readings, count, 8000, EVENT_DAY, s, e, s - 4, numerators, QUARTERS);
+        return archive->unlisted->baseline_table(first, marks, days, readings, count, 8000, event_day, s, e, s - 4, numerators, QUARTERS);
     if (archive && archive->listed)
-        return archive->listed->baseline_table(first, marks, days, readings, count, moves, moved, 8000, EVENT_DAY, s, e, s - 4, numerators, QUARTERS);
+        return archive->listed->baseline_table(first, marks, days, readings, count, moves, moved, 8000, event_day, s, e, s - 4, numerators, QUARTERS);
     if (archive)
-        return archive->baseline_table(first, marks, days, readings, count, moves, moved, 8000, EVENT_DAY, s, e, s - 4, method, numerators, QUARTERS);
-    return way->plain->baseline_table(first, marks, days, readings, count, moves, moved, 8000, EVENT_DAY, s, e, s - 4, method, numerators, QUARTERS,
+        return archive->baseline_table(first, marks, days, readings, count, moves, moved, 8000, event_day, s, e, s - 4, method, numerators, QUARTERS);
+    return way->plain->baseline_table(first, marks, days, readings, count, moves, moved, 8000, event_day, s, e, s - 4, method, numerators, QUARTERS,
                                       &answer);
 }
 
@@ -185,14 +207,14 @@ static uint32_t call_table(const struct way *way)
 static uint32_t call_told_table(const struct way *way)
 {
     const struct archive *archive = way->archive;
-    const uint32_t first = EVENT_DAY + 1 - days, *moves = moved ? list : NULL;
+    const uint32_t first = event_day + 1 - days, *moves = moved ? list : NULL;
     size_t count = days * QUARTERS;
     if (archive && archive->unlisted)
-        return (uint32_t)archive->unlisted->told_table(first, marks, days, readings, count, 8000, EVENT_DAY, s, e, s - 4, HP_REACH);
+        return (uint32_t)archive->unlisted->told_table(first, marks, days, readings, count, 8000, event_day, s, e, s - 4, HP_REACH);
     if (archive && archive->listed)
-        return (uint32_t)archive->listed->told_table(first, marks, days, readings, count, moves, moved, 8000, EVENT_DAY, s, e, s - 4, HP_REACH);
+        return (uint32_t)archive->listed->told_table(first, marks, days, readings, count, moves, moved, 8000, event_day, s, e, s - 4, HP_REACH);
     if (archive)
-        return (uint32_t)archive->told_table(first, marks, days, readings, count, moves, moved, 8000, EVENT_DAY, s, e, s - 4, method, HP_REACH);
+        return (uint32_t)archive->told_table(first, marks, days, readings, count, moves, moved, 8000, event_day, s, e, s - 4, method, HP_REACH);
     call_table(way);
     return answer.reach;
 }
@@ -203,7 +225,7 @@ static uint32_t call_write(const struct way *way)
     const struct unlisted *unlisted = way->archive ? way->archive->unlisted : NULL;
     const struct listed *listed = way->archive ? way->archive->listed : NULL;
     write_entry *entry = listed ? listed->write : way->archive ? way->archive->write : way->plain ? way->plain->write : NULL;
-    const uint32_t first = EVENT_DAY + 1 - days, *moves = moved ? list : NULL, *asked = listed ? old_events : events;
+    const uint32_t first = event_day + 1 - days, *moves = moved ? list : NULL, *asked = listed ? old_events : events;
     size_t count = days * QUARTERS, numbers = (listed ? 4 : 5) * count_events;
     if (unlisted)
         return (uint32_t)unlisted->write(8000, 77, first, marks, days, readings, count, old_events, 4 * count_events, written, sizeof written);
@@ -211,6 +233,16 @@ static uint32_t call_write(const struct way *way)
         return (uint32_t)entry(8000, 77, first, marks, days, readings, count, moves, moved, asked, numbers, written, sizeof written);
     memcpy(written, file.bytes, file.length);
     return (uint32_t)file.length;
+}
+
+/* The groups, by a number in which each has its part. */
+static uint32_t call_groups(const struct way *way)
+{
+    group_entry *group = way->archive ? way->archive->group : way->plain->group;
+    uint32_t day, number = 0;
+    for (day = first_asked; day <= last_asked; day++)
+        number = 3 * number + group(day);
+    return number;
 }
 
 /* Whether a way has a case: an earlier archive may take no moves and no methods, and may have no writer, and a copy does nothing but write. */
@@ -223,6 +255,8 @@ static int has_case(const struct way *way, case_call *call)
         return 0;
     if (call == call_write)
         return !unlisted || unlisted->write;
+    if (call == call_groups)
+        return way->archive ? way->archive->group != NULL : way->plain != NULL;
     return way->archive || way->plain;
 }
 
@@ -323,7 +357,7 @@ static void report(const char *name, case_call *call)
     fflush(stdout);
 }
 
-/* Loads that vary by day and quarter, up to Wednesday 28 August 2024: of a large portfolio; above eight million kW; above it on a day in eight;
+/* Loads that vary by day and quarter, up to the event day, a Wednesday: of a large portfolio; above eight million kW; above it on a day in eight;
  * with a reading missing on a day in four. */
 static uint32_t ordinary(uint32_t i)
 {
@@ -373,7 +407,7 @@ static void put_days(uint32_t h)
     for (i = 0; i < moved; i += 2)
         put_move(&file, list[i], list[i + 1]);
     for (day = 0; day < h; day++) {
-        put_day(&file, EVENT_DAY + 1 - h + day, mark(day), 0);
+        put_day(&file, event_day + 1 - h + day, mark(day), 0);
         for (i = 0; i < QUARTERS; i++)
             set_reading(&file, QUARTERS * day + i, load(QUARTERS * day + i));
     }
@@ -384,7 +418,7 @@ static void put_events(uint32_t count, uint32_t end)
 {
     uint32_t i;
     for (i = 0; i < count; i++) {
-        const uint32_t event[] = {EVENT_DAY - i, 152, end, 148, method};
+        const uint32_t event[] = {event_day - i, 152, end, 148, method};
         put_event_by(&file, event[0], event[1], event[2], event[3], event[4]);
         memcpy(events + 5 * i, event, 5 * sizeof event[0]);
         memcpy(old_events + 4 * i, event, 4 * sizeof event[0]);
@@ -426,7 +460,7 @@ static void files(void)
     put_one_event(46);
     report("file c. 46 days, one event", call_file);
     put_one_event(31);
-    put_event(&file, EVENT_DAY - 23, 152, 156, 148);
+    put_event(&file, event_day - 23, 152, 156, 148);
     report("file d. 31 days", call_file);
     place = 1;
     report("file e. 31 days, refused 8", call_file);
@@ -497,15 +531,15 @@ static void with_moves(void)
     fill_table(128);
     set_moves(far, far + 3);
     report("table h. 128 days, 16 moves of other years", call_table);
-    set_moves(AUGUST_15, EVENT_DAY - 8);
+    set_moves(AUGUST_15, event_day - 8);
     report("table i. 128 days, 16 moves, 15 August's to 20 August", call_table);
-    set_moves(far, EVENT_DAY);
+    set_moves(far, event_day);
     report("table j. 128 days, 16 moves, one to the event day", call_table);
     fill_table(46);
-    set_moves(AUGUST_15, EVENT_DAY - 8);
+    set_moves(AUGUST_15, event_day - 8);
     report("table k. 46 days, 16 moves, 15 August's to 20 August", call_table);
     fill_table(128);
-    set_moves(AUGUST_15, EVENT_DAY - 8);
+    set_moves(AUGUST_15, event_day - 8);
     put_largest();
     report("file l. 128 days, 16 moves, 64 events, the first", call_file);
     report("write c. 128 days, 16 moves, 64 events", call_write);
@@ -529,6 +563,34 @@ static void by_average(void)
     report("file n. 128 days, 64 events by Average X of Y, the first", call_file);
     put_one_event(46);
     report("file o. 46 days, one event by Average X of Y", call_file);
+}
+
+/* Events in May, behind Easter: the look-back has days whose group goes by it. By High X of Y, with no moves. */
+static void after_easter(void)
+{
+    method = HP_METHOD_HIGH;
+    event_day = MAY_15;
+    fill_table(128);
+    report("table o. 128 days, the event in May", call_table);
+    fill_table(46);
+    report("table p. 46 days, the event in May", call_table);
+    put_one_event(46);
+    report("file p. 46 days, one event in May", call_file);
+}
+
+static void report_groups(const char *name, uint32_t first, uint32_t last)
+{
+    first_asked = first;
+    last_asked = last;
+    report(name, call_groups);
+}
+
+static void groups(void)
+{
+    if (!proved.group)
+        return;
+    report_groups("groups a. the 366 days of 2024, a call each", JANUARY_1, DECEMBER_31);
+    report_groups("groups b. the 134 of them where a holiday of Easter's can lie", FEBRUARY_15, JUNE_27);
 }
 
 static void write_largest(const char *directory, const char *name)
@@ -560,5 +622,7 @@ int main(int argc, char **argv)
     writing();
     with_moves();
     by_average();
+    after_easter();
+    groups();
     return 0;
 }
