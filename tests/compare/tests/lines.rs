@@ -4,7 +4,7 @@
 #[path = "../../reference/tests/common/mod.rs"]
 mod common;
 
-use common::{august, average, flat, request, set_day, set_mark, set_reading, worked_file, worked_table, TABLE_5, WORKED};
+use common::{august, august_with_table_5, average, flat, request, set_day, set_mark, set_reading, worked_file, worked_table, WORKED};
 use compare::program::{prints, program, run};
 use compare::told::{every_name, Told, DAYS, EVENT_METHOD};
 use compare::writing::{self, compare_again};
@@ -171,12 +171,7 @@ fn days_of_tables_3_and_4() {
 /// averages of Table 6.
 #[test]
 fn ranks_and_averages_of_tables_5_and_6() {
-    let mut table = august(of_july(1));
-    for (date, readings) in AUGUST_WINDOW.into_iter().zip(TABLE_5) {
-        for (quarter, reading) in (56..).zip(readings) {
-            set_reading(&mut table, of_august(date), quarter, reading);
-        }
-    }
+    let table = august_with_table_5(&AUGUST_WINDOW.map(of_august));
     let averages = [(366_000, 6100), (435_600, 7260), (394_800, 6580), (338_400, 5640)];
     let due = Answered(&[26, 22, 21, 20, 14].map(of_august), 19, 60, 0, &averages);
     check(&table, &at_three(8700, of_august(28)), &due);
@@ -384,12 +379,7 @@ fn days_of_001_s_table_10() {
 /// 001, Tables 11 to 13, in kW: ranks 5 and 6 are Day 7 and Day 5, and the averages 5.10, 7.00, 5.80 and 5.75 MW.
 #[test]
 fn averages_of_001_s_tables_11_to_13() {
-    let mut table = august(of_july(1));
-    for (date, readings) in AUGUST_WINDOW.into_iter().zip(TABLE_5) {
-        for (quarter, reading) in (56..).zip(readings) {
-            set_reading(&mut table, of_august(date), quarter, reading);
-        }
-    }
+    let mut table = august_with_table_5(&AUGUST_WINDOW.map(of_august));
     let averages = [(10_200, 5100), (14_000, 7000), (11_600, 5800), (11_500, 5750)];
     let due = Answered(&[14, 19].map(of_august), 19, 2, 0, &averages);
     check(&table, &average(8700, of_august(28)), &due);

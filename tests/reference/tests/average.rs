@@ -3,7 +3,9 @@
 
 mod common;
 
-use common::{august, average, day, flat, request, set_day, set_mark, set_reading, TABLE_5};
+use common::{
+    august, august_with_table_5, average, day, flat, request, set_day, set_mark, set_reading,
+};
 use reference::choice::{choose, reach, relevant_days, window};
 use reference::table::{EVENT, HIGHEST, MISSING, OUTAGE};
 use reference::writer::{day_records, head_record, method_record};
@@ -64,14 +66,9 @@ fn windows_of_table_10() {
 /// Day 5", and the averages 5.10, 7.00, 5.80 and 5.75 MW.
 #[test]
 fn averages_of_table_13() {
-    let mut table = august(day(2024, 7, 1));
     let ask = average(8700, AUGUST_28);
-    let days = window(table.view(), &[], &ask);
-    for (&day, readings) in days.iter().zip(TABLE_5) {
-        for (place, reading) in readings.into_iter().enumerate() {
-            set_reading(&mut table, day, 56 + place, reading);
-        }
-    }
+    let days = window(august(day(2024, 7, 1)).view(), &[], &ask);
+    let table = august_with_table_5(&days);
     let answer = verdict(table.view(), &[], &ask, 4).unwrap();
     assert_eq!(answer.days, [days[6], days[4]]);
     assert_eq!(answer.numerators, [10_200, 14_000, 11_600, 11_500]);

@@ -2,7 +2,9 @@
 
 mod common;
 
-use common::{august, day, flat, request, set_day, set_mark, set_reading, TABLE_5};
+use common::{
+    august, august_with_table_5, day, flat, request, set_day, set_mark, set_reading, TABLE_5,
+};
 use reference::baseline::{adjustment_window, baseline_numerator, chosen_sum};
 use reference::calendar::{dates, day_number, easter, group_of, holidays, Date, Group, LAST_DAY};
 use reference::choice::{choose, reach, window};
@@ -135,15 +137,9 @@ fn window_of_saturday_2_february() {
 
 /// 003, Table 5, on the ten days of 28 August's window.
 fn table_5() -> (Table, Vec<u32>) {
-    let mut table = august(day(2024, 7, 1));
     let request = request(8700, AUGUST_28, 152, 156, 148);
-    let days = window(table.view(), &[], &request);
-    for (&day, readings) in days.iter().zip(TABLE_5) {
-        for (place, reading) in readings.into_iter().enumerate() {
-            set_reading(&mut table, day, 56 + place, reading);
-        }
-    }
-    (table, days)
+    let days = window(august(day(2024, 7, 1)).view(), &[], &request);
+    (august_with_table_5(&days), days)
 }
 
 #[test]

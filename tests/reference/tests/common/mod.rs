@@ -80,6 +80,17 @@ pub const TABLE_5: [[u32; 4]; 10] = [
     [4300, 6500, 5900, 4800],
 ];
 
+/// August held from 1 July on, with Table 5 from 15:00 to 16:00 on these days.
+pub fn august_with_table_5(days: &[u32]) -> Table {
+    let mut table = august(day(2024, 7, 1));
+    for (&day, readings) in days.iter().zip(TABLE_5) {
+        for (quarter, reading) in (56..).zip(readings) {
+            set_reading(&mut table, day, quarter, reading);
+        }
+    }
+    table
+}
+
 /// 01's worked case: its table, its events and its listing.
 pub fn worked_table() -> Table {
     let mut table = flat(6951, 6972, 1000);
