@@ -63,7 +63,7 @@ pub fn is_fixed_holiday(day: u32) -> bool
 }
 
 // `day` is one of the six holidays of its year that are counted from Easter Sunday. They begin with Clean Monday, 48 days before it: 11 is
-// the 59 days before March of a common year less those 48. Easter is worked out only where they can lie, from 15 February to the end of June.
+// the 59 days before March of a common year less those 48. Easter is looked up only where they can lie, from 15 February to the end of June.
 pub fn is_easter_holiday(day: u32) -> bool
     ensures { λ r. ⌜ r ≡ isEasterHoliday day ⌝ }
 {
