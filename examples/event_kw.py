@@ -10,7 +10,7 @@ import sys
 from ctypes import POINTER, c_char, c_char_p, c_int64, c_size_t, c_uint32
 
 # From honeyplank.h
-VERSION_NUMBER, MOST_BYTES, MOST_FILE, QUARTERS = 600, 384, 50536, 96
+VERSION_NUMBER, MOST_BYTES, MOST_FILE, QUARTERS = 700, 384, 50536, 96
 NOTHING = -2**63
 CARRIED, CARRIED_SECOND, DENOMINATOR, EVENT_START, EVENT_END = 1, 2, 10, 18, 19
 BYTES = [c_char_p, c_size_t]
@@ -25,7 +25,7 @@ def load():
     """The shared library, with the types of the entries that are used here."""
     built = pathlib.Path(__file__).resolve().parents[1] / 'build/lib/libhoneyplank.so'
     try:
-        library = ctypes.CDLL(os.environ.get('HONEYPLANK_LIBRARY') or (str(built) if built.exists() else 'libhoneyplank.so.0.6'))
+        library = ctypes.CDLL(os.environ.get('HONEYPLANK_LIBRARY') or (str(built) if built.exists() else 'libhoneyplank.so.0.7'))
     except OSError as reason:
         stop(f'there is no shared library: {reason}; `make` builds it')
     library.hp_version.restype = c_uint32

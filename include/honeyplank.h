@@ -14,7 +14,7 @@
  *  - A refusal changes no buffer; an answer writes only the quarters of the event: an entry that gives a baseline has nothing but `out` to
  *    write. (A listing and a record file are no baseline: hp_listing and hp_write write only these, and nothing where they do not fit.)
  *  - No state, no heap, no files, no locks: any threads may call at once. It always returns.
- *  - HP_STACK bytes of stack are enough for any entry but hp_listing, for which HP_STACK_LISTING are.
+ *  - HP_STACK bytes of stack are enough for any entry but hp_working, for which HP_STACK_WORKING are, and hp_listing, for which HP_STACK_LISTING are.
  *
  * Days are numbers: 0 is 1 January 2000, 36524 is 31 December 2099; hp_day and hp_date tell a date's number and a number's date. P is the first
  * day of participation, D the event day, F the first day held. The reach is how many days before the event were needed.
@@ -59,15 +59,17 @@
 #include <stdint.h>
 
 #define HP_VERSION_MAJOR 0
-#define HP_VERSION_MINOR 6
+#define HP_VERSION_MINOR 7
 #define HP_VERSION_PATCH 0
-#define HP_VERSION "0.6.0"
+#define HP_VERSION "0.7.0"
 /* What hp_version() gives where the library is of this header. Before 1.0.0 another second number may break callers: the soname has both. */
 #define HP_VERSION_NUMBER (10000 * HP_VERSION_MAJOR + 100 * HP_VERSION_MINOR + HP_VERSION_PATCH)
 
-/* Stack, in bytes, that is enough for any entry but hp_listing: the entries over a file hold there its marks, its moves, and the readings of the event
- * day and the 45 days before it (17,928 bytes). hp_listing, whatever out_len is, has room there for all days of a file and for any listing. */
+/* Stack, in bytes, that is enough for any entry but two: the entries over a file hold there its marks, its moves, and the readings of the event
+ * day and the 45 days before it (17,928 bytes). hp_working has room there for all days of a file, and hp_listing, whatever out_len is, for these and for any
+ * listing. */
 #define HP_STACK 28672
+#define HP_STACK_WORKING 61440
 #define HP_STACK_LISTING 327680
 
 /* What an entry gives back. The refusals are tested in this order: 11, 12, then 1, 2, 3, 14 and 4 to 10; hp_write has an order of its own. After the
@@ -140,6 +142,49 @@
 /* Of a move of a file (hp_move): */
 #define HP_MOVE_FROM 22  /* the fixed-date holiday that is moved */
 #define HP_MOVE_TO 23    /* the day that replaces it */
+/* Of the working of an event of a file (hp_working). Of the event itself: */
+#define HP_WORKING_GROUP 25   /* the event day's group: HP_GROUP_.. */
+#define HP_WORKING_MOST 26    /* Y: so many of the latest days that count make a whole window */
+#define HP_WORKING_SIZE 27    /* how many days the window has */
+#define HP_WORKING_PASSED 28  /* how many of its ranks are passed over, from the highest on */
+#define HP_WORKING_TAKEN 29   /* N: how many of the next are chosen; 0 is HP_TOO_FEW */
+#define HP_WORKING_END 30     /* where the adjustment window ends on the ruler: its quarters are this less 12, up to but not this */
+#define HP_WORKING_A 31       /* A: the sum of the event's own twelve readings of the adjustment window */
+#define HP_WORKING_B 32       /* B: the sum of S(t) over the adjustment window */
+/* Of the day so many days before the event, 1 to HP_LOOK_BACK: */
+#define HP_BACK_DAY 33        /* its number; HP_NOTHING below day 0 */
+#define HP_BACK_GROUP 34      /* its group by the file's moves: HP_GROUP_..; HP_NOTHING below day 0 */
+#define HP_BACK_REASON 35     /* why it is used or is not: HP_TOO_EARLY to HP_ELIGIBLE */
+#define HP_BACK_SUM 36        /* the sum of its readings over the event's own quarters; HP_NOTHING where it is not held, or one of these is missing */
+#define HP_BACK_RANK 37       /* its rank in the window, 1 for the highest; 0 where it is not in the window */
+#define HP_BACK_CHOSEN 38     /* 1 where it is chosen, else 0 */
+/* Of a quarter of the ruler, 0 to 191: */
+#define HP_QUARTER_S 39          /* S(t): the sum of the chosen days' readings at this quarter of the day */
+#define HP_QUARTER_NUMERATOR 40  /* of the event's quarters: the numerator before it is floored at 0, which may be negative */
+/* Of the overlap that an event of a file needs (hp_overlap): */
+#define HP_OVERLAP_HELD 41      /* how many days are held before the event; HP_NOTHING where the event day is not held */
+#define HP_OVERLAP_SUFFICES 42  /* so many days before the event always suffice: HP_MARGIN_TOO_SHORT does not come, whatever they hold */
+#define HP_OVERLAP_MORE 43      /* how many of these are not held; HP_NOTHING where the event day is not */
+#define HP_OVERLAP_FROM 44      /* the first day of these: the event day less HP_OVERLAP_SUFFICES */
+/* Of a day of the calendar where no holiday was moved (hp_calendar): */
+#define HP_CALENDAR_GROUP 45   /* its group: HP_GROUP_.. */
+#define HP_CALENDAR_FIXED 46   /* where it is a fixed-date holiday: its month and day as they are written, 815 for 15 August; else HP_NOTHING */
+#define HP_CALENDAR_EASTER 47  /* where it is a holiday counted from Easter Sunday: so many days after it, -48, -2, -1, 0, 1 or 50; else HP_NOTHING */
+
+/* The group of a day. */
+#define HP_GROUP_WEEKDAY 0
+#define HP_GROUP_SATURDAY 1
+#define HP_GROUP_HOLIDAY 2  /* a Sunday or a holiday */
+
+/* Why a day of the look-back is used or is not: the first of these that holds. */
+#define HP_TOO_EARLY 1        /* it is below day 0, or before P */
+#define HP_ANOTHER_GROUP 2    /* it is of another group than the event day */
+#define HP_DAY_BEFORE 3       /* it is the day before an event on a weekday */
+#define HP_DAY_NOT_HELD 4     /* the file does not hold it */
+#define HP_READING_MISSING 5  /* a reading of it is missing */
+#define HP_OUTAGE 6           /* it is marked HP_MARK_OUTAGE */
+#define HP_EVENT_RECORDED 7   /* it is marked HP_MARK_EVENT: it stands in a window only where days that count are too few */
+#define HP_ELIGIBLE 8         /* it counts */
 
 /* An event has at most 96 quarters: so many bytes of `out` are enough for the numerators of any. */
 #define HP_MOST_BYTES 384
@@ -196,6 +241,41 @@ int64_t hp_event(const uint8_t *file, size_t file_len, size_t event_place, uint3
 /* The move at `move_place` of a record file, 0 for its first: the number of this name, HP_RESULT (HP_ANSWERED or HP_BAD_FILE), HP_CARRIED, or
  * HP_MOVE_.., which is HP_NOTHING where the file has no move at that place. How many there are hp_file tells (HP_FILE_MOVES). */
 int64_t hp_move(const uint8_t *file, size_t file_len, size_t move_place, uint32_t name);
+
+/* The working of the event at `event_place` of a record file: the numbers by which a person reworks its answer with a pencil, one a call.
+ *   HP_WORKING_..   of the event; `at` plays no part
+ *   HP_BACK_..      of the day `at` days before the event, 1 to HP_LOOK_BACK
+ *   HP_QUARTER_..   of the quarter `at` of the ruler, 0 to 191
+ * The days that have the ranks HP_WORKING_PASSED + 1 up to HP_WORKING_PASSED + HP_WORKING_TAKEN are chosen, which makes N = HP_WORKING_TAKEN; a quarter's
+ * numerator is 12 S(t) + N A - B, or S(t) by HP_METHOD_AVERAGE, and is floored at 0.
+ *
+ * HP_RESULT is HP_ANSWERED, or a refusal that leaves nothing to show: 11, 12, 1 to 3, 14, 4, 5 or 6. Where the event is refused 8, 9 or 10 (hp_told) the
+ * working is told as far as it goes, and the rest is HP_NOTHING:
+ *   8    the table starts too late to tell the window: its size and ranks, and all that comes of them, HP_WORKING_END, A, B, S(t) and numerators
+ *   9    no day is chosen: HP_WORKING_TAKEN is 0, and HP_WORKING_END, A and B, S(t) and numerators are not told; HP_WORKING_PASSED is that of the window's size
+ *   10   there is no adjustment window: HP_WORKING_END, A and B, and numerators
+ * By HP_METHOD_AVERAGE there is no adjustment window either, and HP_WORKING_END, A and B are HP_NOTHING. */
+int64_t hp_working(const uint8_t *file, size_t file_len, size_t event_place, uint32_t at, uint32_t name);
+
+/* How long an overlap the event at `event_place` of a record file needs, by the calendar, the file's moves and the event alone, whatever days the file holds:
+ * the number of this name, HP_RESULT (HP_ANSWERED, or 11, 12, 14, 4 or 6), HP_CARRIED, or HP_OVERLAP_.. So it can be asked of a file
+ * with events and no days. No holiday is known after HP_LAST_DAY. */
+int64_t hp_overlap(const uint8_t *file, size_t file_len, size_t event_place, uint32_t name);
+
+/* The first day to cut a record file's days from so that none of its events is refused HP_MARGIN_TOO_SHORT: the least HP_OVERLAP_FROM of its events.
+ * HP_NOTHING where no event has one. */
+int64_t hp_cut_from(const uint8_t *file, size_t file_len);
+
+/* The reading of a day that a record file holds, at a quarter of the day, 0 to 95: as the file has it, so HP_MISSING where it is missing. HP_NOTHING for a
+ * day that is not held, for another quarter, and for a file that is refused. */
+int64_t hp_reading(const uint8_t *file, size_t file_len, uint32_t day, uint32_t quarter);
+
+/* The mark of a day that a record file holds, as the file has it: 0 to 255. HP_NOTHING for a day that is not held, and for a file that is refused. */
+int64_t hp_mark(const uint8_t *file, size_t file_len, uint32_t day);
+
+/* What a day of the calendar is where no holiday was moved: the number of this name, HP_CALENDAR_.. HP_RESULT is always HP_ANSWERED; the rest is HP_NOTHING for
+ * a day after HP_LAST_DAY. */
+int64_t hp_calendar(uint32_t day, uint32_t name);
 
 /* The listing of a record file, as honeyplank-list prints it: its length in bytes, with the text at the start of `out` and the rest kept. Where
  * out_len is below that length: -HP_NO_ROOM, and `out` is kept. A file that is refused has a listing too (`file refused OFFSET`). */

@@ -1,7 +1,8 @@
 /* bench DIR: the proved entries against the same rules in plain C at -O3, built by gcc and by clang, on the same input in one run. Prints
  * nanoseconds a call, the best of the rounds, which take turns, and the ratio of proved to each other way. Every buffer is touched before the
  * clock starts. Writing is also measured against a copy of as many bytes, the limit. The largest file, and the same with loads above eight million
- * kW, are also written to DIR/largest.rec and DIR/high.rec, for the listing programs.
+ * kW, are also written to DIR/largest.rec and DIR/high.rec, for the listing programs. The whole working of an event is measured against as many calls of
+ * hp_told.
  * bench DIR once: each case once in each way, whose names its line has, between call_begins and call_ends, for an emulator to count instructions.
  * Compiled with GROUPS it also measures the group of a day by itself (tests/bench/groups).
  * Compiled with BEFORE it also measures the entries of an earlier archive, in which every name that it exports begins with before_; with
@@ -593,6 +594,43 @@ static void groups(void)
     report_groups("groups b. the 134 of them where a holiday of Easter's can lie", FEBRUARY_15, JUNE_27);
 }
 
+/* Every number of the working of the file's event, which lasts two hours, a call each: how many there are. */
+static uint32_t whole_working(void)
+{
+    uint32_t at, name, count = 0;
+    for (name = HP_WORKING_GROUP; name <= HP_WORKING_B; name++, count++)
+        hp_working(file.bytes, file.length, place, 0, name);
+    for (at = 1; at <= HP_LOOK_BACK; at++)
+        for (name = HP_BACK_DAY; name <= HP_BACK_CHOSEN; name++, count++)
+            hp_working(file.bytes, file.length, place, at, name);
+    for (at = 136; at < 160; at++, count++)
+        hp_working(file.bytes, file.length, place, at, HP_QUARTER_S);
+    for (at = 152; at < 160; at++, count++)
+        hp_working(file.bytes, file.length, place, at, HP_QUARTER_NUMERATOR);
+    return count;
+}
+
+/* The working of file a's first event, in rounds with as many calls of hp_told. */
+static void working(void)
+{
+    double whole = 1e18, told = 1e18;
+    uint32_t count = 0, i;
+    int round;
+    put_largest();
+    for (round = 0; round < ROUNDS && !once; round++) {
+        double began = now(), between;
+        count = whole_working();
+        between = now();
+        for (i = 0; i < count; i++)
+            if (hp_told(file.bytes, file.length, place, HP_REACH) == HP_NOTHING)
+                abort();
+        whole = between - began < whole ? between - began : whole;
+        told = now() - between < told ? now() - between : told;
+    }
+    if (count > 0)
+        printf("working of a file. 128 days, %u numbers: proved %.0f ns, as many calls of hp_told %.0f ns (ratio %.2f)\n", count, whole, told, whole / told);
+}
+
 static void write_largest(const char *directory, const char *name)
 {
     char path[4096];
@@ -620,6 +658,7 @@ int main(int argc, char **argv)
     files();
     tables();
     writing();
+    working();
     with_moves();
     by_average();
     after_easter();

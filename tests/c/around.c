@@ -31,7 +31,17 @@ static void put_largest(struct record_file *largest, uint32_t load)
     put_event_by(largest, 9006, 96, 192, 96, HP_METHOD_HIGH);
 }
 
-/* Every entry but hp_listing, by every name; over a table by the one method or the other. */
+/* The working of an event by every name: of the day before it, of the first day of its look-back, and of a quarter of it. */
+static void call_working(void)
+{
+    static const uint32_t ats[] = {1, HP_LOOK_BACK, 152};
+    uint32_t name, i;
+    for (name = 0; name <= LAST_NAME; name++)
+        for (i = 0; i < sizeof ats / sizeof ats[0]; i++)
+            hp_working(file.bytes, file.length, place, ats[i], name);
+}
+
+/* Every entry but hp_working and hp_listing, by every name; over a table by the one method or the other. */
 static void call_all(void)
 {
     static uint8_t out[HP_MOST_BYTES], written[HP_MOST_FILE], marks[128];
@@ -45,12 +55,17 @@ static void call_all(void)
     hp_day(2024, 8, 28);
     hp_date(9006);
     hp_version();
+    hp_cut_from(file.bytes, file.length);
+    hp_reading(file.bytes, file.length, 9006, QUARTERS - 1);
+    hp_mark(file.bytes, file.length, 9006);
     for (name = 0; name <= LAST_NAME; name++) {
         hp_told(file.bytes, file.length, place, name);
         hp_told_table(8879, marks, 128, readings, 128 * QUARTERS, moves, values.moved, 0, 9006, 96, 192, 96, method, name);
         hp_file(file.bytes, file.length, name);
         hp_event(file.bytes, file.length, place, name);
         hp_move(file.bytes, file.length, place, name);
+        hp_overlap(file.bytes, file.length, place, name);
+        hp_calendar(8891, name);
     }
 }
 
@@ -85,24 +100,30 @@ static size_t deeper(size_t one, size_t other)
 static void check_stack(void)
 {
     static const size_t rooms[] = {0, HP_MOST_LISTING - 1, HP_MOST_LISTING};
-    size_t all = 0, listing = 0, i;
+    size_t all = 0, working = 0, listing = 0, i;
     put_largest(&file, 1000);
     CHECK(file.length == HP_MOST_FILE);
     take_values(&values, &file);
-    for (place = 0; place < PLACES; place++)
+    for (place = 0; place < PLACES; place++) {
         all = deeper(all, depth(call_all));
+        working = deeper(working, depth(call_working));
+    }
     for (i = 0; i < sizeof rooms / sizeof rooms[0]; i++) {
         listing_room = rooms[i];
         listing = deeper(listing, depth(call_listing));
     }
-    printf("stack: %zu bytes; hp_listing: %zu\n", all, listing);
+    printf("stack: %zu bytes; hp_working: %zu; hp_listing: %zu\n", all, working, listing);
     CHECK(all > 0 && all <= HP_STACK);
+    CHECK(working > 0 && working <= HP_STACK_WORKING);
     CHECK(listing > 0 && listing <= HP_STACK_LISTING);
 }
 
+/* WORKED: the names of a working. */
+enum { WORKED = HP_QUARTER_NUMERATOR - HP_WORKING_GROUP + 1 };
+
 /* What a file's entries give at a place. */
 struct given {
-    int64_t number, told[LAST_NAME + 1];
+    int64_t number, told[HP_ADJUSTMENT + 1], worked[WORKED], overlap;
     uint8_t out[HP_MOST_BYTES];
 };
 
@@ -122,8 +143,11 @@ static struct given given_at(const struct record_file *its, size_t event)
     uint32_t name;
     memset(&given, UNTOUCHED, sizeof given);
     given.number = hp_baseline(its->bytes, its->length, event, given.out, HP_MOST_BYTES);
-    for (name = 0; name <= LAST_NAME; name++)
+    for (name = 0; name <= HP_ADJUSTMENT; name++)
         given.told[name] = hp_told(its->bytes, its->length, event, name);
+    for (name = 0; name < WORKED; name++)
+        given.worked[name] = hp_working(its->bytes, its->length, event, name + HP_WORKING_GROUP < HP_QUARTER_S ? 2 : 152, name + HP_WORKING_GROUP);
+    given.overlap = hp_overlap(its->bytes, its->length, event, HP_OVERLAP_FROM);
     return given;
 }
 
@@ -181,6 +205,7 @@ static void check_threads(void)
     }
     CHECK(memcmp(callers[0].due[63].out, callers[1].due[63].out, HP_MOST_BYTES) != 0);
     CHECK(callers[0].due[63].told[HP_ADJUSTMENT] != callers[1].due[63].told[HP_ADJUSTMENT]);
+    CHECK(callers[0].due[63].worked[HP_WORKING_A - HP_WORKING_GROUP] != callers[1].due[63].worked[HP_WORKING_A - HP_WORKING_GROUP]);
     CHECK(memcmp(callers[0].listing, callers[1].listing, HP_MOST_LISTING) != 0);
     for (i = 0; i < THREADS; i++)
         CHECK(pthread_create(&threads[i], NULL, call_often, &callers[i]) == 0);

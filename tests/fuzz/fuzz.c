@@ -1,6 +1,6 @@
 /* libFuzzer's harness: the proved entries over a record file and over its table, and the writer, beside the plain C ones (tests/reference/c), which
- * are instrumented. An input is one byte for the event's place, one for the room of the output, and the file, whose bytes are also taken as values
- * to write. */
+ * are instrumented; and the working of an event, as far as those tell what it leads to. An input is one byte for the event's place, one for the room
+ * of the output, and the file, whose bytes are also taken as values to write. */
 #define _POSIX_C_SOURCE 200809L
 #include <stdio.h>
 #include <stdlib.h>
@@ -200,6 +200,81 @@ static void same_baseline(const uint8_t *file, size_t length, size_t place, size
     number = plain_host(file, length, place, due, room, &answer);
     SAME(hp_baseline(file, length, place, out, room) == number);
     SAME(memcmp(out, due, sizeof out) == 0);
+}
+
+/* The day `back` days before the event is chosen exactly where its rank is one of those taken, and stands there in the answer. */
+static void same_chosen(const uint8_t *file, size_t length, size_t place, uint32_t back, const struct plain_answer *answer)
+{
+    int64_t rank = hp_working(file, length, place, back, HP_BACK_RANK) - hp_working(file, length, place, 0, HP_WORKING_PASSED);
+    int chosen = rank >= 1 && rank <= answer->count;
+    SAME(hp_working(file, length, place, back, HP_BACK_CHOSEN) == chosen);
+    SAME(!chosen || hp_working(file, length, place, back, HP_BACK_DAY) == answer->days[rank - 1]);
+}
+
+/* The working leads to the answer: how many days are chosen, the adjustment, and the numerator of one quarter. */
+static void same_answer(const uint8_t *file, size_t length, size_t place, uint32_t mix, const uint8_t *numerators, const struct plain_answer *answer)
+{
+    int64_t taken = hp_working(file, length, place, 0, HP_WORKING_TAKEN), a = hp_working(file, length, place, 0, HP_WORKING_A);
+    uint32_t s = (uint32_t)hp_event(file, length, place, HP_EVENT_START), e = (uint32_t)hp_event(file, length, place, HP_EVENT_END);
+    uint32_t quarter = mix % (e - s);
+    int64_t sum = hp_working(file, length, place, s + quarter, HP_QUARTER_S), parts = answer->denominator / answer->count;
+    int64_t numerator = hp_working(file, length, place, s + quarter, HP_QUARTER_NUMERATOR);
+    SAME(taken == answer->count);
+    SAME((a == HP_NOTHING) == (parts == 1));
+    SAME(a == HP_NOTHING || taken * a - hp_working(file, length, place, 0, HP_WORKING_B) == answer->adjustment);
+    SAME(numerator == parts * sum + answer->adjustment);
+    SAME((numerator < 0 ? 0 : numerator) == word_at(numerators + 4 * quarter));
+    SAME(hp_working(file, length, place, e, HP_QUARTER_NUMERATOR) == HP_NOTHING);
+    same_chosen(file, length, place, 1 + mix % HP_LOOK_BACK, answer);
+}
+
+/* As far as it goes: 8 tells no window, 9 its size and nothing chosen, 10 no adjustment; and an overlap that is long enough is never refused 8. */
+static void same_refused(const uint8_t *file, size_t length, size_t place, uint32_t number, const struct plain_answer *answer)
+{
+    int64_t more = hp_overlap(file, length, place, HP_OVERLAP_MORE), size = hp_working(file, length, place, 0, HP_WORKING_SIZE);
+    SAME(more >= 0 && (number != HP_MARGIN_TOO_SHORT || more > 0));
+    SAME((size == HP_NOTHING) == (number == HP_MARGIN_TOO_SHORT));
+    if (number == HP_MARGIN_TOO_SHORT)
+        SAME(hp_overlap(file, length, place, HP_OVERLAP_SUFFICES) == (int64_t)answer->carried[0]);
+    if (number == HP_TOO_FEW)
+        SAME(size == (int64_t)answer->carried[0] && hp_working(file, length, place, 0, HP_WORKING_TAKEN) == 0);
+    if (number != HP_ANSWERED)
+        SAME(hp_working(file, length, place, 0, HP_WORKING_END) == HP_NOTHING);
+    SAME((hp_working(file, length, place, 191, HP_QUARTER_S) == HP_NOTHING) == (number == HP_MARGIN_TOO_SHORT || number == HP_TOO_FEW));
+}
+
+/* Any name at any place, about the look-back and the ruler mostly; then what the plain C version tells of the same event. */
+static void same_working(const uint8_t *file, size_t length, size_t place, uint32_t mix)
+{
+    uint8_t out[HP_MOST_BYTES];
+    struct plain_answer answer;
+    uint32_t number = plain_host(file, length, place, out, sizeof out, &answer), i;
+    int64_t from = hp_overlap(file, length, place, HP_OVERLAP_FROM), cut = hp_cut_from(file, length);
+    int is_shown = number == HP_ANSWERED || (number >= HP_MARGIN_TOO_SHORT && number <= HP_NO_ADJUSTMENT_WINDOW);
+    for (i = 0; i < 4; i++) {
+        hp_working(file, length, place, mix >> 28 == 0 ? mix : mix / 64 % 200, (mix + 13 * i) % 64);
+        hp_overlap(file, length, place, (mix + 13 * i) % 64);
+        hp_calendar(mix / 64 % (HP_LAST_DAY + 5), HP_CALENDAR_GROUP + i);
+    }
+    SAME(hp_working(file, length, place, mix, HP_RESULT) == (is_shown ? HP_ANSWERED : number));
+    SAME(hp_working(file, length, place, mix, HP_CARRIED) == (!is_shown && answer.carries > 0 ? (int64_t)answer.carried[0] : HP_NOTHING));
+    SAME(from == HP_NOTHING || (cut >= 0 && cut <= from));
+    if (is_shown)
+        same_refused(file, length, place, number, &answer);
+    else
+        SAME(hp_working(file, length, place, 1, HP_BACK_REASON) == HP_NOTHING);
+    if (number == HP_ANSWERED)
+        same_answer(file, length, place, mix, out, &answer);
+}
+
+/* A reading and a mark of the file, which the values hold. */
+static void same_day(const uint8_t *file, size_t length, uint32_t mix, const struct values *due)
+{
+    uint32_t day = mix % (uint32_t)(due->days + 2), quarter = mix / 256 % (QUARTERS + 2);
+    int held = day < due->days;
+    SAME(hp_mark(file, length, due->first + day) == (held ? due->marks[day] : HP_NOTHING));
+    SAME(hp_reading(file, length, due->first + day, quarter) == (held && quarter < QUARTERS ? (int64_t)due->readings[QUARTERS * day + quarter] : HP_NOTHING));
+    SAME(hp_mark(file, length, due->first - 1) == HP_NOTHING);
 }
 
 /* With the room of the listing, a byte less or a byte more; by `turn`, seldom with room for any. */
@@ -407,9 +482,12 @@ int LLVMFuzzerTestOneInput(const uint8_t *data, size_t size)
     same_moves(file, length, place, turn, &shape, refused, offset);
     same_told(file, length, place, turn);
     same_baseline(file, length, place, room_of(data[1], event.e > event.s ? event.e - event.s : 0));
+    same_working(file, length, place, mixed(file, length));
     same_listing(file, length, data[1]);
-    if (!refused)
+    if (!refused) {
         same_again(file, length, &shape);
+        same_day(file, length, mixed(file, length), &values);
+    }
     if (number == HP_ANSWERED) {
         same_table(&event, data[1], turn);
         change_list(file + 4);

@@ -207,6 +207,49 @@ int64_t hp_move(const uint8_t *file, size_t file_len, size_t move_place, uint32_
     return carry(c, NULL, 0);
 }
 
+int64_t hp_working(const uint8_t *file, size_t file_len, size_t event_place, uint32_t at, uint32_t name)
+{
+    struct peer_call *c = begin_file(PEER_WORKING, file, file_len, event_place);
+    c->at = at;
+    c->name = name;
+    return carry(c, NULL, 0);
+}
+
+int64_t hp_overlap(const uint8_t *file, size_t file_len, size_t event_place, uint32_t name)
+{
+    struct peer_call *c = begin_file(PEER_OVERLAP, file, file_len, event_place);
+    c->name = name;
+    return carry(c, NULL, 0);
+}
+
+int64_t hp_cut_from(const uint8_t *file, size_t file_len)
+{
+    return carry(begin_file(PEER_CUT_FROM, file, file_len, 0), NULL, 0);
+}
+
+int64_t hp_reading(const uint8_t *file, size_t file_len, uint32_t day, uint32_t quarter)
+{
+    struct peer_call *c = begin_file(PEER_READING, file, file_len, 0);
+    c->event = day;
+    c->at = quarter;
+    return carry(c, NULL, 0);
+}
+
+int64_t hp_mark(const uint8_t *file, size_t file_len, uint32_t day)
+{
+    struct peer_call *c = begin_file(PEER_MARK, file, file_len, 0);
+    c->event = day;
+    return carry(c, NULL, 0);
+}
+
+int64_t hp_calendar(uint32_t day, uint32_t name)
+{
+    struct peer_call *c = begin_file(PEER_CALENDAR, NULL, 0, 0);
+    c->event = day;
+    c->name = name;
+    return carry(c, NULL, 0);
+}
+
 int64_t hp_listing(const uint8_t *file, size_t file_len, uint8_t *out, size_t out_len)
 {
     struct peer_call *c = begin_file(PEER_LISTING, file, file_len, 0);

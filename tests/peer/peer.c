@@ -26,6 +26,18 @@ static int64_t carry_out(struct peer_call *c)
         return hp_event(c->file, c->file_len, c->place, c->name);
     case PEER_MOVE:
         return hp_move(c->file, c->file_len, c->place, c->name);
+    case PEER_WORKING:
+        return hp_working(c->file, c->file_len, c->place, c->at, c->name);
+    case PEER_OVERLAP:
+        return hp_overlap(c->file, c->file_len, c->place, c->name);
+    case PEER_CUT_FROM:
+        return hp_cut_from(c->file, c->file_len);
+    case PEER_READING:
+        return hp_reading(c->file, c->file_len, c->event, c->at);
+    case PEER_MARK:
+        return hp_mark(c->file, c->file_len, c->event);
+    case PEER_CALENDAR:
+        return hp_calendar(c->event, c->name);
     case PEER_LISTING:
         return hp_listing(c->file, c->file_len, c->out, c->out_len);
     case PEER_WRITE:

@@ -6,11 +6,11 @@
 #include <stdint.h>
 
 enum { PEER_IN = 1 << 18, PEER_OUT = 1 << 18, PEER_GUARD = 4096, PEER_MEMORY_FD = 3 };
-enum peer_entry { PEER_BASELINE, PEER_TOLD, PEER_BASELINE_TABLE, PEER_TOLD_TABLE, PEER_DAY_PART, PEER_FILE, PEER_EVENT, PEER_MOVE, PEER_LISTING,
-                  PEER_WRITE, PEER_DAY, PEER_DATE, PEER_VERSION };
+enum peer_entry { PEER_BASELINE, PEER_TOLD, PEER_BASELINE_TABLE, PEER_TOLD_TABLE, PEER_DAY_PART, PEER_FILE, PEER_EVENT, PEER_MOVE, PEER_WORKING,
+                  PEER_OVERLAP, PEER_CUT_FROM, PEER_READING, PEER_MARK, PEER_CALENDAR, PEER_LISTING, PEER_WRITE, PEER_DAY, PEER_DATE, PEER_VERSION };
 
 struct peer_call {
-    uint32_t entry, name;
+    uint32_t entry, name, at;
     uint32_t first, participation, event, s, e, n, method, portfolio;
     uint64_t file_len, place, out_len, readings_len, moves_len, events_len;
     int64_t given;         /* what the entry gives back */

@@ -1,11 +1,11 @@
 -- What a conjunction or a disjunction says, and the two cases of a test and of an order.
 use Prim.Native.Nat.{ℕ, _<_, _≤_}
 use mathlib.Core.Path.{_≡_, refl, sym, _∙_}
-use mathlib.Core.Bool.{Bool, true, false, _&&_, _||_, false≢true}
+use mathlib.Core.Bool.{Bool, true, false, not, _&&_, _||_, false≢true}
 use mathlib.Core.Logic.{_⊎_, inl, inr, ⊎-elim}
 use native.Mathlib.Omega.{arith}
-use borrow.Author.Tests.{ltb-true, ltb-false, lt-ltb, le-ltb, eqb-true, eqb-false, eq-eqb, ne-eqb}
-use lib.Dec.{ltb, eqb}
+use borrow.Author.Tests.{ltb-true, ltb-false, lt-ltb, le-ltb, lt-leb, le-leb, eqb-true, eqb-false, eq-eqb, ne-eqb}
+use lib.Dec.{leb, ltb, eqb}
 
 pub bool-cases : (b : Bool) → (b ≡ true) ⊎ (b ≡ false)
 bool-cases true = inl refl
@@ -43,6 +43,9 @@ or-none-right false b e = e
 
 pub lt-or-le : (a b : ℕ) → (a < b) ⊎ (b ≤ a)
 lt-or-le a b = ⊎-elim (λ t. inl (ltb-true a b t)) (λ f. inr (ltb-false a b f)) (bool-cases (ltb a b))
+
+pub below-not : (a b : ℕ) → ltb a b ≡ not (leb b a)
+below-not a b = ⊎-elim (λ h. rw (lt-ltb a b h, lt-leb b a h)) (λ h. rw (le-ltb a b h, le-leb b a h)) (lt-or-le a b)
 
 -- two orders that go together are the same test
 pub same-test : (a b c d : ℕ) → (a < b → c < d) → (b ≤ a → d ≤ c) → ltb a b ≡ ltb c d

@@ -5,7 +5,7 @@ use mathlib.Core.List.{List, [], _∷_, _++_}
 use native.Mathlib.Nat.{sub-zero, zero-sub, suc-sub-suc}
 use native.Mathlib.Omega.{arith}
 use lib.ListN.{length, getD, take, drop, length-drop}
-use lib.Seq.{take-nil, take-take, getD-append-add}
+use lib.Seq.{take-nil, drop-nil, take-take, getD-append-add}
 
 module _ {A : Type 0} where
   pub take-append : (n : ℕ) (xs ys : List A) → take n (xs ++ ys) ≡ take n xs ++ take (n - length xs) ys
@@ -38,6 +38,12 @@ module _ {A : Type 0} where
   take-within (suc n) (x ∷ xs) =
       let k : min (suc n) (suc (length xs)) ≡ suc (min n (length xs)) = omega arith in
       rw k (ap (λ (l : List A). x ∷ l) (take-within n xs))
+
+  -- and starts there at the latest
+  pub drop-within : (n : ℕ) (xs : List A) → drop (min n (length xs)) xs ≡ drop n xs
+  drop-within n [] = rw (drop-nil {A = A} n, drop-nil {A = A} (min n 0))
+  drop-within zero (x ∷ xs) = let k : min 0 (suc (length xs)) ≡ 0 = omega arith in rw k
+  drop-within (suc n) (x ∷ xs) = let k : min (suc n) (suc (length xs)) ≡ suc (min n (length xs)) = omega arith in rw k (drop-within n xs)
 
   pub part-within : (a e : ℕ) (xs : List A) → take (min e (length xs) - a) (drop a xs) ≡ take (e - a) (drop a xs)
   part-within a e xs =

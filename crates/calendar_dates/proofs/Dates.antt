@@ -122,6 +122,11 @@ pub date-at :
 unfolding dateOf
 date-at d k j e h = rw e (after-at (yearOf d) 1 (months (yearOf d)) k j h)
 
+-- a day number from its parts
+pub parts-number : (y m d : ℕ) {new before : ℕ} → new ≡ newYear y → before ≡ sumOf (take (m - 1) (months y)) → new + before + (d - 1) ≡ dayNumber y m d
+unfolding dayNumber
+parts-number y m d e f = rw (e, f)
+
 module _ (t : Date) (n : ℕ) where
   pub numbered-day : isDate (t .year) (t .month) (t .day) ≡ true → n ≡ dayNumber (t .year) (t .month) (t .day) → Day n ≡ numbered t
   unfolding numbered

@@ -26,7 +26,7 @@ use Rattle.method_laws.proofs.NoPart.{no-part}
 use Rattle.engine_answer.specs.declared.Given.the-variants.{Answered, Refused}
 use Rattle.engine_answer.specs.declared.Answer.{Answer}
 use Rattle.engine_answer.specs.Answer.{answerOf}
-use Rattle.engine_refusals.proofs.Replies.{one-outcome}
+use Rattle.method.proofs.Replies.{one-outcome}
 use Rattle.table_baseline.proofs.Laws.{sound, never-above}
 use Rattle.demands.specs.Calls.{Call, moves, extract, request, stand, room, Gets, result, reported}
 use Rattle.demands.specs.Rows.{NOf, chosenOf, countOf, adjustedOf, earlier, rows, applies, answerOver, numeratorsOf}

@@ -9,7 +9,7 @@ use Rattle.base_lists.specs.Lists.{any}
 use Rattle.base_lists.proofs.Bools.{bool-cases, or-none-left, or-none-right}
 use Rattle.method.specs.declared.Refusal.{Refusal}
 use Rattle.method.specs.Verdict.{Reply, Answer, refused, answered, firstOf}
-use Rattle.engine_refusals.proofs.Replies.{never-both}
+use Rattle.method.proofs.Replies.{never-both}
 use Rattle.demands.specs.Rows.{applies, FirstIn}
 
 pub first-in : (rs : List (Bool × Refusal)) (x : Answer) (w : Refusal) → firstOf rs (answered x) ≡ refused w → FirstIn rs w

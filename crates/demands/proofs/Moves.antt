@@ -1,5 +1,5 @@
 -- The row of 14 is the test of the definitions: clause by clause of order 2, and pair by pair.
-use Prim.Native.Nat.{ℕ, _+_, _*_, _/_, _%_, _≤_, _<_}
+use Prim.Native.Nat.{ℕ, _*_, _/_, _%_, _≤_, _<_}
 use mathlib.Core.Path.{_≡_, refl, ap}
 use mathlib.Core.Bool.{Bool, true, false, not, _&&_, _||_, or-true, and-true, and-false, true≢false}
 use mathlib.Core.List.{List, [], _∷_}
@@ -9,14 +9,13 @@ use lib.ListN.{length}
 use lib.Dec.{leb, ltb, eqb}
 use borrow.Author.Tests.{le-ltb, lt-ltb, le-leb, lt-leb, leb-true, eq-eqb}
 use Rattle.base_lists.specs.Lists.{any, member}
-use Rattle.base_lists.proofs.Bools.{and-left, lt-or-le}
+use Rattle.base_lists.proofs.Bools.{and-left, lt-or-le, below-not}
 use Rattle.calendar_dates.specs.Days.{lastDay, yearOf}
 use Rattle.calendar_holidays.specs.Yearly.{fixedHolidays, isFixedHoliday}
 use Rattle.calendar_groups.specs.Holidays.{firstDays, goodPairs, repeated, goodMoves}
 use Rattle.method.specs.declared.Refusal.the-variants.{BadMoves}
 use Rattle.method.specs.Verdict.{listRefusals}
 use Rattle.demands.specs.Rows.{listRows}
-use Rattle.demands.proofs.Tests.{below-not}
 
 module _ (moves : List ℕ) where
   abbrev foreign : Bool

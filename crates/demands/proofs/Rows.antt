@@ -8,6 +8,7 @@ use mathlib.Core.Option.{none, some}
 use lib.ListN.{length}
 use lib.IntN.{ℤ, pos}
 use lib.Dec.{leb, ltb, eqb}
+use Rattle.base_lists.proofs.Bools.{below-not}
 use Rattle.base_lists.specs.Lists.{any}
 use Rattle.calendar_dates.specs.Days.{lastDay}
 use Rattle.calendar_groups.specs.Holidays.{group}
@@ -31,7 +32,7 @@ use Rattle.base_lists.proofs.Places.{over-same}
 use Rattle.demands.specs.Rows.{chosenOf, windowOf, countOf, reachOf, endOf, AOf, BOf, adjustedOf, numeratorsOf, answerOver}
 use Rattle.demands.specs.Rows.{fileRows, tableRows, listRows, requestRows, dayRows}
 use Rattle.demands.proofs.Moves.{list-rows}
-use Rattle.demands.proofs.Tests.{below-not, from-not, and-not, or-not, none-of-four, any-not, most-is, few-is}
+use Rattle.demands.proofs.Tests.{from-not, and-not, or-not, none-of-four, any-not, most-is, few-is}
 
 -- 1
 bad-table : (t : Table)

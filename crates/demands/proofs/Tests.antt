@@ -8,7 +8,7 @@ use native.Mathlib.Omega.{arith}
 use lib.Dec.{leb, ltb, eqb}
 use borrow.Author.Tests.{lt-ltb, le-ltb, leb-true, le-leb, lt-leb, ne-eqb}
 use Rattle.base_lists.specs.Lists.{all, any}
-use Rattle.base_lists.proofs.Bools.{lt-or-le}
+use Rattle.base_lists.proofs.Bools.{lt-or-le, below-not}
 use Rattle.calendar_groups.specs.declared.Group.{Group}
 use Rattle.calendar_groups.specs.declared.Group.the-variants.{Weekday, Saturday, HolidayGroup}
 use Rattle.method.specs.declared.Request.{Request}
@@ -17,9 +17,6 @@ use Rattle.method.specs.HighXofY.{Y, N, highXofY}
 use Rattle.method.specs.AverageXofY.{averageY, sevenDays, ofOthers, averaged, averageXofY}
 use Rattle.method.specs.Requested.{rulesOf}
 use Rattle.demands.specs.Rows.{noneLeft}
-
-pub below-not : (a b : ℕ) → ltb a b ≡ not (leb b a)
-below-not a b = ⊎-elim (λ h. rw (lt-ltb a b h, lt-leb b a h)) (λ h. rw (le-ltb a b h, le-leb b a h)) (lt-or-le a b)
 
 pub from-not : (a b : ℕ) → leb a b ≡ not (ltb b a)
 from-not a b = ⊎-elim (λ h. rw (lt-leb a b h, lt-ltb b a h)) (λ h. rw (le-leb a b h, le-ltb b a h)) (lt-or-le b a)

@@ -24,7 +24,8 @@ use Rattle.base_lists.proofs.Places.{length-over}
 use Rattle.engine_refusals.specs.declared.Tested.the-variants.{Passed}
 use Rattle.engine_refusals.specs.Steps.{tested}
 use Rattle.engine_refusals.proofs.FirstRefusal.{GoodRequest, good-request, Fits, request-passed}
-use Rattle.engine_refusals.proofs.Replies.{never-both, answered-past}
+use Rattle.method.proofs.Replies.{never-both}
+use Rattle.engine_refusals.proofs.Replies.{answered-past}
 use Rattle.engine_choice.proofs.Requested.{chosen-five}
 use Rattle.base_lists.specs.Lists.{places}
 

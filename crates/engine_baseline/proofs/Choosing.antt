@@ -59,8 +59,23 @@ module _ {A O : Type 0} (m : Method A O) (h : History A) where
   few-go false true n d e = cc
   few-go false false n d e = absurd (let z : _≡_ {A = ℕ} 0 1 = cc in omega arith)
 
+  -- whether days are chosen
+  abbrev pub some : Bool → Bool → Bool
+  some s f = not s && not f
+
+  none-short : (s f : Bool) (d : ℕ) → choice s f .choosing ≡ Short d → some s f ≡ false
+  none-short true f d e = refl
+  none-short false true d e = refl
+  none-short false false d e = absurd (let z : _≡_ {A = ℕ} 0 1 = cc in omega arith)
+
+  none-few : (s f : Bool) (n d : ℕ) → choice s f .choosing ≡ Few n d → some s f ≡ false
+  none-few true f n d e = refl
+  none-few false true n d e = refl
+  none-few false false n d e = absurd (let z : _≡_ {A = ℕ} 0 1 = cc in omega arith)
+
   -- days are chosen, and these
   pub record Chose (c : Choice) : Type 0 where
+    pub enough : isShort m h ≡ false
     pub taken : eqb (m .taken (length (window m h))) 0 ≡ false
     pub chosen : c .chosen ≡ picked
     pub outcome : outcome m h ≡ ending
@@ -74,6 +89,14 @@ module _ {A O : Type 0} (m : Method A O) (h : History A) where
     unfolding choiceOf outcome
     few-is {n} {d} k = few-go (isShort m h) (eqb (m .taken (length (window m h))) 0) n d (sym (ap (λ (x : Choice). x .choosing) e) ∙ k)
 
+    pub short-none : {d : ℕ} → c .choosing ≡ Short d → some (isShort m h) (eqb (m .taken (length (window m h))) 0) ≡ false
+    unfolding choiceOf
+    short-none {d} k = none-short (isShort m h) (eqb (m .taken (length (window m h))) 0) d (sym (ap (λ (x : Choice). x .choosing) e) ∙ k)
+
+    pub few-none : {n d : ℕ} → c .choosing ≡ Few n d → some (isShort m h) (eqb (m .taken (length (window m h))) 0) ≡ false
+    unfolding choiceOf
+    few-none {n} {d} k = none-few (isShort m h) (eqb (m .taken (length (window m h))) 0) n d (sym (ap (λ (x : Choice). x .choosing) e) ∙ k)
+
     pub days-is : c .choosing ≡ Days → Chose c
     unfolding choiceOf outcome
     days-is k = go (isShort m h) (eqb (m .taken (length (window m h))) 0) refl refl
@@ -84,6 +107,7 @@ module _ {A O : Type 0} (m : Method A O) (h : History A) where
         go false true x y = absurd (let z : _≡_ {A = ℕ} 0 1 = cc (k, e, ap₂ (λ s f. choice s f .choosing) x y) in omega arith)
         go false false x y =
             record {
+              enough = x;
               taken = y;
               chosen = ap (λ (x : Choice). x .chosen) e ∙ ap₂ (λ s f. choice s f .chosen) x y;
               outcome = ap₂ ended x y;
@@ -222,8 +246,8 @@ module _ (group : ℕ → Group) (r : Request) (h : History Day) where
 five-take : (l : List ℕ) → length l ≤ 5 → take (length l) (inFive l) ≡ l
 five-take l h = take-take (length l) 5 (l ++ replicate 5 0) h ∙ take-append-seam l (replicate 5 0)
 
--- what `finish` asks, and its reply
-module _ (group : ℕ → Group) (r : Request) (h : History Day) (room : ℕ) (fit : Fit r h room) (c : Choice) (x : Chose (methodOf group r) h c) where
+-- the chosen days by value are those of the history
+module _ (group : ℕ → Group) (r : Request) (h : History Day) (c : Choice) (x : Chose (methodOf group r) h c) where
   abbrev ch : List (ℕ × Day)
   ch = chosen (methodOf group r) h
 
@@ -233,6 +257,11 @@ module _ (group : ℕ → Group) (r : Request) (h : History Day) (room : ℕ) (f
   listed : take (c .chosen .count) (c .chosen .days) ≡ daysOf ch
   listed = rw (x .chosen, ← same-count) (five-take (daysOf ch) (omega (arith, same-count, chosen-five group r h)))
 
+  pub days-held : withDays h (take (c .chosen .count) (c .chosen .days)) ≡ ch
+  days-held = ap (withDays h) listed ∙ chosen-again group r h
+
+-- what `finish` asks, and its reply
+module _ (group : ℕ → Group) (r : Request) (h : History Day) (room : ℕ) (fit : Fit r h room) (c : Choice) (x : Chose (methodOf group r) h c) where
   -- the event is not on day 0
   some-before : 0 < r .event
   unfolding methodOf methodBy
@@ -245,7 +274,7 @@ module _ (group : ℕ → Group) (r : Request) (h : History Day) (room : ℕ) (f
         enough = fit .enough;
         some = some-before;
         few = rw (x .chosen) (chosen-five group r h);
-        five = rw listed (rw (x .chosen));
+        five = rw (listed group r h c x) (rw (x .chosen));
       }
 
   pub reply-is : replyOf r h (c .chosen) ≡ closing (outcome (methodOf group r) h)
@@ -255,10 +284,8 @@ module _ (group : ℕ → Group) (r : Request) (h : History Day) (room : ℕ) (f
       reaches : c .chosen .reach ≡ reach (methodOf group r) h
       reaches = ap (λ (k : Chosen). k .reach) (x .chosen)
 
-      days : withDays h (take (c .chosen .count) (c .chosen .days)) ≡ ch
-      days = ap (withDays h) listed ∙ chosen-again group r h
-
       same : chose (take (c .chosen .count) (c .chosen .days)) (c .chosen .reach)
           (baseline r (withDays h (take (c .chosen .count) (c .chosen .days))) (h .day (r .event - 1)) (h .day (r .event)))
-          ≡ chose (daysOf ch) (reach (methodOf group r) h) (baseline r ch (h .day (r .event - 1)) (h .day (r .event)))
-      same = λ i. chose (listed i) (reaches i) (baseline r (days i) (h .day (r .event - 1)) (h .day (r .event)))
+          ≡ chose (daysOf (chosen (methodOf group r) h)) (reach (methodOf group r) h)
+          (baseline r (chosen (methodOf group r) h) (h .day (r .event - 1)) (h .day (r .event)))
+      same = λ i. chose (listed group r h c x i) (reaches i) (baseline r (days-held group r h c x i) (h .day (r .event - 1)) (h .day (r .event)))

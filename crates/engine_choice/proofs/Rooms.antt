@@ -82,7 +82,7 @@ module _ (group : ℕ → Group) {r : Request} {rooms : Directory} {readings : L
     before-is : roomsBefore r rooms ≡ min 45 (r .event - h .first)
     before-is = width-before r rooms (h .first) (held-first h (r .event) holds) width-is
 
-    same-day : (i : ℕ) → i ≤ r .event - h .first → i ≤ 45 → roomsOf r rooms readings (r .event - i) ≡ h .day (r .event - i)
+    pub same-day : (i : ℕ) → i ≤ r .event - h .first → i ≤ 45 → roomsOf r rooms readings (r .event - i) ≡ h .day (r .event - i)
     same-day i o w =
         let e : r .event - (r .event - i) ≡ i = omega arith in
         rw e (agree .days i (omega (arith, width-is, held-first h (r .event) holds)))
@@ -94,7 +94,7 @@ module _ (group : ℕ → Group) {r : Request} {rooms : Directory} {readings : L
         ∙ nearest-same (relevant group r) r (roomsOf r rooms readings) (h .day) (min 45 (r .event - h .first)) (λ i o. same-day i (omega arith) (omega arith))
         ∙ sym (seen-nearest group r h (rulesOf (group (r .event)) r) (omega (arith, held-last h (r .event) holds)))
 
-    rooms-begin : any (λ d. ltb d (roomHistory r rooms readings .first)) (methodOf group r .relevant) ≡ any (λ d. ltb d (h .first)) (methodOf group r .relevant)
+    pub rooms-begin : any (λ d. ltb d (roomHistory r rooms readings .first)) (methodOf group r .relevant) ≡ any (λ d. ltb d (h .first)) (methodOf group r .relevant)
     rooms-begin =
         short-of-reach group r (roomHistory r rooms readings .first) (not-after r rooms readings)
         ∙ rw (before-first r rooms readings, before-is)

@@ -1,7 +1,7 @@
 -- The choice by any rules: what was found gives the window, its size, its ranks and the reach.
 use Prim.Native.Nat.{ℕ, _+_, _-_, _≤_, _<_, min}
 use mathlib.Core.Path.{_≡_, refl, sym, ap, _∙_}
-use mathlib.Core.Bool.{true, false, cond}
+use mathlib.Core.Bool.{Bool, true, false, cond}
 use mathlib.Core.Logic.{⊎-elim}
 use mathlib.Core.List.{List, _++_, map}
 use mathlib.Core.Option.{Option}
@@ -21,7 +21,7 @@ use Rattle.method.specs.declared.Request.{Request}
 use Rattle.method.specs.Table.{Day, History}
 use Rattle.method.specs.Relevant.{relevant}
 use Rattle.method.specs.Method.{Method, daysOf, wholeReach, seen, eligibles, spares, window, chosen, reach, isShort}
-use Rattle.method.specs.Eligible.{eligible, spare, higher}
+use Rattle.method.specs.Eligible.{eligible, spare, higher, sortBy}
 use Rattle.method.specs.Adjustment.{Baseline}
 use Rattle.method.specs.Rules.{Rules, methodBy}
 use Rattle.method.specs.Requested.{rulesOf, methodOf}
@@ -40,15 +40,16 @@ use Rattle.engine_rules.specs.declared.Rules.{Rules as Numbers}
 use Rattle.engine_look_back.specs.declared.Found.{Found}
 use Rattle.engine_choice.specs.declared.Choosing.the-variants.{Short, Few, Days}
 use Rattle.engine_choice.specs.declared.Choice.{Choice}
+use Rattle.engine_choice.specs.declared.Row.{Row}
 use Rattle.engine_answer.specs.Answer.{inFive}
 use Rattle.engine_choice.specs.Steps.{choiceOf, noDays}
-use Rattle.engine_rules.specs.Steps.{Follows, inOrder}
-use Rattle.engine_choice.specs.Steps.{daysIn, picked, fillers, amongFew}
+use Rattle.engine_rules.specs.Steps.{Follows, Sound, inOrder}
+use Rattle.engine_choice.specs.Steps.{daysIn, picked, fillers, filledOf, amongFew}
 use Rattle.engine_look_back.specs.Steps.{roomsOf, roomsBefore, nearest, heldDays, upTo, eligibleOf, spareOf, rowOf, spareRow, sparesOf, Looked}
 use Rattle.engine_look_back.proofs.Held.{before-is, before-most}
 use Rattle.engine_look_back.proofs.Enough.{Enough, enough}
 use Rattle.engine_look_back.proofs.Days.{seen-nearest, nearest-back}
-use Rattle.engine_choice.proofs.Followed.{order-length, passed-at, taken-at, taken-within, lawful-by}
+use Rattle.engine_choice.proofs.Followed.{order-length, passed-at, taken-at, taken-within, lawful-by, window-most}
 
 -- The first words of a row of spare days are those of the days that fill a shortage
 
@@ -89,6 +90,10 @@ module _ (event : ℕ) (numbers : Numbers) (row : List ℕ) (size reach : ℕ) w
   unfolding picked
   picked-some e = rw (ne-eqb (getD (numbers .taken) size 0) 0 e)
 
+-- ten places hold a window that the eligible days do not fill
+pub filled-few : {numbers : Numbers} (found : Found) {row : Row} → Sound numbers → found .count < numbers .most → row ≡ filledOf numbers found → row .size ≤ 10
+filled-few {numbers} found sound less e = rw e (omega (arith, sound .ten, sound .fills))
+
 -- The two ways out where the eligible days do not fill the window
 
 module _ (r : Request) (numbers : Numbers) (found : Found) (before reach : ℕ) where
@@ -97,8 +102,7 @@ module _ (r : Request) (numbers : Numbers) (found : Found) (before reach : ℕ) 
   short-of-days h = rw (lt-ltb before reach h)
 
   pub enough-days : reach ≤ before
-      → picked (r .event) numbers (insertAll (take (fillers numbers found) (found .spare)) (found .eligible)) (found .count + fillers numbers found) reach
-      ≡ amongFew r numbers found before reach
+      → picked (r .event) numbers (filledOf numbers found .row) (filledOf numbers found .size) reach ≡ amongFew r numbers found before reach
   unfolding amongFew
   enough-days h = rw (le-ltb before reach h)
 
@@ -118,6 +122,16 @@ module _ {A O : Type 0} (m : Method A O) (h : History A) where
   choice-window : isShort m h ≡ false → choiceOf m h ≡ of-window (daysOf (chosen m h)) (length (chosen m h))
   unfolding choiceOf
   choice-window e = rw e
+
+-- A row of so many words, by numbers, shows a window: whether the days held can't tell it, Y, its days by rank, how many they are, and of its ranks how many
+-- are passed over and taken
+pub record Shows {A O : Type 0} (m : Method A O) (h : History A) (event : ℕ) (numbers : Numbers) (row : List ℕ) (count : ℕ) (lacks : Bool) : Type 0 where
+  pub short : lacks ≡ isShort m h
+  pub most : numbers .most ≡ m .most
+  pub days : daysIn event row 0 count ≡ daysOf (m .rank (window m h))
+  pub size : count ≡ length (window m h)
+  pub passed : getD (numbers .passed) count 0 ≡ m .passed (length (window m h))
+  pub taken : getD (numbers .taken) count 0 ≡ m .taken (length (window m h))
 
 module _ (group : ℕ → Group) {r : Request} {rules : Rules} {numbers : Numbers} (f : Follows r rules numbers) (h : History Day) where
   abbrev m : Method Day (Option Baseline)
@@ -150,6 +164,27 @@ module _ (group : ℕ → Group) {r : Request} {rules : Rules} {numbers : Number
 
     picked-is : isShort m h ≡ false → picked (r .event) numbers row size far ≡ choiceOf m h
     picked-is e = picked-window ∙ (λ i. of-window m h (days-are i) (count-is i)) ∙ sym (choice-window m h e)
+
+  -- the row of the window shows it
+  module _ {row : List ℕ} {size : ℕ} (is : row ≡ rowOf r (window m h)) (sized : size ≡ length (window m h))
+      (back : all (lookedBack r) (window m h) ≡ true) where
+    ranked-are : daysIn (r .event) row 0 size ≡ daysOf (sortBy (higher r) (window m h))
+    ranked-are =
+        rw (is, sized)
+        (ranks-of-row r 0 (length (window m h)) 10 (window m h) back (omega arith) (omega (arith, window-most f group h))
+        ∙ ap daysOf (take-all (length (window m h)) (sortBy (higher r) (window m h)) (omega (arith, length-sorted (higher r) (window m h)))))
+
+    row-shows : {lacks : Bool} → lacks ≡ isShort m h → Shows m h (r .event) numbers row size lacks
+    unfolding methodBy
+    row-shows e =
+        record {
+          short = e;
+          most = f .most;
+          days = ranked-are;
+          size = sized;
+          passed = rw sized (passed-at f (length (window m h)) (window-most f group h));
+          taken = rw sized (taken-at f (length (window m h)) (window-most f group h));
+        }
 
   module _ (days : List (ℕ × Day)) (found : Found) (sees : seen m h ≡ days) (back : all (lookedBack r) days ≡ true)
       (q : Enough r (numbers .most) (numbers .spares) days found) where
@@ -191,11 +226,18 @@ module _ (group : ℕ → Group) {r : Request} {rules : Rules} {numbers : Number
           q .oldest
           ∙ rw (eq-eqb (length (window m h)) (rules .most) (full-size m (lawful-by f group) h many), full-window)
 
+      full-back : all (lookedBack r) (window m h) ≡ true
+      full-back = rw full-window (all-take (lookedBack r) (numbers .most) (eligibleOf days) eligible-back)
+
+      full-row : found .eligible ≡ rowOf r (window m h)
+      full-row = q .row ∙ ap (rowOf r) (sym full-window)
+
+      pub full-shows : Shows m h (r .event) numbers (found .eligible) (numbers .most) false
+      full-shows = row-shows full-row sized full-back (sym (full-enough m h many))
+
       pub full-choice : picked (r .event) numbers (found .eligible) (numbers .most) (found .oldest) ≡ choiceOf m h
       full-choice =
-          picked-is (omega (arith, sized, f .sound .ten)) (q .row ∙ ap (rowOf r) (sym full-window)) sized full-reach
-          (rw full-window (all-take (lookedBack r) (numbers .most) (eligibleOf days) eligible-back))
-          (full-enough m h many)
+          picked-is (omega (arith, sized, f .sound .ten)) full-row sized full-reach full-back (full-enough m h many)
 
     -- they do not
     module _ (less : found .count < numbers .most) (before : h .first ≤ r .event + 1) where
@@ -263,6 +305,9 @@ module _ (group : ℕ → Group) {r : Request} {rules : Rules} {numbers : Number
       unfolding isShort wholeReach methodOf methodBy
       short-is = rw (lt-ltb (length (eligibles m h)) (m .most) few-eligible) (short-of-reach group r (h .first) before)
 
+      pub few-shows : Shows m h (r .event) numbers (filledOf numbers found .row) (filledOf numbers found .size) (ltb (r .event - h .first) (wholeReach m))
+      few-shows = row-shows row-is sized-few few-back (sym short-is)
+
       pub few-choice : amongFew r numbers found (r .event - h .first) (wholeReach m) ≡ choiceOf m h
       few-choice =
           ⊎-elim
@@ -317,6 +362,20 @@ module _ (group : ℕ → Group) (r : Request) (rooms : Directory) (readings : L
         ∙ few-choice group f (roomHistory r rooms readings) (nearest (relevant group r) r (roomsOf r rooms readings) (roomsBefore r rooms)) found (seen-rooms rules)
         (nearest-back (relevant group r) r (roomsOf r rooms readings) (roomsBefore r rooms) (before-most r rooms)) q less (not-after r rooms readings)
 
+    pub show-full : numbers .most ≤ found .count
+        → Shows (methodBy group r rules) (roomHistory r rooms readings) (r .event) numbers (found .eligible) (numbers .most) false
+    show-full =
+        full-shows group f (roomHistory r rooms readings) (nearest (relevant group r) r (roomsOf r rooms readings) (roomsBefore r rooms)) found (seen-rooms rules)
+        (nearest-back (relevant group r) r (roomsOf r rooms readings) (roomsBefore r rooms) (before-most r rooms)) q
+
+    pub show-few : found .count < numbers .most
+        → Shows (methodBy group r rules) (roomHistory r rooms readings) (r .event) numbers (filledOf numbers found .row) (filledOf numbers found .size)
+        (ltb (roomsBefore r rooms) (wholeReach (methodBy group r rules)))
+    show-few less =
+        rw (before-first r rooms readings) at
+        (few-shows group f (roomHistory r rooms readings) (nearest (relevant group r) r (roomsOf r rooms readings) (roomsBefore r rooms)) found (seen-rooms rules)
+        (nearest-back (relevant group r) r (roomsOf r rooms readings) (roomsBefore r rooms) (before-most r rooms)) q less (not-after r rooms readings))
+
 -- no relevant day lies beyond the look back: days held further back play no part in the test of the whole reach
 module _ (group : ℕ → Group) (r : Request) (rooms : Directory) where
   reach-event : wholeReach (methodOf group r) ≤ r .event
@@ -351,3 +410,14 @@ module _ (group : ℕ → Group) (r : Request) (rooms : Directory) (readings : L
       → amongFew r numbers found before (wholeReach (methodOf group r)) ≡ choiceOf (methodOf group r) (roomHistory r rooms readings)
   unfolding methodOf
   request-few held less = rw held (few-held group r rooms numbers found ∙ choose-few group r rooms readings (rw own at f) found (enough (rw own-days at q)) less)
+
+  pub request-shows-full : numbers .most ≤ found .count
+      → Shows (methodOf group r) (roomHistory r rooms readings) (r .event) numbers (found .eligible) (numbers .most) false
+  unfolding methodOf
+  request-shows-full = show-full group r rooms readings (rw own at f) found (enough (rw own-days at q))
+
+  pub request-shows-few : {before : ℕ} → before ≡ rooms .held - 1 → found .count < numbers .most
+      → Shows (methodOf group r) (roomHistory r rooms readings) (r .event) numbers (filledOf numbers found .row) (filledOf numbers found .size)
+      (ltb before (wholeReach (methodOf group r)))
+  unfolding methodOf
+  request-shows-few held less = rw (held, held-test group r rooms) (show-few group r rooms readings (rw own at f) found (enough (rw own-days at q)) less)

@@ -12,6 +12,7 @@ use Rattle.engine_rules.specs.declared.Rules.{Rules as Numbers}
 use Rattle.engine_look_back.specs.declared.Found.{Found}
 use Rattle.engine_choice.specs.declared.Choosing.the-variants.{Short, Few, Days}
 use Rattle.engine_choice.specs.declared.Choice.{Choice}
+use Rattle.engine_choice.specs.declared.Row.{Row}
 use Rattle.engine_answer.specs.Answer.{inFive}
 use Rattle.engine_choice.specs.declared.Choosing.{Choosing}
 
@@ -51,8 +52,16 @@ picked event numbers row size reach =
 abbrev pub fillers : Numbers → Found → ℕ
 fillers numbers found = min (numbers .fill - found .count) (found .spares)
 
+-- the eligible days found, with the spare days that fill a shortage
+abbrev pub filledOf : Numbers → Found → Row
+filledOf numbers found =
+    record {
+      row = insertAll (take (fillers numbers found) (found .spare)) (found .eligible);
+      size = found .count + fillers numbers found;
+    }
+
 -- the choice where the eligible days do not fill the window
 unfoldable pub amongFew : Request → Numbers → Found → ℕ → ℕ → Choice
 amongFew r numbers found before reach =
     cond (ltb before reach) (noDays (Short reach))
-    (picked (r .event) numbers (insertAll (take (fillers numbers found) (found .spare)) (found .eligible)) (found .count + fillers numbers found) reach)
+    (picked (r .event) numbers (filledOf numbers found .row) (filledOf numbers found .size) reach)

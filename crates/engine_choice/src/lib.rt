@@ -9,7 +9,7 @@ ghost use Rattle.engine_rooms.specs.Rooms.{roomHistory};
 ghost use Rattle.engine_answer.specs.Answer.{inFive};
 ghost use Rattle.engine_choice.specs.Steps.{choiceOf, noDays};
 ghost use Rattle.engine_rules.specs.Steps.{Sound};
-ghost use Rattle.engine_choice.specs.Steps.{wordDay, daysIn, picked, amongFew};
+ghost use Rattle.engine_choice.specs.Steps.{wordDay, daysIn, picked, filledOf, amongFew};
 use base_numbers::counts;
 use calendar_groups::Group;
 use engine_answer::Chosen;
@@ -31,8 +31,14 @@ pub struct Choice {
     pub chosen: Chosen,
 }
 
+// The row of a window with its spare days, and how many days they are.
+pub struct Row {
+    pub row: [u64; 10],
+    pub size: u32,
+}
+
 // The day of a word.
-fn day_of(event: u32, word: u64) -> u32
+pub fn day_of(event: u32, word: u64) -> u32
     ensures { λ r. ⌜ r ≡ wordDay event word ⌝ }
 {
     let back = counts::minus(engine_words::NEAREST, engine_words::nearness_of(word));
@@ -87,6 +93,19 @@ fn pick(event: u32, rules: Rules, row: [u64; 10], size: u32, reach: u32) -> Choi
     }
 }
 
+// The eligible days found, with the spare days that fill a shortage.
+pub fn filled(rules: Rules, found: Found) -> Row
+    ensures { λ r. ⌜ r ≡ filledOf rules found ⌝ }
+{
+    let fillers = counts::least(counts::minus(rules.fill, found.count), found.spares);
+    let spare = found.spare;
+    let eligible = found.eligible;
+    Row {
+        row: engine_ranking::insert_all(spare, fillers as usize, eligible),
+        size: found.count + fillers,
+    }
+}
+
 // The choice where the eligible days do not fill the window: spare days are put in, and the reach is that of all relevant days.
 fn choose_among_few(
     moves: &[u32],
@@ -102,11 +121,9 @@ fn choose_among_few(
     if before < reach {
         return refused(Choosing::Short(reach));
     }
-    let fillers = counts::least(counts::minus(rules.fill, found.count), found.spares);
-    let spare = found.spare;
-    let eligible = found.eligible;
-    let row = engine_ranking::insert_all(spare, fillers as usize, eligible);
-    pick(request.event, rules, row, found.count + fillers, reach)
+    let window = filled(rules, found);
+    let row = window.row;
+    pick(request.event, rules, row, window.size, reach)
 }
 
 // The choice of days: refusal 8 or 9, or the chosen days and the reach.

@@ -17,7 +17,7 @@ pub struct Places {
 }
 
 // Where the readings of the day so many days before the event start; 0 past the directory.
-fn start_of(starts: &[u32], back: u32) -> u32
+pub fn start_of(starts: &[u32], back: u32) -> u32
     ensures { λ r. ⌜ r ≡ getD (now (starts .entry)) back 0 ⌝ }
 {
     let place = back as usize;

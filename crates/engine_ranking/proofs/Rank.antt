@@ -18,7 +18,7 @@ use Rattle.method.specs.Eligible.{eventSum, higher, sortBy}
 use Rattle.engine_ranking.specs.Steps.{word, above, insertDown, sortDown, padded, pushed, insertAll}
 use Rattle.base_lists.proofs.All.{all-append, all-replicate, all-take, all-drop}
 use Rattle.base_lists.proofs.Bools.{both, lt-or-le}
-use Rattle.base_lists.proofs.Maps.{map-take}
+use Rattle.base_lists.proofs.Maps.{map-drop, map-take}
 use Rattle.base_lists.proofs.Parts.{take-drop-take}
 use Rattle.method_laws.proofs.Sort.{length-sorted, all-inserted, all-sorted}
 use Rattle.engine_ranking.proofs.Sorting.{map-sorted}
@@ -131,11 +131,6 @@ pub part-padded : (p k n : ℕ) (l : List ℕ) → p + k ≤ length l → p + k 
 part-padded p k n l h o =
     take-drop-take k p n (l ++ replicate n 0) o
     ∙ rw (drop-append-le p l (replicate n 0) (omega arith)) (take-append-le k (drop p l) (replicate n 0) (rw length-drop (omega arith)))
-
-map-drop : {A B : Type 0} (f : A → B) (k : ℕ) (l : List A) → map f (drop k l) ≡ drop k (map f l)
-map-drop f zero l = refl
-map-drop f (suc k) [] = refl
-map-drop f (suc k) (x ∷ l) = map-drop f k l
 
 pub insert-padded : (n x : ℕ) (l : List ℕ) → take n (insertDown x (padded n l)) ≡ padded n (insertDown x l)
 insert-padded n x l = keep-top n x (l ++ replicate n 0) ∙ ap (take n) (before-noughts n x l)

@@ -11,7 +11,7 @@ use calendar_groups::Group;
 use method::Request;
 
 // A group's number.
-fn number(of: Group) -> u32
+pub fn number(of: Group) -> u32
     ensures { λ r. ⌜ r ≡ groupNumber of ⌝ }
 {
     match of {

@@ -253,10 +253,23 @@ module _ {shape : Shape} {start : ℕ} {marks readings moves numbers out : List 
           let long : length day-part ≡ start - base = ap length d ∙ days-length marks readings (shape .first) (q .size) ∙ sym (places .wide) in
           filling-part (opened p) day-part events start (places .opens) (omega (arith, now-long, places)) long (rw d refl)
 
-      pub file-put : {event-part : List ℕ} → event-part ≡ events → putMid start (length out - start) (putMid base (start - base) now day-part) event-part ≡ file
-      file-put {event-part} v =
-          let count = events-count numbers in
-          let long : length event-part ≡ length out - start = ap length v ∙ events-length (eventsOf numbers) ∙ omega (arith, q .whole) in
-          let all : length out ≤ length out = omega arith in
-          filled (filling-part with-days event-part [] (length out) (omega (arith, places)) (omega (arith, with-days .long)) long (rw v (sym (append-nil events)))) refl
-          ∙ rw (drop-of-length-le out all) (append-nil file)
+      pub events-room : length (midOf start (length out - start) (putMid base (start - base) now day-part)) ≡ evLength * (length numbers / 5)
+      events-room = mid-len start (length out) (putMid base (start - base) now day-part) (omega (arith, with-days .long)) ∙ omega (arith, q .whole)
+
+      module _ {event-part : List ℕ} (v : event-part ≡ events) where
+        abbrev whole : List ℕ
+        whole = putMid start (length out - start) (putMid base (start - base) now day-part) event-part
+
+        with-events : Filling out file whole [] (length out)
+        with-events =
+            let count = events-count numbers in
+            let long : length event-part ≡ length out - start = ap length v ∙ events-length (eventsOf numbers) ∙ omega (arith, q .whole) in
+            filling-part with-days event-part [] (length out) (places .ends) (omega (arith, with-days .long)) long (rw v (sym (append-nil events)))
+
+        pub file-long : length whole ≡ length out
+        file-long = with-events .long
+
+        pub file-put : whole ≡ file
+        file-put =
+            let all : length out ≤ length out = omega arith in
+            filled with-events refl ∙ rw (drop-of-length-le out all) (append-nil file)

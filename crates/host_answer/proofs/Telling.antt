@@ -31,7 +31,7 @@ pub widened : (x : ℕ) → x < 2 ^ 32 → toZ w64 x ≡ pos x
 widened x h = let k : x < 2 ^ 63 = omega arith in toZ-pos w64 x k
 
 -- past a row
-past : (row : List ℤ) (name : ℕ) → length row ≤ name → untold ≡ byName row name
+pub past : (row : List ℤ) (name : ℕ) → length row ≤ name → untold ≡ byName row name
 unfolding byName
 past row name h = sym (List·getD-eq-default row untold h)
 

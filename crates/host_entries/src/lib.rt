@@ -11,7 +11,12 @@ ghost use Rattle.engine_answer.specs.Answer.{answerOf};
 ghost use Rattle.file_baseline.specs.Reply.{fileReply};
 ghost use Rattle.host_answer.specs.Telling.{toldBy};
 ghost use Rattle.host_file.specs.OfFile.{fileTold, moveTold, eventTold};
-ghost use Rattle.host_numbers.specs.Numbers.{placeTold};
+ghost use Rattle.host_numbers.specs.Numbers.{placeTold, foundTold};
+ghost use Rattle.file_days.specs.HeldDay.{markIn, readingIn};
+ghost use Rattle.host_answer.specs.Names.{byName};
+ghost use Rattle.host_calendar.specs.Calendar.{calendarRow};
+ghost use Rattle.host_overlap.specs.Overlap.{overlapRow, cutFrom};
+ghost use Rattle.host_sheet.specs.Sheets.{fileSheet};
 ghost use Rattle.calendar_dates.specs.Days.{numbered, dated};
 ghost use Rattle.host_plain.specs.Plain.{dateWritten, dayTold, dateTold, version};
 ghost use Rattle.host_entries.specs.Host.{mostBytes, requestOf, TableCall, FileCall, WriteCall, ListingCall};
@@ -135,6 +140,48 @@ pub extern "C" fn hp_event(file: &[u8], place: usize, name: u32) -> i64
     host_file::tell_event(at, name)
 }
 
+// What the working of the event at a place of a record file tells by name, of the day `at` days before the event or of the ruler quarter `at`.
+#[no_mangle]
+pub extern "C" fn hp_working(file: &[u8], place: usize, at: u32, name: u32) -> i64
+    ensures { λ r. ⌜ r ≡ byName (fileSheet (now (file .entry)) place at) name ⌝ }
+{
+    host_sheet::tell_sheet(file, place, at, name)
+}
+
+// What the overlap of the event at a place of a record file tells by name.
+#[no_mangle]
+pub extern "C" fn hp_overlap(file: &[u8], place: usize, name: u32) -> i64
+    ensures { λ r. ⌜ r ≡ byName (overlapRow (now (file .entry)) place) name ⌝ }
+{
+    host_overlap::tell_overlap(file, place, name)
+}
+
+// The first day to cut the days of a record file from.
+#[no_mangle]
+pub extern "C" fn hp_cut_from(file: &[u8]) -> i64
+    ensures { λ r. ⌜ r ≡ cutFrom (readFile (now (file .entry))) (now (file .entry)) ⌝ }
+{
+    host_overlap::cut_from(file)
+}
+
+// A reading of a day of a record file.
+#[no_mangle]
+pub extern "C" fn hp_reading(file: &[u8], day: u32, quarter: u32) -> i64
+    ensures { λ r. ⌜ r ≡ foundTold (readingIn (readFile (now (file .entry))) (now (file .entry)) day quarter) ⌝ }
+{
+    let found = file_days::reading(file, day, quarter);
+    host_numbers::tell_found(found)
+}
+
+// The mark of a day of a record file.
+#[no_mangle]
+pub extern "C" fn hp_mark(file: &[u8], day: u32) -> i64
+    ensures { λ r. ⌜ r ≡ foundTold (markIn (readFile (now (file .entry))) (now (file .entry)) day) ⌝ }
+{
+    let found = file_days::mark(file, day);
+    host_numbers::tell_found(found)
+}
+
 // The listing of a record file: its length, and the text into `out`; minus 7 where it does not fit.
 #[no_mangle]
 pub extern "C" fn hp_listing(file: &[u8], out: &mut [u8]) -> i64
@@ -185,6 +232,14 @@ pub extern "C" fn hp_date(day: u32) -> i64
     ensures { λ r. ⌜ r ≡ dateTold (dated day) ⌝ }
 {
     host_plain::date_of(day)
+}
+
+// What a day of the calendar tells by name, where no holiday was moved.
+#[no_mangle]
+pub extern "C" fn hp_calendar(day: u32, name: u32) -> i64
+    ensures { λ r. ⌜ r ≡ byName (calendarRow day) name ⌝ }
+{
+    host_calendar::tell_calendar(day, name)
 }
 
 // The version of these entries, as one number.

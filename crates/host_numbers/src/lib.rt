@@ -1,7 +1,8 @@
-// A result as one number for C, by include/honeyplank.h: the place of a day's part, the length of a file that was written, the length of a listing, or minus
-// the refusal.
+// A result as one number for C, by include/honeyplank.h: the place of a day's part, a number of a day of a file, the length of a file that was
+// written, the length of a listing, or minus the refusal.
 ghost use mathlib.Core.Path.{_≡_};
-ghost use Rattle.host_numbers.specs.Numbers.{placeTold, writtenTold, listedTold};
+ghost use Rattle.host_numbers.specs.Numbers.{placeTold, foundTold, writtenTold, listedTold};
+use file_days::Found;
 use file_record::Written;
 use listing_whole::Listed;
 use table_days::Place;
@@ -13,6 +14,16 @@ pub fn tell_place(place: Place) -> i64
     match place {
         Place::Nowhere => host_answer::NOTHING,
         Place::From(at) => at as i64,
+    }
+}
+
+// Of the mark or a reading of a day.
+pub fn tell_found(found: Found) -> i64
+    ensures { λ r. ⌜ r ≡ foundTold found ⌝ }
+{
+    match found {
+        Found::Number(number) => number as i64,
+        Found::NotThere => host_answer::NOTHING,
     }
 }
 

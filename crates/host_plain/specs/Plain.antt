@@ -25,6 +25,6 @@ abbrev pub dateTold : Dated → ℤ
 dateTold (On t) = pos (dateDigits t)
 dateTold PastCalendar = untold
 
--- HP_VERSION_NUMBER, of 0.6.0: 10,000 times the first number, 100 times the second, and the third
+-- HP_VERSION_NUMBER, of 0.7.0: 10,000 times the first number, 100 times the second, and the third
 abbrev pub version : ℕ
-version = 600
+version = 700

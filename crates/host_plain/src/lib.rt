@@ -8,7 +8,7 @@ use calendar_dates::Dated;
 use calendar_dates::Numbered;
 
 // The version of include/honeyplank.h that these entries are of.
-const VERSION: u32 = 600;
+const VERSION: u32 = 700;
 
 // The day number of a date.
 pub fn day_of(year: u32, month: u32, day: u32) -> i64

@@ -9,6 +9,7 @@ use lib.Seq.{length-take-le, drop-cons}
 use lib.IntN.{ℤ}
 use Rattle.base_lists.specs.Ascii.{ascii}
 use Rattle.base_digits.specs.Digits.{dec, decimal}
+use Rattle.base_text.specs.TextSteps.{Puts, PutsBoth}
 use Rattle.method.specs.declared.Request.{Request}
 use Rattle.method.specs.declared.Refusal.{Refusal}
 use Rattle.method.specs.Verdict.{number, carries}
@@ -17,8 +18,8 @@ use Rattle.engine_answer.proofs.Carried.{Tells}
 use Rattle.listing_lines.specs.Lines.{space, newline, spaced, lineText}
 use Rattle.listing_lines.specs.Listing.{numbers, eventLine, refusalLine}
 use Rattle.listing_lines.specs.WriteSteps.{Writes}
-use Rattle.listing_lines.proofs.Lines.{fields-both, line-is, take-least}
-use Rattle.listing_lines.proofs.Writing.{Writing, writing-next, writing-end}
+use Rattle.listing_lines.proofs.Lines.{spaced-word-and, fields-both, line-is, take-least}
+use Rattle.listing_lines.proofs.Writing.{Writing, writing-next, writing-end, placed, both-placed, same-length, named, then, then-put}
 
 pub event-is : (r : Request) (days : List ℕ) (reach denominator : ℕ) (adjustment : ℤ)
     → dec (r .event) ++ spaced (dec (r .s) ∷ dec (r .e) ∷ []) ++ spaced (ascii "days" ∷ dec (length days) ∷ numbers days)
@@ -35,6 +36,24 @@ pub refusal-is : (r : Request) (w : Refusal) (n : ℕ) (carried : List ℕ) → 
 unfolding refusalLine
 refusal-is r w n carried e f =
     rw (line-is (dec (r .event)) (dec (r .s) ∷ dec (r .e) ∷ []) (ascii "refused" ∷ dec n ∷ []) (numbers carried), e, f)
+
+-- what stands after the days, from its five pieces
+module _ {d : List ℕ} {at : ℕ} (reach denominator : ℕ) (adjustment : ℤ) (room : at + 59 ≤ length d) where
+  pub close-is : {r : ℕ} {e : List ℕ} → PutsBoth d at (ascii " reach ") (dec reach) r e → r ≤ at + 7 + 10
+      → {s : ℕ} {f : List ℕ} → PutsBoth e r (ascii " over ") (dec denominator) s f → s ≤ r + 6 + 10
+      → {t : ℕ} {g : List ℕ} → Puts f s (ascii " adj ") t g → t ≤ s + 5
+      → {u : ℕ} {h : List ℕ} → Puts g t (decimal adjustment) u h → u ≤ t + 20
+      → {v : ℕ} {l : List ℕ} → Puts h u (newline ∷ []) v l → v ≤ u + 1
+      → Writes d at (spaced (ascii "reach" ∷ dec reach ∷ ascii "over" ∷ dec denominator ∷ ascii "adj" ∷ decimal adjustment ∷ []) ++ (newline ∷ [])) v l × (v ≤ at + 59)
+  close-is a i b j c k x m z n =
+      let first = named (spaced-word-and (ascii "reach") (dec reach)) (both-placed (dec reach) a (omega arith)) in
+      let second = named (spaced-word-and (ascii "over") (dec denominator)) (both-placed (dec denominator) b (omega (arith, same-length first))) in
+      let two = named (fields-both (ascii "reach" ∷ dec reach ∷ []) (ascii "over" ∷ dec denominator ∷ [])) (then first second) in
+      let word = placed c (omega (arith, same-length two)) in
+      let signed = placed x (omega (arith, same-length two, same-length word)) in
+      let third = named (spaced-word-and (ascii "adj") (decimal adjustment)) (then word signed) in
+      let three = named (fields-both (ascii "reach" ∷ dec reach ∷ ascii "over" ∷ dec denominator ∷ []) (ascii "adj" ∷ decimal adjustment ∷ [])) (then two third) in
+      (then-put three z (omega arith), omega arith)
 
 -- how many numbers a refusal carries
 pub carried-length : {w : Refusal} {told : Told} → Tells w told → length (take (told .count) (told .carried)) ≡ told .count

@@ -38,7 +38,7 @@ module _ {file : List ℕ} {shape : Shape} {marks readings moves : List ℕ} (q 
   unfolding shapeIn tableIn
   first-in = ap (λ (s : Shape). s .first) (shape-fits file shape (q .accepted) .is-shape)
 
-  table-in : tableOf (shape .first) marks readings ≡ tableIn file
+  pub table-in : tableOf (shape .first) marks readings ≡ tableIn file
   table-in = rw (first-in, q .its-marks, q .its-readings)
 
   module _ {place : ℕ} (h : place < shape .events) where

@@ -1,2 +1,2 @@
-mod Holding
+pub mod Holding
 pub mod Whole

@@ -3,3 +3,4 @@ pub mod Histories
 pub mod AnotherOrder
 pub mod Tables
 pub mod Ruler
+pub mod Replies

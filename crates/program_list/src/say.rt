@@ -24,7 +24,7 @@ pub(crate) fn print(text: &[u8]) {
 }
 
 pub(crate) fn version() {
-    print(b"honeyplank-list 0.6.0\n");
+    print(b"honeyplank-list 0.7.0\n");
 }
 
 pub(crate) fn help() {

@@ -18,7 +18,7 @@ use Rattle.engine_answer.specs.declared.Given.the-variants.{Answered, Refused a
 use Rattle.engine_answer.specs.declared.Answer.{Answer}
 use Rattle.engine_answer.specs.Answer.{answerOf, Answers}
 use Rattle.engine_refusals.proofs.FirstRefusal.{GoodRequest}
-use Rattle.engine_refusals.proofs.Replies.{never-both}
+use Rattle.method.proofs.Replies.{never-both}
 use Rattle.engine_baseline.specs.Engine.{inWords, overRooms}
 use Rattle.engine_baseline.proofs.Answered.{sound}
 use Rattle.table_directory.specs.Steps.{directoryOf}

@@ -1,13 +1,16 @@
 //! The proved calls, through the archive's C entries, and the plain C version, beside the reference.
 
+pub mod chart;
 pub mod files;
 pub mod lists;
 pub mod met;
 pub mod methods;
+pub mod page;
 pub mod probe;
 pub mod program;
 pub mod shrink;
 pub mod told;
+pub mod working;
 pub mod writing;
 
 use met::Counts;

@@ -8,7 +8,7 @@ use reference::{Answer, Refusal};
 /// What is told by a name that tells nothing.
 pub const NOTHING: i64 = i64::MIN;
 
-/// How many names there are, from 0 on.
+/// How many names these tell, from 0 on; what comes after them is told of workings, overlaps and the calendar (working.rs).
 pub const NAMES: usize = 25;
 
 /// The first names of each kind; those of a kind follow one another. tests/c/header.cpp holds the header to the same numbers.
@@ -119,7 +119,7 @@ impl Told {
 
 /// Every name, and more that are none.
 pub fn every_name() -> Vec<u32> {
-    (0..=40).chain([256, 65_536, 1 << 31, u32::MAX]).collect()
+    (0..=60).chain([256, 65_536, 1 << 31, u32::MAX]).collect()
 }
 
 /// The names that a seed asks for: one, because each costs a whole call, and now and then every name.

@@ -186,6 +186,21 @@ pub fn is_easter(day: u32) -> bool {
     moving.get(day as usize) == Some(&true)
 }
 
+/// Of a fixed-date holiday its month and day as they are written: 815 for 15 August.
+pub fn fixed_date(day: u32) -> Option<u32> {
+    let Date { month, day, .. } = *dates().get(day as usize)?;
+    let fixed = FIXED_HOLIDAYS.contains(&(month, day));
+    fixed.then_some(100 * month + day)
+}
+
+/// Of a holiday counted from Easter Sunday how many days after it: 01's numbers.
+pub fn days_after_easter(day: u32) -> Option<i64> {
+    let date = dates().get(day as usize)?;
+    let sunday = day_number(easter(date.year)).expect("a date of the hundred years");
+    let later = i64::from(day) - i64::from(sunday);
+    EASTER_HOLIDAYS.contains(&later).then_some(later)
+}
+
 /// A holiday by a list (02, order 2): "the old date stops being a holiday unless
 /// another rule or some pair makes it one".
 pub fn is_holiday(day: u32, moves: &[u32]) -> bool {
@@ -202,6 +217,11 @@ pub fn group_of(day: u32, moves: &[u32]) -> Option<Group> {
     } else if is_holiday(day, moves) {
         Some(Group::Holiday)
     } else {
-        Some(FIRST_WEEK[day as usize % FIRST_WEEK.len()])
+        Some(group_in_week(day))
     }
+}
+
+/// The group of a day that is no holiday, also after the calendar, where weeks go on.
+pub fn group_in_week(day: u32) -> Group {
+    FIRST_WEEK[day as usize % FIRST_WEEK.len()]
 }

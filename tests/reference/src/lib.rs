@@ -11,17 +11,22 @@ pub mod choice;
 pub mod generate;
 pub mod listing;
 pub mod moves;
+pub mod overlap;
 pub mod record;
 pub mod refusal;
 pub mod table;
+pub mod working;
 pub mod writer;
 
 pub use baseline::{verdict, Answer};
 pub use generate::{
-    gen_call, gen_cuts, gen_file, gen_look_backs, gen_small_file, gen_writing, Draft,
+    gen_call, gen_cuts, gen_file, gen_look_backs, gen_small_file, gen_worked_file, gen_writing,
+    Draft,
 };
 pub use listing::listing;
+pub use overlap::{cut_from, overlap, Overlap};
 pub use record::host;
 pub use refusal::Refusal;
 pub use table::{day_part, Request, Table, View};
+pub use working::{working, Reason, Working};
 pub use writer::write;

@@ -27,6 +27,21 @@ pub struct Contents {
     pub events: Vec<Request>,
 }
 
+impl Contents {
+    /// The reading of a held day as the file has it, also where it is missing or out of
+    /// range, or the day is after the calendar.
+    pub fn reading(&self, day: u32, quarter: u32) -> Option<u32> {
+        let place = self.table.view().place(day)?;
+        let quarter = quarter as usize;
+        (quarter < QUARTERS).then(|| self.table.readings[QUARTERS * place + quarter])
+    }
+
+    /// The mark of a held day as the file has it.
+    pub fn mark(&self, day: u32) -> Option<u8> {
+        self.table.view().mark(day)
+    }
+}
+
 /// The record of this mark and length at this offset, if it is there whole.
 fn record<'a>(file: &'a [u8], at: usize, mark: &[u8; 2], length: usize) -> Option<&'a [u8]> {
     let bytes = file.get(at..at + length)?;

@@ -105,9 +105,7 @@ pub fn check_request(view: View, request: &Request, room: usize) -> Result<(), R
     if view.place(request.d).is_none() {
         return Err(Refusal::NotHeld);
     }
-    if request.p > request.d {
-        return Err(Refusal::StartsLater);
-    }
+    check_participation(request)?;
     if room < (request.e - request.s) as usize {
         return Err(Refusal::Room);
     }
@@ -146,7 +144,16 @@ fn check_readings(view: View) -> Result<(), Refusal> {
     }
 }
 
-fn check_bounds(request: &Request) -> Result<(), Refusal> {
+/// Refusal 6.
+pub fn check_participation(request: &Request) -> Result<(), Refusal> {
+    if request.p > request.d {
+        return Err(Refusal::StartsLater);
+    }
+    Ok(())
+}
+
+/// Refusal 4.
+pub fn check_bounds(request: &Request) -> Result<(), Refusal> {
     let Request { p, s, e, n, .. } = *request;
     let inside = p <= LAST_DAY && (96..=191).contains(&s) && s < e && e <= 192 && n <= s;
     let known = [HIGH, AVERAGE].contains(&request.method);

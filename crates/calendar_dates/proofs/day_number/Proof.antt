@@ -4,8 +4,8 @@ use mathlib.Core.Path.{_∙_}
 use borrow.Author.Needs.{needs}
 use borrow.Author.Tests.{lt-leb, le-leb}
 use Rattle.base_lists.proofs.Sums.{sum-before}
-use Rattle.calendar_dates.specs.Days.{months, dayNumber, isDate, numbered}
-use Rattle.calendar_dates.proofs.Dates.{date-test, numbered-day}
+use Rattle.calendar_dates.specs.Days.{months, isDate, numbered}
+use Rattle.calendar_dates.proofs.Dates.{date-test, parts-number, numbered-day}
 use Rattle.calendar_dates.proofs.day_number.Statement.{statement}
 use Rattle.calendar_dates.proofs.day_number.Tie as tie
 
@@ -60,14 +60,14 @@ add-t10 : tie.Need-add-t10
 add-t10 c = search needs
 
 returns-7 : tie.Need-returns-7
-unfolding dayNumber
 returns-7 c =
     let m = c .before .before .before in
     let a = m .before .before .before in
     let t = a .before .before .before .args .date in
     let within = rw (c .before .before .days-of-months2 .ensures .0, m .days-of-months .ensures .0) at (c .before .if6 .left) in
     numbered-day t _ (date-test (t .year) (t .month) (t .day)
-    (a .before .before .if1 .left, a .before .if2 .left, a .if3 .left, m .before .before .if4 .left, m .before .if5 .left) ∙ le-leb _ _ within) (cc)
+    (a .before .before .if1 .left, a .before .if2 .left, a .if3 .left, m .before .before .if4 .left, m .before .if5 .left) ∙ le-leb _ _ within)
+    (parts-number (t .year) (t .month) (t .day) (c .new-year .ensures .0) (m .days-of-months .ensures .0))
 
 pub day-number-spec : {M : Type 1} → statement M
 day-number-spec =

@@ -1,6 +1,6 @@
 -- `file_writing::put_file` meets its contract: its records are put one after the other.
 use native.Mathlib.Omega.{arith}
-use Rattle.file_writing.proofs.Records.{places, opening-room, days-room, file-put}
+use Rattle.file_writing.proofs.Records.{places, opening-room, days-room, events-room, file-long, file-put}
 use borrow.Author.Needs.{needs}
 use Rattle.file_writing.proofs.put_file.Statement.{statement}
 use Rattle.file_writing.proofs.put_file.Tie as tie
@@ -40,7 +40,7 @@ put-days-requires c κs =
     (pre .few, pre .last, pre .size, days-room pre (c .before .before .before .before .before .base .ensures) (c .before .before .before .put-opening .ensures))
 
 sub-put-events : tie.Need-sub-put-events
-sub-put-events c = search needs
+sub-put-events c = places (c .before .before .before .before .before .before .before .before .before .before .before .before .before .before .pre) (c .before .before .before .before .before .before .before .before .base .ensures) .ends
 
 part-put-events-start : tie.Need-part-put-events-start
 part-put-events-start c = search needs
@@ -49,10 +49,12 @@ part-put-events-end : tie.Need-part-put-events-end
 part-put-events-end c = search needs
 
 put-events-requires : tie.Need-put-events-requires
-put-events-requires c κs = search needs
+put-events-requires c κs =
+    let pre = c .before .before .before .before .before .before .before .before .before .before .before .before .before .before .before .pre in
+    (events-room pre (c .before .before .before .before .before .before .before .before .before .base .ensures) (c .before .before .before .before .before .before .before .put-opening .ensures) (c .before .before .before .put-days .ensures), pre .fields)
 
 same-length : tie.Need-same-length
-same-length c = search needs
+same-length c = file-long (c .before .before .before .before .before .before .before .before .before .before .before .before .before .before .before .before .before .before .pre) (c .before .before .before .before .before .before .before .before .before .before .before .before .base .ensures) (c .before .before .before .before .before .before .before .before .before .before .put-opening .ensures) (c .before .before .before .before .before .before .put-days .ensures) (c .before .before .put-events .ensures)
 
 returns : tie.Need-returns
 returns c =

@@ -1,13 +1,8 @@
 -- `listing_event_line::put_close` meets its contract: five pieces in a row.
-use mathlib.Core.List.{[], _∷_, _++_}
-use native.Mathlib.Omega.{arith}
 use mir.Syntax.{w64}
 use mir.ValLaws.{toZ-ofZ}
 use borrow.Author.Needs.{needs}
-use Rattle.base_lists.specs.Ascii.{ascii}
-use Rattle.base_digits.specs.Digits.{dec, decimal}
-use Rattle.listing_lines.proofs.Writing.{placed, both-placed, then, named}
-use Rattle.listing_lines.proofs.Lines.{spaced-word-and, fields-both}
+use Rattle.listing_event_line.proofs.Lines.{close-is}
 use Rattle.listing_event_line.proofs.put_close.Statement.{statement}
 use Rattle.listing_event_line.proofs.put_close.Tie as tie
 
@@ -45,18 +40,13 @@ returns : tie.Need-returns
 returns c =
     let l = c .before .before .before .before .before .before .before .before .before .before .before in
     let a = l .before .before .before .before .before .before .before .before .before .before .before .before .before .before in
-    let reach = ascii "reach" ∷ dec (a .args .reach) ∷ [] in
-    let over = ascii "over" ∷ dec (a .args .denominator) ∷ [] in
-    let adj = ascii "adj" ∷ decimal (a .args .adjustment) ∷ [] in
-    let back = toZ-ofZ w64 (a .args .adjustment) (a .fits .adjustment) in
-    let first = both-placed (dec (a .args .reach)) (l .before .before .before .before .before .before .before .before .before .before .put-field .ensures .0) (omega arith) in
-    let second = both-placed (dec (a .args .denominator)) (l .before .before .before .before .before .put-field2 .ensures .0) (omega arith) in
-    let word = placed (l .put-bytes .ensures .0) (omega arith) in
-    let signed = placed (rw back at (c .before .before .before .before .before .before .before .put-signed .ensures .0)) (omega arith) in
-    let end = placed (c .before .before .put-bytes2 .ensures .0) (omega arith) in
-    let two = named (fields-both reach over) (then (named (spaced-word-and (ascii "reach") (dec (a .args .reach))) first) (named (spaced-word-and (ascii "over") (dec (a .args .denominator))) second)) in
-    let three = named (fields-both (reach ++ over) adj) (then two (named (spaced-word-and (ascii "adj") (decimal (a .args .adjustment))) (then word signed))) in
-    (then three end, omega arith)
+    let one = l .before .before .before .before .before .before .before .before .before .before .put-field .ensures in
+    let two = l .before .before .before .before .before .put-field2 .ensures in
+    let word = l .put-bytes .ensures in
+    let signed = c .before .before .before .before .before .before .before .put-signed .ensures in
+    let end = c .before .before .put-bytes2 .ensures in
+    close-is (a .args .reach) (a .args .denominator) (a .args .adjustment) (a .pre) (one .0) (one .1) (two .0) (two .1) (word .0) (word .1)
+    (rw (toZ-ofZ w64 (a .args .adjustment) (a .fits .adjustment)) at (signed .0)) (signed .1) (end .0) (end .1)
 
 pub put-close-spec : {M : Type 1} → statement M
 put-close-spec =

@@ -1,17 +1,21 @@
 -- `listing_whole::copied` meets its contract: the listing of the buffer that any listing fits does not fit the lent one, or is copied.
+use Prim.Native.Nat.{ℕ}
 use mathlib.Core.Path.{sym}
 use native.Mathlib.Omega.{arith}
+use native.Mathlib.Nat.{le-of-eq}
+use lib.ListN.{length-replicate}
 use lib.Seq.{length-take-le}
 use borrow.Author.Needs.{needs}
+use Rattle.listing_whole.specs.Lists.{mostListing}
 use Rattle.listing_whole.proofs.Whole.{end-within, not-fitting, copied}
 use Rattle.listing_whole.proofs.copied.Statement.{statement}
 use Rattle.listing_whole.proofs.copied.Tie as tie
 
 slice-aggregate-put-listing : tie.Need-slice-aggregate-put-listing
-slice-aggregate-put-listing c = search needs
+slice-aggregate-put-listing c = sym (length-replicate {A = ℕ} mostListing 0)
 
 put-listing-requires : tie.Need-put-listing-requires
-put-listing-requires c κs = search needs
+put-listing-requires c κs = le-of-eq (sym (length-replicate {A = ℕ} mostListing 0))
 
 returns : tie.Need-returns
 returns c =
@@ -38,7 +42,7 @@ cast-t13 : tie.Need-cast-t13
 cast-t13 c = record { fits = omega (arith, c .before .before .before .before .before .before .before .put-listing .ensures .1) }
 
 same-length : tie.Need-same-length
-same-length c = search needs
+same-length c = c .before .out .given
 
 returns-2 : tie.Need-returns-2
 returns-2 c =

@@ -177,7 +177,7 @@ fn start_edges(source: &mut Source) -> Draft {
 
 /// Missing readings on the ruler, and n, s and e at their ends; mostly by High X
 /// of Y, which alone looks at the ruler.
-fn ruler_edges(source: &mut Source) -> Draft {
+pub fn ruler_edges(source: &mut Source) -> Draft {
     let mut draft = plain(source);
     draft.request.method = source.beside().pick(&[HIGH, HIGH, HIGH, AVERAGE]);
     calm_all(&mut draft);
@@ -210,7 +210,7 @@ fn full_and_least(draft: &Draft) -> (usize, usize) {
 
 /// Eligible and spare days in numbers around Y and N, with the table's start on
 /// either side of the oldest relevant day.
-fn count_edges(source: &mut Source) -> Draft {
+pub fn count_edges(source: &mut Source) -> Draft {
     let mut draft = plain(source);
     if source.once_in(2) {
         let d = some_resting_day(source);
@@ -477,7 +477,7 @@ fn held_relevant(draft: &Draft) -> Vec<u32> {
 }
 
 /// Every relevant held day is eligible.
-fn calm_all(draft: &mut Draft) {
+pub fn calm_all(draft: &mut Draft) {
     for day in held_relevant(draft) {
         fill_missing(&mut draft.table, day);
         set_mark(&mut draft.table, day, 0);
@@ -576,7 +576,7 @@ fn ruler_place(draft: &Draft, t: usize) -> Option<usize> {
     place.checked_sub(QUARTERS)
 }
 
-fn blank(draft: &mut Draft, t: usize) {
+pub fn blank(draft: &mut Draft, t: usize) {
     if let Some(place) = ruler_place(draft, t) {
         draft.table.readings[place] = MISSING;
     }

@@ -32,6 +32,11 @@ pub fn gen_small_file(seed: u64) -> Vec<u8> {
     edited(source, file)
 }
 
+/// The file of a draft as it is, with a few events more.
+pub fn plain_file(source: &mut Source, draft: Draft) -> Vec<u8> {
+    draft_file(source, draft).bytes()
+}
+
 /// The bytes of a file, most often after one kind of edit.
 fn edited(source: &mut Source, mut file: Draw) -> Vec<u8> {
     let turn = source.below(18);

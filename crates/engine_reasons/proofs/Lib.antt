@@ -1,0 +1,3 @@
+pub mod Held
+pub mod Reasons
+pub mod Sums

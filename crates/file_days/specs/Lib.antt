@@ -1,0 +1,3 @@
+pub mod HeldDay
+pub mod Steps
+pub mod Checks

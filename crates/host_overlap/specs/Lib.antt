@@ -1,0 +1,4 @@
+pub mod Overlap
+pub mod Laws
+pub mod Steps
+pub mod Checks

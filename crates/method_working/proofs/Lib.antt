@@ -1,0 +1,5 @@
+pub mod Ranks
+pub mod ByRank
+pub mod Leads
+pub mod Checks
+pub mod Reasons

@@ -1,0 +1,4 @@
+pub mod Working
+pub mod Reasons
+pub mod Sheet
+pub mod Checks
