@@ -4,7 +4,7 @@ SHELL := bash
 .DEFAULT_GOAL := all
 .DELETE_ON_ERROR:
 .NOTPARALLEL:
-.PHONY: all help demo check test part examples samples picture install uninstall bench fuzz search fmt changed fresh clean
+.PHONY: all help demo check test part examples samples chart picture install uninstall bench fuzz search fmt changed fresh clean
 
 PREFIX ?= /usr/local
 FUZZ_SECONDS ?= 600
@@ -14,13 +14,14 @@ proved_from := crates.txt $(shell find crates -name '*.rt' -o -name '*.antt' -o 
 version := $(shell sed -n 's/^\#define HP_VERSION "\(.*\)"/\1/p' include/honeyplank.h)
 # a change that breaks callers is told by the first number of the version, before 1.0.0 by the first two: programs ask the loader for these
 breaks := $(if $(filter 0.%,$(version)),$(basename $(version)),$(firstword $(subst ., ,$(version))))
-# what is installed with the program, at these places below build/ and below the prefix
+# what is installed with the programs, at these places below build/ and below the prefix
 shared := lib/libhoneyplank.so.$(version)
 links := lib/libhoneyplank.so.$(breaks) lib/libhoneyplank.so
 plain := lib/libhoneyplank.a include/honeyplank.h lib/pkgconfig/honeyplank.pc lib/pkgconfig/honeyplank-shared.pc
 pages := $(foreach page,$(wildcard man/*.1 man/*.3),share/man/man$(subst .,,$(suffix $(page)))/$(notdir $(page)))
 library := $(addprefix build/,$(plain) $(shared) $(links))
 program := build/bin/honeyplank-list
+command := build/bin/honeyplank
 
 # $(call need,COMMAND..): stops where one of them is missing, and says what to get
 rt_is := the Rattle toolchain: put the folder of its command rt on PATH
@@ -34,7 +35,7 @@ prove = $(call need,rt)@tools/prove $(1) $(proves)
 
 # the program first: rt proves what it is built on two and more at a time, and for the archive one by one
 all install bench fuzz: proves := program_list host_entries
-all: $(program) $(library) $(addprefix build/,$(pages)) ## prove and build program, archive, shared library, header and pkg-config files, under build/
+all: $(program) $(command) $(library) $(addprefix build/,$(pages)) ## prove and build programs, archive, shared library, header and pkg-config files, under build/
 
 help: ## list the targets
 	@sed -n 's/^\([a-z]*\):.*## /\1\t/p' $(MAKEFILE_LIST) | expand -t 10
@@ -54,13 +55,16 @@ test: ## the gate: everything from nothing; the last line is 'N passed, 0 failed
 
 part: ## prove some crates and what they are built on, and try their must-fail edits (CRATES='method program_vectors')
 	$(call need,rt)
-	rt must-fail $(CRATES)
+	tools/in_memory rt must-fail $(CRATES)
 
 examples: $(library) $(patsubst %.c,build/%,$(wildcard examples/*.c)) ## build the example programs, under build/examples/
 
-samples: build/examples/pack ## make the sample files again from their texts
+samples: $(command) ## make the sample files again from their texts
 	$(call need,python3)
 	samples/make
+
+chart: $(command) ## draw an event of samples/day-ahead.rec: docs/chart.svg
+	tests/x86 run $(command) chart samples/day-ahead.rec 4 >docs/chart.svg
 
 picture: ## draw the crates as layers, and the way of one event: docs/crates.svg, docs/event.svg
 	$(call need,python3)
@@ -69,11 +73,11 @@ picture: ## draw the crates as layers, and the way of one event: docs/crates.svg
 install: all ## install under PREFIX (/usr/local), below DESTDIR if given
 	for file in $(plain) $(shared) $(pages); do install -D -m 644 build/$$file "$(DESTDIR)$(PREFIX)/$$file"; done
 	for link in $(links); do ln -sfn $(notdir $(shared)) "$(DESTDIR)$(PREFIX)/$$link"; done
-	install -D -m 755 $(program) "$(DESTDIR)$(PREFIX)/bin/honeyplank-list"
+	for file in $(program) $(command); do install -D -m 755 $$file "$(DESTDIR)$(PREFIX)/bin/$${file##*/}"; done
 	@case "$(DESTDIR)$(PREFIX)" in /usr|/usr/local) echo 'run ldconfig, so that the loader finds the shared library' ;; esac
 
 uninstall: ## remove what install put under PREFIX
-	for file in $(plain) $(shared) $(links) $(pages) bin/honeyplank-list; do rm -f "$(DESTDIR)$(PREFIX)/$$file"; done
+	for file in $(plain) $(shared) $(links) $(pages) bin/honeyplank-list bin/honeyplank; do rm -f "$(DESTDIR)$(PREFIX)/$$file"; done
 
 bench: all ## the entries' and the program's speed against plain C, in one run (BEFORE=DIR: against an earlier build/ too)
 	$(call need,gcc)
@@ -116,6 +120,11 @@ build/bin/honeyplank-list: target/bin/program_list
 build/include/honeyplank.h: include/honeyplank.h
 build/lib/libhoneyplank.a build/bin/honeyplank-list build/include/honeyplank.h:
 	@mkdir -p $(@D) && cp $< $@
+
+# it only lays out what the archive answers, and nothing of it is proved
+$(command): $(wildcard src/*.[ch]) build/include/honeyplank.h build/lib/libhoneyplank.a
+	@mkdir -p $(@D)
+	tests/x86 cc -std=c99 -O2 -Wall -Wextra -Wpedantic -Wconversion -Wshadow -Ibuild/include $(filter src/%.c,$^) build/lib/libhoneyplank.a -o $@
 
 build/examples/%: examples/%.c build/include/honeyplank.h build/lib/libhoneyplank.a
 	@mkdir -p $(@D)

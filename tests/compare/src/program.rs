@@ -1,4 +1,4 @@
-//! The listing program, run on a file.
+//! The programs, run on a file.
 
 use std::fs::File;
 use std::path::PathBuf;
@@ -9,10 +9,19 @@ pub fn root(path: &str) -> PathBuf {
     PathBuf::from(concat!(env!("CARGO_MANIFEST_DIR"), "/../..")).join(path)
 }
 
-pub fn program() -> Command {
+/// A program that was built: by itself, or on a processor that it is not for by the emulator.
+pub fn built(name: &str) -> Command {
+    let program = root("build/bin").join(name);
+    if cfg!(target_arch = "x86_64") {
+        return Command::new(program);
+    }
     let mut command = Command::new(root("tests/x86"));
-    command.arg("run").arg(root("build/bin/honeyplank-list"));
+    command.arg("run").arg(program);
     command
+}
+
+pub fn program() -> Command {
+    built("honeyplank-list")
 }
 
 /// What a command says with a file on its standard input.
