@@ -150,11 +150,17 @@ uint32_t hp_baseline(const uint8_t *file, size_t file_len, size_t event_place, u
     return (uint32_t)carry(c, out, out_len);
 }
 
-int64_t hp_told(const uint8_t *file, size_t file_len, size_t event_place, uint32_t name)
+/* What a file tells by name. */
+static int64_t ask_file(uint32_t entry, const uint8_t *file, size_t file_len, size_t place, uint32_t name)
 {
-    struct peer_call *c = begin_file(PEER_TOLD, file, file_len, event_place);
+    struct peer_call *c = begin_file(entry, file, file_len, place);
     c->name = name;
     return carry(c, NULL, 0);
+}
+
+int64_t hp_told(const uint8_t *file, size_t file_len, size_t event_place, uint32_t name)
+{
+    return ask_file(PEER_TOLD, file, file_len, event_place, name);
 }
 
 uint32_t hp_baseline_table(uint32_t first_day, const uint8_t *marks, size_t marks_len, const uint32_t *readings, size_t readings_len,
@@ -188,23 +194,17 @@ int64_t hp_day_part(uint32_t first_day, const uint8_t *marks, size_t marks_len, 
 
 int64_t hp_file(const uint8_t *file, size_t file_len, uint32_t name)
 {
-    struct peer_call *c = begin_file(PEER_FILE, file, file_len, 0);
-    c->name = name;
-    return carry(c, NULL, 0);
+    return ask_file(PEER_FILE, file, file_len, 0, name);
 }
 
 int64_t hp_event(const uint8_t *file, size_t file_len, size_t event_place, uint32_t name)
 {
-    struct peer_call *c = begin_file(PEER_EVENT, file, file_len, event_place);
-    c->name = name;
-    return carry(c, NULL, 0);
+    return ask_file(PEER_EVENT, file, file_len, event_place, name);
 }
 
 int64_t hp_move(const uint8_t *file, size_t file_len, size_t move_place, uint32_t name)
 {
-    struct peer_call *c = begin_file(PEER_MOVE, file, file_len, move_place);
-    c->name = name;
-    return carry(c, NULL, 0);
+    return ask_file(PEER_MOVE, file, file_len, move_place, name);
 }
 
 int64_t hp_working(const uint8_t *file, size_t file_len, size_t event_place, uint32_t at, uint32_t name)
@@ -217,9 +217,7 @@ int64_t hp_working(const uint8_t *file, size_t file_len, size_t event_place, uin
 
 int64_t hp_overlap(const uint8_t *file, size_t file_len, size_t event_place, uint32_t name)
 {
-    struct peer_call *c = begin_file(PEER_OVERLAP, file, file_len, event_place);
-    c->name = name;
-    return carry(c, NULL, 0);
+    return ask_file(PEER_OVERLAP, file, file_len, event_place, name);
 }
 
 int64_t hp_cut_from(const uint8_t *file, size_t file_len)

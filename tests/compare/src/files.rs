@@ -137,7 +137,7 @@ impl Met {
 }
 
 /// The places to ask for: the first, one by the seed, now and then the first that is not there, and one far off.
-fn places(events: usize, seed: u64) -> Vec<usize> {
+pub fn places(events: usize, seed: u64) -> Vec<usize> {
     let mut places = vec![0];
     if events > 1 {
         places.push(1 + (seed as usize / 7) % (events - 1));

@@ -1,6 +1,7 @@
 //! The entries that tell of the working of an event, of the overlap that it needs, of a file's readings and marks, and of a day of the calendar,
 //! beside the reference.
 
+use crate::files::places;
 use crate::lists::number;
 use crate::met::Counts;
 use crate::told::NOTHING;
@@ -426,21 +427,6 @@ fn count_file(read: &Result<Contents, Refusal>, met: &mut Met) {
         ("cut by a later event", later),
     ];
     met.files.count(outcomes.into_iter());
-}
-
-/// The places to ask for: the first, another by the seed, and one that is not there.
-fn places(events: usize, seed: u64) -> Vec<usize> {
-    let mut places = vec![0];
-    if events > 1 {
-        places.push(1 + (seed as usize / 5) % (events - 1));
-    }
-    if seed % 4 == 0 {
-        places.push(events);
-    }
-    if seed % 32 == 1 {
-        places.push(usize::MAX - seed as usize % 3);
-    }
-    places
 }
 
 /// Compares every one of these entries over a file with the reference; by every one of the places that matter, or by one in `every`.
