@@ -1,4 +1,6 @@
 // Numbers as bytes, the lowest first: read from two and four of them, and put first into a lent buffer, four each, where all of them fit.
+#![tactic(auto)]
+
 ghost use Rattle.std.specs.Prelude.{◌≡◌, ◌+◌, ◌*◌, ◌<◌, length};
 ghost use Rattle.base_bytes.specs.PutFirst.{put_first};
 ghost use Rattle.base_bytes.specs.Bytes.{bytes, reading_bytes};

@@ -1,10 +1,12 @@
 // Numbers in decimal digits, spelt at the end of twenty bytes.
+#![tactic(auto)]
+
 ghost use Rattle.std.specs.Prelude.{◌≡◌, ◌∷◌, ◌≤◌, ◌^◌, pos, nat_abs, ◌<ℤ◌};
 ghost use Rattle.base_digits.specs.Digits.{dec, decimal};
 ghost use Rattle.base_digits.specs.DigitSteps.{spelt_of};
 
 // A text that is spelt before it is put: it starts at `start` and ends with the bytes; noughts stand before it.
-#[derive(Drop)]
+#[derive(Clone, Copy)]
 pub struct Spelt {
     pub bytes: [u8; 20],
     pub start: usize,

@@ -1,4 +1,6 @@
 // Sums of lent numbers. Total functions over slices of any length and any values.
+#![tactic(auto)]
+
 ghost use Rattle.std.specs.Prelude.{◌≡◌, ◌-◌, take, drop};
 ghost use Rattle.base_sums.specs.Steps.{Summed};
 

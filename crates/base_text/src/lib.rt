@@ -1,5 +1,7 @@
 // The pieces that a text is written with. Each is put into the buffer whole or not at all, and answers the place after it; a place past the end says
 // that something did not fit, and nothing is written there. How far that place can be is said too.
+#![tactic(auto)]
+
 ghost use Rattle.std.specs.Prelude.{◌≡◌, ◌≤◌, ◌+◌, ◌<◌, length, drop};
 ghost use Rattle.base_digits.specs.Digits.{dec, decimal};
 ghost use Rattle.base_text.specs.TextSteps.{Puts, PutsBoth};

@@ -1,11 +1,13 @@
 // Days and dates of document 01, "Days and groups".
+#![tactic(auto)]
+
 ghost use Rattle.std.specs.Prelude.{◌≡◌, ◌+◌, ◌≤◌, ◌<◌, take};
 ghost use Rattle.base_lists.specs.Lists.{sum_of};
 ghost use Rattle.calendar_dates.specs.Days.{leap as leap_of, months, new_year, numbered, dated};
 ghost use Rattle.calendar_dates.specs.Steps.{place_of};
 
 // A date of the Gregorian calendar, as written: year, month from 1, day from 1.
-#[derive(Drop)]
+#[derive(Clone, Copy)]
 pub struct Date {
     pub year: u32,
     pub month: u32,
@@ -13,21 +15,21 @@ pub struct Date {
 }
 
 // The day number of a date, or that there is no such date from 2000 to 2099.
-#[derive(Drop)]
+#[derive(Clone, Copy)]
 pub enum Numbered {
     Day(u32),
     NoSuchDate,
 }
 
 // The date of a day number, or that the day lies past the calendar.
-#[derive(Drop)]
+#[derive(Clone, Copy)]
 pub enum Dated {
     On(Date),
     PastCalendar,
 }
 
 // Where a day lies in its year: the year, 1 in a leap year, and how many days of it have passed.
-#[derive(Drop)]
+#[derive(Clone, Copy)]
 pub struct Place {
     pub year: u32,
     pub leap: u32,

@@ -1,4 +1,6 @@
 // The groups of document 01, "Days and groups", with the holidays that are moved (document 02, order 2).
+#![tactic(auto)]
+
 ghost use Rattle.std.specs.Prelude.{◌≡◌, ◌&&◌, ◌<◌, leb};
 ghost use Rattle.base_lists.specs.Lists.{member};
 ghost use Rattle.calendar_dates.specs.Days.{last_day};
@@ -10,7 +12,7 @@ ghost use Rattle.calendar_groups.specs.Steps.{days_at, rising};
 pub const MOST_MOVES: usize = 16;
 
 // The three groups of days.
-#[derive(Drop)]
+#[derive(Clone, Copy)]
 pub enum Group {
     Weekday,
     Saturday,

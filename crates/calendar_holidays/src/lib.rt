@@ -1,4 +1,6 @@
 // Easter and the fourteen holidays of a year, of document 01, "Days and groups". None is known past the calendar.
+#![tactic(auto)]
+
 mod easter_sundays;
 
 ghost use Rattle.std.specs.Prelude.{◌≡◌, ◌+◌, ◌≤◌};

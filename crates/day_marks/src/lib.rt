@@ -1,4 +1,6 @@
 // The mark byte of a day: which bits are set, and the first mark that is not as 01 says ("Bit 0: .. Bit 1: ..").
+#![tactic(auto)]
+
 ghost use Rattle.std.specs.Prelude.{◌≡◌};
 ghost use Rattle.base_lists.specs.Lists.{all, leading};
 ghost use Rattle.method.specs.Table.{good_mark, event_bit, outage_bit};

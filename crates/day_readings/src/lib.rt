@@ -1,4 +1,6 @@
 // Whether readings are complete, and the first that is out of range. Total functions over slices of any length and any values.
+#![tactic(auto)]
+
 ghost use Rattle.std.specs.Prelude.{◌≡◌, ◌≤◌, true};
 ghost use Rattle.base_lists.specs.Lists.{all, leading};
 ghost use Rattle.method.specs.Table.{present, good_reading};

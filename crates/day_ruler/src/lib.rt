@@ -1,4 +1,6 @@
 // How many quarters a day has, how many stand before a day of a table, and the two-day ruler of an event (document 01, "The lent table and the request").
+#![tactic(auto)]
+
 ghost use Rattle.std.specs.Prelude.{◌≡◌};
 ghost use Rattle.method.specs.Table.{size as size_of, offset};
 ghost use Rattle.method.specs.Ruler.{ruler_start, ruler_end, against as stands_against};

@@ -1,5 +1,7 @@
 // The three demands of the order as contracts: for each call that works out a baseline, a function that does nothing but call it. They stand here to
 // be read and proved; a caller needs none of them.
+#![tactic(auto)]
+
 ghost use Rattle.table_days.specs.Lent.{table_of};
 ghost use Rattle.host_entries.specs.Host.{request_of};
 ghost use Rattle.demands.specs.Calls.{over_table, of_file};

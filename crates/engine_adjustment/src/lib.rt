@@ -1,4 +1,6 @@
 // The adjustment window on the ruler of two days: where it ends, and the sum of its twelve readings. Total functions over days of any length.
+#![tactic(auto)]
+
 ghost use Rattle.std.specs.Prelude.{◌≡◌, ◌≤◌, ◌++◌, slice_index};
 ghost use Rattle.method.specs.Adjustment.{A as twelve_sum, window_ends, latest_end, adjustment_end};
 ghost use Rattle.engine_adjustment.specs.Steps.{RunBefore};

@@ -1,5 +1,7 @@
 // What a call answers (document 01, "Refusal numbers"): a refusal, or chosen days, denominator and adjustment; and what is told of a refusal:
 // the paper's number, and the numbers that it carries.
+#![tactic(auto)]
+
 ghost use Rattle.std.specs.Prelude.{◌≡◌};
 ghost use Rattle.method.specs.Verdict.{refused};
 ghost use Rattle.engine_answer.specs.Answer.{answer_of};
@@ -8,14 +10,14 @@ ghost use Rattle.engine_answer.specs.Steps.{told_of};
 use method::Refusal;
 
 // Answered, or refused.
-#[derive(Drop)]
+#[derive(Clone, Copy)]
 pub enum Given {
     Answered,
     Refused(Refusal),
 }
 
 // The chosen days in rank order, the first `count` of the five, and the reach.
-#[derive(Drop)]
+#[derive(Clone, Copy)]
 pub struct Chosen {
     pub days: [u32; 5],
     pub count: u32,
@@ -23,7 +25,7 @@ pub struct Chosen {
 }
 
 // What a call answers. Where it is refused, every field but `given` is nought.
-#[derive(Drop)]
+#[derive(Clone, Copy)]
 pub struct Answer {
     pub given: Given,
     pub chosen: Chosen,
@@ -50,7 +52,7 @@ pub fn refuse(refusal: Refusal) -> Answer
 }
 
 // A refusal's number, and the numbers that it carries, the first `count` of two; nought past them.
-#[derive(Drop)]
+#[derive(Clone, Copy)]
 pub struct Told {
     pub number: u32,
     pub carried: [u32; 2],

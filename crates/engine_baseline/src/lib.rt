@@ -1,5 +1,7 @@
 // The baseline over any list of moves, any directory of rooms and any lent readings: refusal 14, refusals 4 to 10, or the answer. A table, a ring
 // and a shared store call it with their own directory.
+#![tactic(auto)]
+
 ghost use Rattle.std.specs.Prelude.{◌≡◌, true, false, length};
 ghost use Rattle.calendar_groups.specs.Holidays.{group};
 ghost use Rattle.method.specs.Adjustment.{is_average};

@@ -1,5 +1,7 @@
 // The choice of days over a directory of rooms: the window, the chosen days and the reach (document 01, "Choosing the days"). A table, a ring and
 // a shared store make a directory; the choice is the same function.
+#![tactic(auto)]
+
 ghost use Rattle.std.specs.Prelude.{◌≡◌, ◌+◌, ◌≤◌, ◌<◌};
 ghost use Rattle.calendar_groups.specs.Holidays.{group as group_of};
 ghost use Rattle.method.specs.Method.{whole_reach};
@@ -19,7 +21,7 @@ use engine_rules::Rules;
 use method::Request;
 
 // What the choice ends in: refusal 8 or 9 with what it carries, or days.
-#[derive(Drop)]
+#[derive(Clone, Copy)]
 pub enum Choosing {
     Short(u32),
     Few { size: u32, reach: u32 },
@@ -27,14 +29,14 @@ pub enum Choosing {
 }
 
 // The chosen days are all nought where the choice is refused.
-#[derive(Drop)]
+#[derive(Clone, Copy)]
 pub struct Choice {
     pub choosing: Choosing,
     pub chosen: Chosen,
 }
 
 // The row of a window with its spare days, and how many days they are.
-#[derive(Drop)]
+#[derive(Clone, Copy)]
 pub struct Row {
     pub row: [u64; 10],
     pub size: u32,

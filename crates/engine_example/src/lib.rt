@@ -1,4 +1,6 @@
 // An example of a store of one's own: a directory that is no table's, and the law that the engine asks of it.
+#![tactic(auto)]
+
 ghost use Rattle.std.specs.Prelude.{length};
 ghost use Rattle.method.specs.Table.{history};
 ghost use Rattle.method.specs.Verdict.{by_list};

@@ -1,4 +1,6 @@
 // What a day's mark and readings make of it: eligible or spare with its word, or neither (document 01, "Choosing the days").
+#![tactic(auto)]
+
 ghost use Rattle.std.specs.Prelude.{◌≡◌, ◌%◌, ◌^◌};
 ghost use Rattle.method.specs.Eligible.{event_sum};
 ghost use Rattle.engine_judging.specs.Steps.{day_from, judged_at};
@@ -7,7 +9,7 @@ use base_numbers::counts;
 use method::Request;
 
 // What the readings and marks of a relevant day make of it, with its word.
-#[derive(Drop)]
+#[derive(Clone, Copy)]
 pub enum Judged {
     Eligible(u64),
     Spare(u64),

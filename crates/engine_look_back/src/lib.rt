@@ -1,5 +1,7 @@
 // The look-back over a directory of rooms: which of the days before an event are eligible and which spare, by rank (document 01, "Choosing the
 // days"). Total: for any group and any number of days asked for.
+#![tactic(auto)]
+
 ghost use Rattle.std.specs.Prelude.{◌≡◌, ◌-◌, ◌≤◌, min, length, set};
 ghost use Rattle.calendar_groups.specs.Holidays.{group as group_of};
 ghost use Rattle.method.specs.Table.{most_quarters};
@@ -16,7 +18,7 @@ use method::Request;
 
 // What was found looking back: the words of eligible days, how many there are, how far back the last of them lies, and the same of spare
 // days but for their place; of spares that fill latest first the ten latest alone.
-#[derive(Drop)]
+#[derive(Clone, Copy)]
 pub struct Found {
     pub eligible: [u64; 10],
     pub count: u32,

@@ -1,5 +1,7 @@
 // The adjustment and the numerators of days that are read where they stand in lent readings. Total: a day that runs past the end has no
 // readings, and numbers of 32 bits wrap.
+#![tactic(auto)]
+
 ghost use Rattle.std.specs.Prelude.{◌≡◌, map, ◌%◌, ◌^◌, ◌≤◌, ◌<◌, length, get_or, take};
 ghost use Rattle.std.specs.Int.Signed.{mag};
 ghost use Rattle.base_lists.specs.Lists.{places};

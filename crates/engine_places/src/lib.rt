@@ -1,4 +1,6 @@
 // Where the chosen days of an event stand in lent readings.
+#![tactic(auto)]
+
 ghost use Rattle.std.specs.Prelude.{◌≡◌, get_or};
 ghost use Rattle.engine_places.specs.PlaceSteps.{placed_of};
 
@@ -8,7 +10,7 @@ use method::Request;
 
 // Where the chosen days stand, how many of the five they are, how many quarters each has, where the adjustment window ends, and which of its
 // quarters stands against the event's first.
-#[derive(Drop)]
+#[derive(Clone, Copy)]
 pub struct Places {
     pub at: [u32; 5],
     pub count: u32,

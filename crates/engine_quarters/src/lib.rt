@@ -1,5 +1,7 @@
 // The sums of an event's working over a directory of rooms (document 01, "Adjustment and baseline"): S(t), A and B, and where the adjustment window ends.
 // Total: a day with no room has no readings, and nothing wraps.
+#![tactic(auto)]
+
 ghost use Rattle.std.specs.Prelude.{◌≡◌, ◌-◌, ◌≤◌, get_or, take};
 ghost use Rattle.method.specs.Ruler.{against};
 ghost use Rattle.method.specs.Adjustment.{ruler, adjustment_end, S, A as twelve_sum, B};

@@ -1,4 +1,6 @@
 // Days by rank, as falling words. The word 0 is no day.
+#![tactic(auto)]
+
 ghost use Rattle.std.specs.Prelude.{◌≡◌, take};
 ghost use Rattle.engine_ranking.specs.Steps.{pushed, insert_all};
 

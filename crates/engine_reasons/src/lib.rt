@@ -1,5 +1,7 @@
 // Of a day of the look-back why it is used or is not, and its sum over the event, over a directory of rooms (document 01, "Choosing the days"). Total:
 // for any rooms, and any number of days before the event.
+#![tactic(auto)]
+
 ghost use Rattle.std.specs.Prelude.{◌≡◌, ◌≤◌, length};
 ghost use Rattle.calendar_groups.specs.Holidays.{group as group_of};
 ghost use Rattle.method.specs.Table.{most_quarters};
@@ -15,7 +17,7 @@ use method::Request;
 use method_working::Reason;
 
 // The sum of a day's readings over the event's own quarters; none where the day is not held, or where one of them is missing.
-#[derive(Drop)]
+#[derive(Clone, Copy)]
 pub enum Summed {
     Sum(i64),
     Unsummed,

@@ -1,4 +1,6 @@
 // The refusals of a request, 4 to 7, in their order: the first that applies, over a directory of rooms.
+#![tactic(auto)]
+
 ghost use Rattle.std.specs.Prelude.{◌≡◌, List, ℕ};
 ghost use Rattle.method.specs.Verdict.{good_request, request_refusals};
 ghost use Rattle.engine_rooms.specs.Rooms.{room_history};
@@ -8,7 +10,7 @@ use engine_rooms::Directory;
 use method::{Refusal, Request};
 
 // What refusals that are tested one after the other come to.
-#[derive(Drop)]
+#[derive(Clone, Copy)]
 pub enum Tested {
     Passed,
     Failed(Refusal),

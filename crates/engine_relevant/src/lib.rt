@@ -1,5 +1,7 @@
 // Which days are relevant to an event, and how far back they go (document 01, "Choosing the days"). The calendar and the
 // list of moves alone decide: no reading and no mark plays a part.
+#![tactic(auto)]
+
 ghost use Rattle.std.specs.Prelude.{◌≡◌};
 ghost use Rattle.calendar_groups.specs.Holidays.{group as group_of};
 ghost use Rattle.method.specs.Relevant.{group_number, same_group};

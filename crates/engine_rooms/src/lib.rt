@@ -1,5 +1,7 @@
 // Rooms: where the days of an event's look back stand in lent readings. A table, a ring and a shared store make a directory of rooms; what is
 // worked out from it is the same.
+#![tactic(auto)]
+
 ghost use Rattle.engine_rooms.specs.Steps.{ReadingsAt};
 
 // How many days a directory is of: D and the look-back.
@@ -7,7 +9,7 @@ pub const DAYS: usize = 46;
 
 // Where the days from D-45 to D stand in lent readings, and their marks: entry i is day D - i. So many of them are held, D first: 0 where D is
 // not.
-#[derive(Drop)]
+#[derive(Clone, Copy)]
 pub struct Directory {
     pub at: [u32; DAYS],
     pub marks: [u8; DAYS],

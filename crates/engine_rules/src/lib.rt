@@ -1,4 +1,6 @@
 // The rules by which a request's method chooses days, as numbers (document 01, "Choosing the days"; document 02, order 3).
+#![tactic(auto)]
+
 ghost use Rattle.std.specs.Prelude.{◌≡◌, cond};
 ghost use Rattle.method.specs.AverageXofY.{seven_days};
 ghost use Rattle.engine_rules.specs.Steps.{first_ranks, middle_ranks, in_high, in_average, in_numbers};
@@ -8,7 +10,7 @@ use calendar_groups::Group;
 use method::Request;
 
 // The order in which spare days fill a shortage: the highest first, or the latest.
-#[derive(Drop)]
+#[derive(Clone, Copy)]
 pub enum SpareOrder {
     Highest,
     Latest,
@@ -16,7 +18,7 @@ pub enum SpareOrder {
 
 // The rules of a request as numbers: Y; up to how many days spares fill the window, and in which order; and by the window's size, 0 to 10, the
 // ranks passed over and the days taken.
-#[derive(Drop)]
+#[derive(Clone, Copy)]
 pub struct Rules {
     pub most: u32,
     pub fill: u32,

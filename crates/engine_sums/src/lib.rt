@@ -1,5 +1,7 @@
 // The sums of quarters over chosen days that are read where they stand in lent readings. Total: a day that runs past the end has no readings, and
 // sums of 32 bits wrap.
+#![tactic(auto)]
+
 ghost use Rattle.std.specs.Prelude.{◌≡◌, ◌+◌, ◌%◌, ◌^◌, min, map, length, take, slice_index};
 ghost use Rattle.base_lists.specs.Lists.{places};
 ghost use Rattle.engine_sums.specs.QuarterSteps.{quarter_sum};

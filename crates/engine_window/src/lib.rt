@@ -1,5 +1,7 @@
 // The window of an event over a directory of rooms (document 01, "Choosing the days"): its days by rank, and which ranks are chosen. The choice is made
 // from the same row.
+#![tactic(auto)]
+
 ghost use Rattle.std.specs.Prelude.{◌≡◌, ◌≤◌, ◌<◌};
 ghost use Rattle.calendar_groups.specs.Holidays.{group as group_of};
 ghost use Rattle.method.specs.Method.{whole_reach};
@@ -16,7 +18,7 @@ use method::Request;
 
 // The window of an event: whether the days held can't tell it (refusal 8), Y, its days by rank, how many they are, and of its ranks how many are passed
 // over and taken.
-#[derive(Drop)]
+#[derive(Clone, Copy)]
 pub struct Window {
     pub short: bool,
     pub most: u32,

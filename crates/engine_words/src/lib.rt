@@ -1,5 +1,7 @@
 // A day's word: 64 times its sum over the event, and its nearness to it, so that one comparison of two words is document 01's order, the tie rule
 // included.
+#![tactic(auto)]
+
 ghost use Rattle.std.specs.Prelude.{◌≡◌, ◌+◌, ◌*◌, ◌%◌, ◌^◌};
 
 // 64 times the rest of a sum by this fits a word.

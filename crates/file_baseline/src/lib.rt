@@ -1,5 +1,7 @@
 // The baseline of an event of a record file, with the numerators as bytes (document 01, "Record file, listing, host entry", the entry that a metering
 // platform calls).
+#![tactic(auto)]
+
 ghost use Rattle.std.specs.Prelude.{◌/◌, ◌≡◌, length};
 ghost use Rattle.base_lists.specs.Lists.{leading};
 ghost use Rattle.method.specs.Table.{good_reading};

@@ -1,4 +1,6 @@
 // What a record file holds of one day: its mark, and the reading at a quarter of the day.
+#![tactic(auto)]
+
 ghost use Rattle.std.specs.Prelude.{◌≡◌, ◌+◌, ◌-◌, ◌≤◌, length};
 ghost use Rattle.file_record.specs.Reader.{number_at, shape_base, day_start, read_file};
 ghost use Rattle.file_record.specs.Steps.{table_within};
@@ -12,7 +14,7 @@ use file_starts::BEFORE_READINGS;
 const BEFORE_MARK: usize = 4;
 
 // A number of a day that is held, or that it is not there.
-#[derive(Drop)]
+#[derive(Clone, Copy)]
 pub enum Found {
     Number(u32),
     NotThere,

@@ -1,4 +1,6 @@
 // The events of a record file, as requests.
+#![tactic(auto)]
+
 ghost use Rattle.std.specs.Prelude.{◌≡◌, ◌+◌, ◌≤◌, ◌<◌, length, drop, get_or};
 ghost use Rattle.file_record.specs.Reader.{ev_length, read_file, event_of, request_of, event_at_place};
 ghost use Rattle.file_record.specs.Steps.{event_within};

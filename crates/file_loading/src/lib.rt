@@ -1,4 +1,6 @@
 // The days of a file: loaded into lent buffers, or tested on their way through one.
+#![tactic(auto)]
+
 ghost use Rattle.std.specs.Prelude.{◌≡◌, ◌+◌, ◌-◌, ◌*◌, ◌≤◌, ◌&&◌, ◌++◌, length, drop, leb};
 ghost use Rattle.base_lists.specs.Lists.{leading};
 ghost use Rattle.method.specs.Table.{good_reading, offset};

@@ -1,4 +1,6 @@
 // The moves of a record file (document 02, order 2): one of them, or the whole list in a lent buffer.
+#![tactic(auto)]
+
 ghost use Rattle.std.specs.Prelude.{◌≡◌, ◌+◌, ◌*◌, ◌<◌, ◌≤◌, ◌++◌, length, drop};
 ghost use Rattle.file_record.specs.Reader.{number_at, mv_length, move_start, read_file, move_at_place};
 ghost use Rattle.file_record.specs.Steps.{filled_if, list_within, move_within};

@@ -1,4 +1,6 @@
 // One record of a file put first into a lent buffer: a PF, an MV, a DY or an EV. Where it does not fit, nothing is changed.
+#![tactic(auto)]
+
 ghost use Rattle.std.specs.Prelude.{◌≡◌, ◌∷◌, ◌++◌, ◌≤◌, length, get_or, drop};
 ghost use Rattle.base_bytes.specs.Bytes.{bytes};
 ghost use Rattle.base_bytes.specs.PutFirst.{put_first};

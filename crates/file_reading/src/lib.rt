@@ -1,4 +1,6 @@
 // A whole file read: what it holds, or where it is not as laid down.
+#![tactic(auto)]
+
 ghost use Rattle.std.specs.Prelude.{◌≡◌, ◌+◌, ◌*◌, ◌≤◌, ◌<◌, length, drop};
 ghost use Rattle.file_record.specs.Reader.{number_at, opens_with, is_record, pf_length, is_mv, dy_length, is_ev, ev_length, is_dy_of, moves_in, move_start, days_from, events_from, file_base, first_in, day_start, read_file};
 

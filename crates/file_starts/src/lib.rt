@@ -1,4 +1,6 @@
 // Where the records of a file start.
+#![tactic(auto)]
+
 ghost use Rattle.std.specs.Prelude.{◌≡◌};
 ghost use Rattle.file_record.specs.Reader.{move_start, shape_base, day_start};
 

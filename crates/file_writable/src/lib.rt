@@ -1,4 +1,6 @@
 // What a record file can say (document 02, orders 1 to 3): the tests of refusals 1 and 13.
+#![tactic(auto)]
+
 ghost use Rattle.std.specs.Prelude.{◌≡◌, ◌<◌};
 ghost use Rattle.base_lists.specs.Lists.{all};
 ghost use Rattle.file_record.specs.Layout.{fits_day, fits_event};

@@ -1,4 +1,6 @@
 // A whole record file written into a lent buffer (document 02, orders 1 to 3), or why it is not.
+#![tactic(auto)]
+
 ghost use Rattle.std.specs.Prelude.{◌≡◌, true, ◌++◌, ◌+◌, ◌*◌, ◌/◌, ◌^◌, ◌≤◌, length};
 ghost use Rattle.base_lists.specs.Lists.{all};
 ghost use Rattle.method.specs.Table.{offset};

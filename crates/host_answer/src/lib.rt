@@ -1,4 +1,6 @@
 // What a caller written in C is told of an answer by include/honeyplank.h.
+#![tactic(auto)]
+
 ghost use Rattle.std.specs.Prelude.{◌≡◌, map, take, pos};
 ghost use Rattle.host_answer.specs.Names.{by_name, refusal_row};
 ghost use Rattle.host_answer.specs.Telling.{number_of, answer_row, told_by};

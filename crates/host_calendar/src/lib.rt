@@ -1,4 +1,6 @@
 // What a caller written in C is told of a day of the calendar by include/honeyplank.h, where no holiday is moved.
+#![tactic(auto)]
+
 ghost use Rattle.std.specs.Prelude.{◌≡◌, pos};
 ghost use Rattle.host_answer.specs.Names.{by_name};
 ghost use Rattle.host_calendar.specs.Calendar.{month_digits, group_told, fixed_told, easter_told, calendar_row};

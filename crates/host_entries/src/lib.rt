@@ -1,4 +1,6 @@
 // The entries for C. Each is total: any bytes, any numbers, any lengths.
+#![tactic(auto)]
+
 ghost use Rattle.std.specs.Prelude.{◌≡◌, length};
 ghost use Rattle.method.specs.Table.{most_quarters};
 ghost use Rattle.method.specs.Verdict.{verdict};

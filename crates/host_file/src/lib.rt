@@ -1,4 +1,6 @@
 // What a caller written in C is told by include/honeyplank.h of a record file, and of a move and an event in it.
+#![tactic(auto)]
+
 ghost use Rattle.std.specs.Prelude.{◌≡◌};
 ghost use Rattle.file_record.specs.declared.MoveAt.TheVariants.{NoMove};
 ghost use Rattle.host_answer.specs.Names.{by_name};

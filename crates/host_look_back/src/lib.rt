@@ -1,5 +1,7 @@
 // What a caller written in C is told by include/honeyplank.h of a day of an event's look-back, over a directory of rooms. Total: any rooms, any day, any place
 // of the row.
+#![tactic(auto)]
+
 ghost use Rattle.std.specs.Prelude.{◌≡◌, pos, take};
 ghost use Rattle.calendar_groups.specs.Holidays.{group as group_of};
 ghost use Rattle.method_working.specs.Working.{rank_in};

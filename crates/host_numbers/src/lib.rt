@@ -1,5 +1,7 @@
 // A result as one number for C, by include/honeyplank.h: the place of a day's part, a number of a day of a file, the length of a file that was
 // written, the length of a listing, or minus the refusal.
+#![tactic(auto)]
+
 ghost use Rattle.std.specs.Prelude.{◌≡◌};
 ghost use Rattle.host_numbers.specs.Numbers.{place_told, found_told, written_told, listed_told};
 

@@ -1,5 +1,7 @@
 // What a caller written in C is told by include/honeyplank.h of the overlap that an event of a record file needs, and from which day on the file's days may
 // be cut.
+#![tactic(auto)]
+
 ghost use Rattle.std.specs.Prelude.{◌≡◌, ◌-◌, ◌≤◌, ◌<◌, map};
 ghost use Rattle.base_lists.specs.Lists.{places};
 ghost use Rattle.file_record.specs.declared.Read.TheVariants.{File};

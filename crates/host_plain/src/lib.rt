@@ -1,4 +1,6 @@
 // What a caller written in C is told by include/honeyplank.h with no table and no file: the day of a date, the date of a day, the version.
+#![tactic(auto)]
+
 ghost use Rattle.std.specs.Prelude.{◌≡◌};
 ghost use Rattle.calendar_dates.specs.declared.Dated.TheVariants.{On};
 ghost use Rattle.calendar_dates.specs.Days.{numbered, dated};

@@ -1,5 +1,7 @@
 // What a caller written in C is told by include/honeyplank.h of an event's adjustment window and of a ruler quarter, over a directory of rooms. Total: any rooms,
 // any quarter, any place of the row.
+#![tactic(auto)]
+
 ghost use Rattle.std.specs.Prelude.{◌≡◌, false, ◌≤◌, take};
 ghost use Rattle.calendar_groups.specs.Holidays.{group as group_of};
 ghost use Rattle.engine_rooms.specs.Rooms.{room_history};
@@ -12,7 +14,7 @@ use engine_rooms::Directory;
 use method::Request;
 
 // The days that are chosen, the first `count` of five, where any are.
-#[derive(Drop)]
+#[derive(Clone, Copy)]
 pub struct Picked {
     pub chooses: bool,
     pub days: [u32; 5],

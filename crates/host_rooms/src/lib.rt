@@ -1,4 +1,6 @@
 // What a caller written in C is told by include/honeyplank.h of the working of an event, by name, over a directory of rooms. Total: any rooms, any name.
+#![tactic(auto)]
+
 ghost use Rattle.std.specs.Prelude.{◌≡◌};
 ghost use Rattle.calendar_groups.specs.Holidays.{group as group_of};
 ghost use Rattle.engine_rooms.specs.Rooms.{room_history};

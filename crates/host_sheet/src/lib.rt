@@ -1,4 +1,6 @@
 // What a caller written in C is told by include/honeyplank.h of the working of the event at a place of a record file, by name. Total: any bytes, any place.
+#![tactic(auto)]
+
 ghost use Rattle.std.specs.Prelude.{◌≡◌};
 ghost use Rattle.file_record.specs.declared.Read.TheVariants.{File};
 ghost use Rattle.file_record.specs.Reader.{read_file, list_in, table_in};

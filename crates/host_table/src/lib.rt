@@ -1,4 +1,6 @@
 // What a caller written in C is told by include/honeyplank.h of the working of an event over a lent table, by name. Total: any table, any list, any request.
+#![tactic(auto)]
+
 ghost use Rattle.std.specs.Prelude.{◌≡◌};
 ghost use Rattle.method.specs.Verdict.{table_refusals};
 ghost use Rattle.table_days.specs.Lent.{table_of};

@@ -1,4 +1,6 @@
 // The lines of an event over a lent table (document 01, "Record file, listing, host entry").
+#![tactic(auto)]
+
 ghost use Rattle.std.specs.Prelude.{◌≤◌, length};
 ghost use Rattle.table_days.specs.Lent.{table_of};
 ghost use Rattle.listing_lines.specs.Lines.{lines_text};

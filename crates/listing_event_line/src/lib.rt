@@ -1,5 +1,7 @@
 // The line of an event. 01: "Event line: D, s, e, N, chosen days by rank, reach, denominator, adjustment numerator." and "Refusal line: D, s, e,
 // number and what it carries."
+#![tactic(auto)]
+
 ghost use Rattle.std.specs.Prelude.{[], ◌∷◌, ◌++◌, map, ◌+◌, ◌*◌, ◌≤◌, length, take};
 ghost use Rattle.base_lists.specs.Ascii.{ascii};
 ghost use Rattle.base_digits.specs.Digits.{dec, decimal};

@@ -1,4 +1,6 @@
 // The first line of a listing. 01: "Header: number, P, F, h." and "A refused file prints only `file refused OFFSET`."
+#![tactic(auto)]
+
 ghost use Rattle.std.specs.Prelude.{◌≤◌, length};
 ghost use Rattle.listing_lines.specs.Lines.{line_text};
 ghost use Rattle.listing_lines.specs.Listing.{header_line, refused_line};

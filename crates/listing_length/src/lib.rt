@@ -1,1 +1,2 @@
 // How long a listing gets at most; no code.
+#![tactic(auto)]

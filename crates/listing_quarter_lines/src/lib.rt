@@ -1,4 +1,6 @@
 // The quarter lines of an event. 01: "Quarter line: t, numerator, rounded kW."
+#![tactic(auto)]
+
 ghost use Rattle.std.specs.Prelude.{◌≡◌, ◌+◌, ◌-◌, ◌≤◌, min, length, take};
 ghost use Rattle.method.specs.Table.{most_quarters};
 ghost use Rattle.method.specs.Adjustment.{rounded};

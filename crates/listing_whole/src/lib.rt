@@ -1,4 +1,6 @@
 // The whole listing of a record file in one lent buffer (document 01, "Record file, listing, host entry").
+#![tactic(auto)]
+
 ghost use Rattle.std.specs.Prelude.{◌≡◌, ◌+◌, ◌*◌, ◌≤◌, ◌<◌, length};
 ghost use Rattle.file_record.specs.Reader.{read_file, list_in, table_in, request_at};
 ghost use Rattle.file_record.specs.declared.Read.TheVariants.{File};
@@ -14,7 +16,7 @@ use file_record::{EventAt, Read, Shape, Span};
 use method::QUARTERS;
 
 // The listing stands first in the lent buffer, and is so long; or it does not fit.
-#[derive(Drop)]
+#[derive(Clone, Copy)]
 pub enum Listed {
     Length(u32),
     DoesNotFit,

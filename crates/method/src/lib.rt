@@ -1,5 +1,6 @@
 // The methodology as document 01 fixes it: definitions and theorems, no code. The types that definitions and code share are
 // declared here.
+#![tactic(auto)]
 
 // The methods that a request may ask for: High X of Y, and Average X of Y (document 02, order 3).
 pub const HIGH_X_OF_Y: u32 = 0;
@@ -16,7 +17,7 @@ pub const LOOK_BACK: u32 = 45;
 pub const MISSING: u32 = 4294967295;
 
 // What is asked: participation start P, event day D, the places s, e and n on the two-day ruler, and the method.
-#[derive(Drop)]
+#[derive(Clone, Copy)]
 pub struct Request {
     pub participation: u32,
     pub event: u32,
@@ -27,7 +28,7 @@ pub struct Request {
 }
 
 // The refusals of 01, in the order in which they are tested, each with the numbers that it carries; then those of the orders after it, which carry none.
-#[derive(Drop)]
+#[derive(Clone, Copy)]
 pub enum Refusal {
     // 11: the byte offset of the record that is not as laid down
     BadFile(u32),

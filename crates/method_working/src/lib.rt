@@ -1,7 +1,8 @@
 // The working of an event: what a person needs to rework it with a pencil, as definitions, and that it leads to the answer. No code.
+#![tactic(auto)]
 
 // Why a day of the look-back is used or is not: the first of these that holds.
-#[derive(Drop)]
+#[derive(Clone, Copy)]
 pub enum Reason {
     // below day 0, or before P
     TooEarly,

@@ -1,4 +1,6 @@
 // The listing program: prints the listing of a record file (document 01, "Record file, listing, host entry"), read on standard input or by its name.
+#![tactic(auto)]
+
 mod reading;
 mod say;
 

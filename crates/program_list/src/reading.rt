@@ -6,7 +6,7 @@ use libc::STDIN_FILENO;
 use program_words::Wanted;
 
 // How many bytes were read, to the end or to the buffer's; or opening or reading failed, and that is said.
-#[derive(Drop)]
+#[derive(Clone, Copy)]
 pub(crate) enum Got {
     Bytes(usize),
     Failed,

@@ -1,5 +1,7 @@
 // Writes what the project works out for vectors that were made outside it. The gate compares it with the file stdout, which
 // tests/vectors/make_stdout.py made from the papers and knows nothing of this code.
+#![tactic(auto)]
+
 mod days;
 mod line;
 mod parts;

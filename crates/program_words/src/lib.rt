@@ -1,10 +1,12 @@
 // What the words of a command line ask for, a word at a time.
+#![tactic(auto)]
+
 ghost use Rattle.std.specs.Prelude.{◌≡◌};
 ghost use Rattle.program_words.specs.Words.{same, is_help, is_version, is_option, is_end, option_by, asked_by, besides, joined, with_word};
 
 // Nothing was named yet; or standard input, or the file that the word at a place names, is to be listed; or the help or the version is asked for; or
 // the word at a place is an unknown option, or names a second file.
-#[derive(Drop)]
+#[derive(Clone, Copy)]
 pub enum Wanted {
     Nothing,
     Input,
@@ -16,7 +18,7 @@ pub enum Wanted {
 }
 
 // What the words so far ask for, and whether a `--` among them ended the options.
-#[derive(Drop)]
+#[derive(Clone, Copy)]
 pub struct Line {
     pub wanted: Wanted,
     pub ended: bool,

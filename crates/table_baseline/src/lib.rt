@@ -1,4 +1,6 @@
 // The baseline over a lent table: its refusals, and the engine over its directory.
+#![tactic(auto)]
+
 ghost use Rattle.std.specs.Prelude.{length};
 ghost use Rattle.method.specs.Verdict.{verdict};
 ghost use Rattle.table_days.specs.Lent.{table_of};

@@ -1,5 +1,7 @@
 // The engine over the rooms of a lent table, with the numerators as bytes (document 01, "Record file, listing, host entry": "a byte buffer for 4-byte
 // little-endian numerators").
+#![tactic(auto)]
+
 ghost use Rattle.std.specs.Prelude.{◌/◌, min, ◌≡◌, length};
 ghost use Rattle.method.specs.Table.{most_quarters};
 ghost use Rattle.table_days.specs.Lent.{table_of};

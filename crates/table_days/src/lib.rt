@@ -1,11 +1,13 @@
 // The lent table: whether refusal 1 lets it pass, which days it holds, and where their readings stand.
+#![tactic(auto)]
+
 ghost use Rattle.std.specs.Prelude.{◌≡◌, List, ℕ, length};
 ghost use Rattle.method.specs.Table.{is_extract, held, history};
 ghost use Rattle.table_days.specs.Lent.{table_of};
 ghost use Rattle.table_days.specs.Part.{has_day, DayPart, part_place};
 
 // Where a day's readings stand among the lent ones: the place of the first of them, or nowhere.
-#[derive(Drop)]
+#[derive(Clone, Copy)]
 pub enum Place {
     Nowhere,
     From(u32),

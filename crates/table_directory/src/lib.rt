@@ -1,4 +1,6 @@
 // The directory of a lent table: where the event day and the days before it stand.
+#![tactic(auto)]
+
 ghost use Rattle.std.specs.Prelude.{◌≡◌, List, ℕ};
 ghost use Rattle.table_days.specs.Lent.{table_of};
 ghost use Rattle.table_directory.specs.Steps.{entries_of, directory_of};

@@ -1,4 +1,6 @@
 // The engine over the rooms of a lent table, whose refusals are tested elsewhere.
+#![tactic(auto)]
+
 ghost use Rattle.std.specs.Prelude.{length};
 ghost use Rattle.engine_answer.specs.Answer.{Answers};
 ghost use Rattle.table_days.specs.Lent.{table_of};

@@ -1,4 +1,6 @@
 // The refusals of a lent table, 1 to 3, in their order: the first that applies.
+#![tactic(auto)]
+
 ghost use Rattle.std.specs.Prelude.{◌≡◌, List, ℕ, length, take};
 ghost use Rattle.method.specs.Verdict.{table_refusals};
 ghost use Rattle.engine_refusals.specs.Steps.{tested};
