@@ -78,7 +78,8 @@ module _ (moves : List ℕ) (k : ℕ) (found : Bool) where
   unfolding first_days rising
   one_rising h =
       let next : 2 * (k + 1) ≡ 2 * k + 2 = omega arith in
-      rw (pair moves k (omega arith), pair moves (k + 1) (omega arith), next)
+      let later = rw next at (pair moves (k + 1) (omega arith)) in
+      rw (pair moves k (omega arith), next, later)
       (and_assoc found (ltb (get_or moves (2 * k) 0) (get_or moves (2 * k + 2) 0)) _)
 
   pub one_again : 2 * k + 2 ≤ length moves
