@@ -1,4 +1,4 @@
-// The entries for C. Each is total: any bytes, any numbers, any lengths.
+// The entries for C. Each is total: any bytes, any numbers, any lengths. host_entries_c exports them.
 #![tactic(auto)]
 
 ghost use Rattle.std.specs.Prelude.{◌≡◌, length};
@@ -28,8 +28,7 @@ use method::Request;
 const MOST_BYTES: usize = 4 * method::QUARTERS;
 
 // The baseline of an event of a record file: 0 or the refusal number, and the numerators into `out`, four bytes each, the lowest first.
-#[unsafe(no_mangle)]
-pub extern "C" fn hp_baseline(file: &[u8], place: usize, out: &mut [u8]) -> u32
+pub fn hp_baseline(file: &[u8], place: usize, out: &mut [u8]) -> u32
     ensures { FileCall (file_reply file.now place (length out.old)) result out.old out.new }
 {
     let answer = file_baseline::file_baseline(file, place, out);
@@ -38,8 +37,7 @@ pub extern "C" fn hp_baseline(file: &[u8], place: usize, out: &mut [u8]) -> u32
 }
 
 // What that result tells by name, with room for any event.
-#[unsafe(no_mangle)]
-pub extern "C" fn hp_told(file: &[u8], place: usize, name: u32) -> i64
+pub fn hp_told(file: &[u8], place: usize, name: u32) -> i64
     ensures { result ≡ told_by (answer_of (file_reply file.now place most_bytes)) name }
 {
     let mut out = [0u8; MOST_BYTES];
@@ -61,8 +59,7 @@ fn request_of(participation: u32, event: u32, s: u32, e: u32, n: u32, method: u3
 }
 
 // The baseline by a list of moves over a table in memory: 0 or the refusal number, and the numerators into `out`.
-#[unsafe(no_mangle)]
-pub extern "C" fn hp_baseline_table(
+pub fn hp_baseline_table(
     first: u32,
     marks: &[u8],
     readings: &[u32],
@@ -84,8 +81,7 @@ pub extern "C" fn hp_baseline_table(
 }
 
 // What that result tells by name, with room for any event.
-#[unsafe(no_mangle)]
-pub extern "C" fn hp_told_table(
+pub fn hp_told_table(
     first: u32,
     marks: &[u8],
     readings: &[u32],
@@ -107,8 +103,7 @@ pub extern "C" fn hp_told_table(
 }
 
 // The place of a day's first reading in a table in memory.
-#[unsafe(no_mangle)]
-pub extern "C" fn hp_day_part(first: u32, marks: &[u8], readings: &[u32], day: u32) -> i64
+pub fn hp_day_part(first: u32, marks: &[u8], readings: &[u32], day: u32) -> i64
     ensures { result ≡ place_told (part_place (table_of first marks.now readings.now) day) }
 {
     let place = table_days::part_place(first, marks, readings, day);
@@ -116,8 +111,7 @@ pub extern "C" fn hp_day_part(first: u32, marks: &[u8], readings: &[u32], day: u
 }
 
 // What a record file tells by name: what it holds, or refusal 11.
-#[unsafe(no_mangle)]
-pub extern "C" fn hp_file(file: &[u8], name: u32) -> i64
+pub fn hp_file(file: &[u8], name: u32) -> i64
     ensures { result ≡ file_told (read_file file.now) name }
 {
     let read = file_reading::read_file(file);
@@ -125,8 +119,7 @@ pub extern "C" fn hp_file(file: &[u8], name: u32) -> i64
 }
 
 // What the move at a place of a record file tells by name: its two days, nothing where there is none, or refusal 11.
-#[unsafe(no_mangle)]
-pub extern "C" fn hp_move(file: &[u8], place: usize, name: u32) -> i64
+pub fn hp_move(file: &[u8], place: usize, name: u32) -> i64
     ensures { result ≡ move_told (move_at_place (read_file file.now) file.now place) name }
 {
     let at = file_moves::move_at(file, place);
@@ -134,8 +127,7 @@ pub extern "C" fn hp_move(file: &[u8], place: usize, name: u32) -> i64
 }
 
 // What the event at a place of a record file tells by name: the event, or refusal 11 or 12.
-#[unsafe(no_mangle)]
-pub extern "C" fn hp_event(file: &[u8], place: usize, name: u32) -> i64
+pub fn hp_event(file: &[u8], place: usize, name: u32) -> i64
     ensures { result ≡ event_told (event_at_place (read_file file.now) file.now place) name }
 {
     let at = file_events::event_at(file, place);
@@ -143,32 +135,28 @@ pub extern "C" fn hp_event(file: &[u8], place: usize, name: u32) -> i64
 }
 
 // What the working of the event at a place of a record file tells by name, of the day `at` days before the event or of the ruler quarter `at`.
-#[unsafe(no_mangle)]
-pub extern "C" fn hp_working(file: &[u8], place: usize, at: u32, name: u32) -> i64
+pub fn hp_working(file: &[u8], place: usize, at: u32, name: u32) -> i64
     ensures { result ≡ by_name (file_sheet file.now place at) name }
 {
     host_sheet::tell_sheet(file, place, at, name)
 }
 
 // What the overlap of the event at a place of a record file tells by name.
-#[unsafe(no_mangle)]
-pub extern "C" fn hp_overlap(file: &[u8], place: usize, name: u32) -> i64
+pub fn hp_overlap(file: &[u8], place: usize, name: u32) -> i64
     ensures { result ≡ by_name (overlap_row file.now place) name }
 {
     host_overlap::tell_overlap(file, place, name)
 }
 
 // The first day to cut the days of a record file from.
-#[unsafe(no_mangle)]
-pub extern "C" fn hp_cut_from(file: &[u8]) -> i64
+pub fn hp_cut_from(file: &[u8]) -> i64
     ensures { result ≡ cut_from (read_file file.now) file.now }
 {
     host_overlap::cut_from(file)
 }
 
 // A reading of a day of a record file.
-#[unsafe(no_mangle)]
-pub extern "C" fn hp_reading(file: &[u8], day: u32, quarter: u32) -> i64
+pub fn hp_reading(file: &[u8], day: u32, quarter: u32) -> i64
     ensures { result ≡ found_told (reading_in (read_file file.now) file.now day quarter) }
 {
     let found = file_days::reading(file, day, quarter);
@@ -176,8 +164,7 @@ pub extern "C" fn hp_reading(file: &[u8], day: u32, quarter: u32) -> i64
 }
 
 // The mark of a day of a record file.
-#[unsafe(no_mangle)]
-pub extern "C" fn hp_mark(file: &[u8], day: u32) -> i64
+pub fn hp_mark(file: &[u8], day: u32) -> i64
     ensures { result ≡ found_told (mark_in (read_file file.now) file.now day) }
 {
     let found = file_days::mark(file, day);
@@ -185,8 +172,7 @@ pub extern "C" fn hp_mark(file: &[u8], day: u32) -> i64
 }
 
 // The listing of a record file: its length, and the text into `out`; minus 7 where it does not fit.
-#[unsafe(no_mangle)]
-pub extern "C" fn hp_listing(file: &[u8], out: &mut [u8]) -> i64
+pub fn hp_listing(file: &[u8], out: &mut [u8]) -> i64
     ensures { ListingCall file.now result out.old out.new }
 {
     let listed = listing_whole::listing(file, out);
@@ -194,8 +180,7 @@ pub extern "C" fn hp_listing(file: &[u8], out: &mut [u8]) -> i64
 }
 
 // A record file written into `out`: its length, or minus the number of a refusal.
-#[unsafe(no_mangle)]
-pub extern "C" fn hp_write(
+pub fn hp_write(
     participation: u32,
     portfolio: u32,
     first: u32,
@@ -221,32 +206,28 @@ pub extern "C" fn hp_write(
 }
 
 // The day number of a date.
-#[unsafe(no_mangle)]
-pub extern "C" fn hp_day(year: u32, month: u32, day: u32) -> i64
+pub fn hp_day(year: u32, month: u32, day: u32) -> i64
     ensures { result ≡ day_told (numbered (date_written year month day)) }
 {
     host_plain::day_of(year, month, day)
 }
 
 // The date of a day number: year, month and day as one number.
-#[unsafe(no_mangle)]
-pub extern "C" fn hp_date(day: u32) -> i64
+pub fn hp_date(day: u32) -> i64
     ensures { result ≡ date_told (dated day) }
 {
     host_plain::date_of(day)
 }
 
 // What a day of the calendar tells by name, where no holiday was moved.
-#[unsafe(no_mangle)]
-pub extern "C" fn hp_calendar(day: u32, name: u32) -> i64
+pub fn hp_calendar(day: u32, name: u32) -> i64
     ensures { result ≡ by_name (calendar_row day) name }
 {
     host_calendar::tell_calendar(day, name)
 }
 
 // The version of these entries, as one number.
-#[unsafe(no_mangle)]
-pub extern "C" fn hp_version() -> u32
+pub fn hp_version() -> u32
     ensures { result ≡ version }
 {
     host_plain::version()

@@ -1,0 +1,19 @@
+use Prim.Native.Nat.{◌*◌, ◌-◌, ◌/◌, ◌≤◌}
+use mathlib.Core.Path.{◌≡◌, refl, sym, ◌∙◌}
+use mathlib.Core.Bool.{◌&&◌}
+use native.Mathlib.Omega.{arith}
+use lib.ListN.{length, drop}
+use Rattle.calendar_groups.specs.Holidays.{first_days}
+use Rattle.calendar_groups.specs.Steps.{rising as rises}
+use Rattle.calendar_groups.proofs.Moves.{one_rising, all_rise}
+use Rattle.calendar_groups.proofs.is_rising.Goals as goal
+
+pub loop-k-preserved : goal.loop-k-preserved
+loop-k-preserved c =
+    let l = c.loop-k in
+    (omega arith, one_rising c.args.moves.now l.k l.rising (omega arith) ∙ l.invariant.1)
+
+pub returns : goal.returns
+returns c =
+    let l = c.loop-k in
+    sym (all_rise c.args.moves.now l.k l.rising (omega arith)) ∙ l.invariant.1
