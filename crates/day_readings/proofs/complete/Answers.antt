@@ -1,0 +1,22 @@
+use Rattle.std.proofs.Common.{◌≡◌, ◌-◌, ◌≤◌, ◌&&◌, length, drop, sym, ◌∙◌, arith, rules}
+use Rattle.base_lists.specs.Lists.{all}
+use Rattle.base_lists.proofs.All.{all_step, all_end}
+use Rattle.method.specs.Table.{present}
+use Rattle.day_readings.proofs.Joining.{joined_present}
+use Rattle.day_readings.proofs.complete.Goals as goal
+
+pub returns-then-joined-lt-MISSING : goal.returns-then-joined-lt-MISSING
+returns-then-joined-lt-MISSING c =
+    sym (joined_present c.args.day.now (λ i. omega (arith, c.type_inv.day i)) c.joined.result c.joined.ensures c.if-joined-lt-MISSING.true)
+
+pub loop-i-preserved : goal.loop-i-preserved
+loop-i-preserved c =
+    let l = c.loop-i in (
+      search rules,
+      all_step present l.all_present c.args.day.now l.i 0 c.loop-i-test.true ∙ l.invariant.1,
+    )
+
+pub returns : goal.returns
+returns c =
+    let l = c.loop-i in
+    sym (all_end present l.all_present c.args.day.now l.i c.loop-i-test.false) ∙ l.invariant.1

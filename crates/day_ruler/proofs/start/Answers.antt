@@ -1,0 +1,9 @@
+-- `day_ruler::start` meets its contract.
+use mathlib.Core.Path.{ap, ◌∙◌}
+use Rattle.method.specs.Table.{size}
+use Rattle.method.proofs.Ruler.{start_size}
+use borrow.Author.Rules.{rules}
+use Rattle.day_ruler.proofs.start.Goals as goal
+
+pub returns : goal.returns
+returns c = c.size.ensures ∙ ap size c.minus.ensures ∙ start_size c.args.event

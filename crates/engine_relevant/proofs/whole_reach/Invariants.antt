@@ -1,0 +1,17 @@
+-- `engine_relevant::whole_reach` meets its contract. The invariant: no relevant day lies farther back than `back`.
+use Prim.Native.Nat.{◌-◌, ◌≤◌}
+use mathlib.Core.Path.{◌≡◌, sym, ap, ◌∙◌}
+use native.Mathlib.Omega.{arith}
+use borrow.Author.Rules.{rules}
+use Rattle.calendar_groups.specs.Holidays.{group as group_of}
+use Rattle.method.specs.Method.{whole_reach}
+use Rattle.method.specs.Requested.{method_of}
+use Rattle.engine_relevant.proofs.Relevance.{relevant_to_lem}
+use Rattle.engine_relevant.proofs.Reaching.{reach_within, reach_start, reach_pass, reach_here, reach_none}
+use Rattle.engine_relevant.proofs.whole_reach.Given as goal
+
+abbrev pub invariant-loop-back : goal.invariant-loop-back
+invariant-loop-back l = (l.back ≤ l.request.event) × (whole_reach (method_of (group_of l.moves) l.request) ≡ reach_within (group_of l.moves) l.request l.back)
+
+abbrev pub decreases-loop-back : goal.decreases-loop-back
+decreases-loop-back l = l.back
