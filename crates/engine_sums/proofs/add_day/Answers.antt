@@ -1,0 +1,12 @@
+-- `engine_sums::add_day` meets its contract: the law is `clipped`.
+use Rattle.std.proofs.Common.{arith, length-drop, length-take, rules}
+use Rattle.engine_sums.proofs.Adding.{clipped}
+use Rattle.engine_sums.proofs.add_day.Goals as goal
+
+pub returns : goal.returns
+returns c =
+    let a = c.args in
+    clipped a.sums.now a.day.now a.start c.least-from.result
+    c.least-length.result c.slice_known-1.given
+    c.least-from.ensures c.least-length.ensures
+    c.add_part.ensures
