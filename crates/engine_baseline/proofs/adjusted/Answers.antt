@@ -1,0 +1,36 @@
+-- `engine_baseline::adjusted` meets its contract: each need is a law of `Steps`, at the start (`s`) or where the window's end is known (`e`).
+use mathlib.Core.Path.{refl, sym}
+use native.Mathlib.Omega.{arith}
+use borrow.Author.Rules.{rules}
+use lib.ListN.{length}
+use Rattle.engine_answer.proofs.Laws.{refuses}
+use Rattle.engine_numerators.proofs.Windows.{all-small}
+use Rattle.engine_baseline.proofs.Steps.{no_window, ranges, room_enough, room_long, adjusted_back, adjusted_answers}
+use Rattle.engine_baseline.proofs.adjusted.Goals as goal
+
+pub returns-then-end-eq0 : goal.returns-then-end-eq0
+returns-then-end-eq0 c =
+    let a = c.args in
+    let yesterday = rw c.size.ensures at c.readings_at-yesterday.ensures.list in
+    let today = rw c.size-2.ensures at c.readings_at-today.ensures.list in
+    let room = length a.out.now in
+    refuses a.out.now c.refuse.ensures
+    (no_window a.request a.rooms a.readings.now room a.chosen c.requires.0 c.requires.1 yesterday today c.adjustment_end-end.ensures c.if-end-eq0.true)
+
+pub overflow_sub-length : goal.overflow_sub-length
+overflow_sub-length c =
+    let a = c.args in
+    let room = length a.out.now in
+    omega (arith, (ranges a.request a.rooms a.readings.now room a.chosen c.requires.0).some)
+
+pub returns : goal.returns
+returns c =
+    let a = c.args in
+    let yesterday = rw c.size.ensures at c.readings_at-yesterday.ensures.list in
+    let today = rw c.size-2.ensures at c.readings_at-today.ensures.list in
+    let room = length a.out.now in
+    let left = c.if-end-eq0.false in
+    rw (adjusted_back a.request a.rooms a.readings.now room a.chosen c.requires.0 c.requires.1 yesterday today c.adjustment_end-end.ensures left c.placed-places.ensures c.write-adjustment.ensures
+    (all-small a.readings.now c.type_inv.readings))
+    (adjusted_answers a.request a.rooms a.readings.now room a.chosen c.requires.0 c.requires.1 yesterday today c.adjustment_end-end.ensures left c.placed-places.ensures c.write-adjustment.ensures
+    (room_long a.request a.rooms a.readings.now room a.chosen c.requires.0 a.out.now refl) refl)

@@ -1,0 +1,19 @@
+-- `engine_baseline::average` meets its contract: each need is a law of `Steps`.
+use mathlib.Core.Path.{refl, sym}
+use native.Mathlib.Omega.{arith}
+use borrow.Author.Rules.{rules}
+use lib.ListN.{length}
+use Rattle.engine_baseline.proofs.Steps.{ranges, room_long, averages}
+use Rattle.engine_baseline.proofs.average.Goals as goal
+
+pub overflow_sub-part : goal.overflow_sub-part
+overflow_sub-part c =
+    let a = c.args in
+    omega (arith, (ranges a.request a.rooms a.readings.now (length a.out.now) a.chosen c.requires.0).some)
+
+pub returns : goal.returns
+returns c =
+    let a = c.args in
+    let room = length a.out.now in
+    averages a.request a.rooms a.readings.now room a.chosen c.requires.0 c.requires.1 c.placed-places.ensures a.out.now
+    (room_long a.request a.rooms a.readings.now room a.chosen c.requires.0 a.out.now refl) c.sum_days.ensures refl

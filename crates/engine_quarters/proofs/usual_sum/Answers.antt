@@ -1,0 +1,28 @@
+use Prim.Native.Nat.{◌-◌, ◌*◌, ◌≤◌}
+use mathlib.Core.Path.{◌≡◌}
+use native.Mathlib.Omega.{arith}
+use borrow.Author.Rules.{rules}
+use lib.ListN.{take}
+use Rattle.method.specs.Adjustment.{B}
+use Rattle.engine_rooms.specs.Rooms.{room_history}
+use Rattle.engine_baseline.specs.Engine.{with_days}
+use Rattle.engine_quarters.proofs.Sums.{sums_from, no_quarters, more_quarters}
+use Rattle.engine_quarters.proofs.usual_sum.Goals as goal
+
+pub loop-q-init : goal.loop-q-init
+loop-q-init c = let a = c.args in (omega arith, no_quarters a.request.event _ c.minus-start.result, omega arith)
+
+pub loop-q-preserved : goal.loop-q-preserved
+loop-q-preserved c =
+    let l = c.loop-q in (
+      omega arith,
+      more_quarters _ _ l.q _ l.invariant.1 c.quarter_sum-sum.ensures.0,
+      omega (arith, l.invariant.2, c.quarter_sum-sum.ensures.1),
+    )
+
+pub returns : goal.returns
+unfolding B
+returns c =
+    let l = c.loop-q in
+    let q : l.q ≡ 12 = omega (arith, l.invariant.0, c.loop-q-test.false) in
+    (rw (q, c.minus-start.ensures) at l.invariant.1, omega (arith, q, l.invariant.2))

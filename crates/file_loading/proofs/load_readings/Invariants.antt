@@ -1,0 +1,19 @@
+-- `file_loading::load_readings` meets its contract. The loop's invariant: the days written and those left to write are the whole (`Filling`).
+use Prim.Native.Nat.{ℕ, ◌+◌, ◌-◌, ◌≤◌}
+use mathlib.Core.Path.{◌≡◌, ◌∙◌, ap}
+use native.Mathlib.Omega.{arith}
+use lib.ListN.{length, drop}
+use borrow.Author.Rules.{rules}
+use borrow.Rule.Slice.PartMut.{mid_len}
+use Rattle.method.specs.Table.{size}
+use Rattle.file_record.specs.Reader.{dy_length, numbers, readings_from}
+use Rattle.file_record.specs.Steps.{span_within}
+use Rattle.base_bytes.proofs.Filling.{Filling, filling_none}
+use Rattle.file_loading.proofs.Loading.{start, place, place_none, day_within, part_size, part_within, day_put, readings_loaded}
+use Rattle.file_loading.proofs.load_readings.Given as goal
+
+abbrev pub invariant-loop-k : goal.invariant-loop-k
+invariant-loop-k l = (l.span.start ≤ l.k) × (l.k ≤ l.span.end) × Filling l.initial.readings (span_within l.shape l.span l.file).readings l.readings (readings_from (l.span.end - l.k) (l.shape.first + l.k) (drop (start l.shape l.k) l.file)) (place l.shape l.span l.k)
+
+abbrev pub decreases-loop-k : goal.decreases-loop-k
+decreases-loop-k l = l.span.end - l.k

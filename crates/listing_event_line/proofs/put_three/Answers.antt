@@ -1,0 +1,14 @@
+-- `listing_event_line::put_three` meets its contract: three pieces in a row.
+use native.Mathlib.Omega.{arith}
+use borrow.Author.Rules.{rules}
+use Rattle.base_digits.specs.Digits.{dec}
+use Rattle.listing_lines.proofs.Writing.{placed, then_both}
+use Rattle.listing_lines.proofs.Lines.{three_fields}
+use Rattle.listing_event_line.proofs.put_three.Goals as goal
+
+pub returns : goal.returns
+returns c =
+    let r = c.args.request in
+    let first = placed c.put_number-first.ensures.0 (omega arith) in
+    let second = then_both (dec r.s) first c.put_field-second.ensures.0 (omega arith) in
+    (rw three_fields at (then_both (dec r.e) second c.put_field.ensures.0 (omega arith)), omega arith)
