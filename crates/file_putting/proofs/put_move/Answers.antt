@@ -1,0 +1,15 @@
+-- `file_putting::put_move` meets its contract (`Putting`).
+use native.Mathlib.Omega.{arith}
+use borrow.Author.Rules.{rules}
+use lib.ListN.{length-set}
+use Rattle.file_putting.proofs.Putting.{move_kept, move_put}
+use Rattle.file_putting.proofs.put_move.Goals as goal
+
+pub returns-then-out-lt-MV_LENGTH : goal.returns-then-out-lt-MV_LENGTH
+returns-then-out-lt-MV_LENGTH c = let a = c.args in move_kept a.out.now a.old a.new (omega arith)
+
+pub returns : goal.returns
+returns c =
+    let a = c.args in
+    let h = c.put_head in
+    move_put a.out.now h.new.out a.old a.new (omega arith) h.ensures

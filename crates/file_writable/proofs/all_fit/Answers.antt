@@ -1,0 +1,27 @@
+use Prim.Native.Nat.{◌*◌, ◌-◌, ◌/◌, ◌≤◌}
+use mathlib.Core.Path.{◌≡◌, refl, sym, ◌∙◌}
+use native.Mathlib.Omega.{arith}
+use borrow.Author.Rules.{rules}
+use lib.ListN.{length, drop}
+use Rattle.base_lists.specs.Lists.{all}
+use Rattle.file_record.specs.Layout.{fits_event}
+use Rattle.file_record.specs.Writer.{events_of}
+use Rattle.file_writable.proofs.Tests.{one_fits, one_does_not, none_left}
+use Rattle.file_writable.proofs.all_fit.Goals as goal
+
+pub loop-i-preserved : goal.loop-i-preserved
+loop-i-preserved c =
+    let l = c.loop-i in
+    let a = c.args in
+    (omega arith, one_fits a.events.now l.i l.invariant.1 (omega arith) (sym c.event_fits.ensures ∙ c.if-event_fits.true))
+
+pub returns-else-event_fits : goal.returns-else-event_fits
+returns-else-event_fits c =
+    let l = c.loop-i in
+    let a = c.args in
+    one_does_not a.events.now l.i l.invariant.1 (omega arith) (sym c.event_fits.ensures ∙ c.if-event_fits.false)
+
+pub returns : goal.returns
+returns c =
+    let l = c.loop-i in
+    none_left c.args.events.now l.i l.invariant.1 (omega arith)

@@ -1,0 +1,16 @@
+-- `listing_event::put_answer` meets its contract: the event line, and the quarter lines.
+use native.Mathlib.Omega.{arith}
+use mir.Syntax.{w64}
+use mir.ValLaws.{to_z-of_z}
+use borrow.Author.Rules.{rules}
+use Rattle.listing_lines.specs.Lines.{lines_text}
+use Rattle.listing_lines.proofs.Writing.{then, whole}
+use Rattle.listing_event.proofs.put_answer.Goals as goal
+
+pub returns : goal.returns
+unfolding lines_text
+returns c =
+    let a = c.args.answer in
+    let back = to_z-of_z w64 a.adjustment (record { sfits = c.struct_told-1.given.1.1.1.0.1 }) in
+    let line = whole (omega arith) (rw back at c.put_event_line-next.ensures) in
+    (then line (whole (omega (arith, c.put_event_line-next.ensures.most)) c.put_quarters.ensures), omega (arith, c.put_event_line-next.ensures.most, c.put_quarters.ensures.most))

@@ -1,0 +1,27 @@
+use Prim.Native.Nat.{◌+◌, ◌*◌, ◌-◌, ◌≤◌}
+use mathlib.Core.Path.{◌≡◌, refl}
+use native.Mathlib.Omega.{arith}
+use native.Mathlib.Nat.{sub-zero}
+use lib.ListN.{length}
+use borrow.Author.Rules.{rules}
+use Rattle.listing_lines.specs.WriteSteps.{event_texts}
+use Rattle.listing_lines.proofs.Writing.{Writing, writing_begin, same_length as still_as_long}
+use Rattle.listing_event.specs.Room.{lines_room}
+use Rattle.listing_whole.proofs.Whole.{events_next, events_end}
+use Rattle.listing_whole.proofs.put_events.Goals as goal
+
+pub loop-place-init : goal.loop-place-init
+loop-place-init c = (rw sub-zero (writing_begin _ (omega arith)), omega arith, omega arith, refl)
+
+pub loop-place-preserved : goal.loop-place-preserved
+loop-place-preserved c =
+    let l = c.loop-place in
+    let a = c.args in
+    let next = events_next a.file.now a.shape.events l.place l.invariant.0 (omega arith) (omega arith) c.put_event-next.ensures in
+    (next, omega arith, omega (arith, c.put_event-next.ensures.most), still_as_long next.so_far)
+
+pub returns : goal.returns
+returns c =
+    let l = c.loop-place in
+    let a = c.args in
+    (events_end a.file.now a.shape.events l.place l.invariant.0 (omega arith), omega arith)

@@ -1,0 +1,21 @@
+-- `listing_whole::put_events` meets its contract. The loop's invariant: all but the texts of the events from `place` on is written.
+use Prim.Native.Nat.{◌+◌, ◌*◌, ◌-◌, ◌≤◌}
+use mathlib.Core.Path.{◌≡◌, refl}
+use native.Mathlib.Omega.{arith}
+use native.Mathlib.Nat.{sub-zero}
+use lib.ListN.{length}
+use borrow.Author.Rules.{rules}
+use Rattle.listing_lines.specs.WriteSteps.{event_texts}
+use Rattle.listing_lines.proofs.Writing.{Writing, writing_begin, same_length as still_as_long}
+use Rattle.listing_event.specs.Room.{lines_room}
+use Rattle.listing_whole.proofs.Whole.{events_next, events_end}
+use Rattle.listing_whole.proofs.put_events.Given as goal
+
+abbrev pub invariant-loop-place : goal.invariant-loop-place
+invariant-loop-place l = (Writing l.initial.out l.at (event_texts l.file l.events 0) l.next l.out (event_texts l.file (l.events - l.place) l.place))
+    × (l.place ≤ l.events)
+    × (l.next ≤ l.at + lines_room * l.place)
+    × (length l.out ≡ length l.initial.out)
+
+abbrev pub decreases-loop-place : goal.decreases-loop-place
+decreases-loop-place l = l.events - l.place

@@ -1,0 +1,11 @@
+-- `listing_whole::put_listing` meets its contract: a refused file's line, or the listing of a file.
+use mathlib.Core.Path.{sym, ◌∙◌}
+use native.Mathlib.Omega.{arith}
+use borrow.Author.Rules.{rules}
+use Rattle.listing_whole.proofs.Whole.{refusal_listed}
+use Rattle.listing_whole.proofs.put_listing.Goals as goal
+
+pub returns-in-Refused : goal.returns-in-Refused
+returns-in-Refused c =
+    let refused = sym c.read_file.ensures ∙ c.in-Refused.is in
+    (refusal_listed c.args.file.now (omega arith) refused c.opening.ensures, omega (arith, c.opening.ensures.most))
