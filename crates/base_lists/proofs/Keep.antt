@@ -1,16 +1,15 @@
 -- Laws of `keep`, `member`, `any` and `least_of`, and of `all` over what is kept, each by induction on the list.
 use mathlib.Core.Path.{◌≡◌, refl, sym, ap, ◌∙◌}
 use mathlib.Core.Logic.{◌⊎◌, inl, inr, ⊎_elim}
-use mathlib.Core.Bool.{Bool, true, false, cond, ◌&&◌, ◌||◌, or-true, or_assoc, and-false, and_assoc}
+use mathlib.Core.Bool.{Bool, true, false, cond, ◌&&◌, ◌||◌, or-true, and-false}
 use mathlib.Core.List.{List, [], ◌∷◌, ◌++◌, map, map-append}
-use Prim.Native.Nat.{ℕ, zero, suc, ◌+◌, ◌≤◌, ◌<◌}
+use Prim.Native.Nat.{ℕ, zero, suc, ◌≤◌, ◌<◌}
 use native.Mathlib.Omega.{arith}
-use lib.ListN.{length, take, drop, replicate}
-use lib.Seq.{take-take}
+use lib.ListN.{length, take}
 use lib.Dec.{eqb}
 use borrow.Author.Tests.{eq-eqb, eqb-true}
 use Rattle.base_lists.specs.Lists.{keep, all, any, member, least_of}
-use Rattle.base_lists.proofs.Bools.{bool_cases, both, clash, and_left, and_right, either, or_none_left, or_none_right}
+use Rattle.base_lists.proofs.Bools.{both, clash, and_left, and_right, either, or_none_left, or_none_right}
 use Rattle.base_lists.proofs.Members.{member-append}
 
 -- member

@@ -1,5 +1,5 @@
 -- The sum of few numbers of 32 bits is exact, and so is the sum of two such sums.
-use Rattle.std.proofs.Common.{◌≡◌, ℕ, ◌+◌, ◌*◌, ◌%◌, ◌^◌, ◌≤◌, List, length, arith}
+use Rattle.std.proofs.Common.{◌≡◌, ℕ, ◌+◌, ◌%◌, ◌^◌, ◌≤◌, List, length, arith}
 use Rattle.base_lists.specs.Lists.{sum_of}
 use Rattle.base_sums.specs.Steps.{Summed}
 use Rattle.base_lists.proofs.Unique.{unique}

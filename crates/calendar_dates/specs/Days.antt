@@ -1,5 +1,5 @@
 -- 01, "Days and groups": "A day is a number, 0 for 1 January 2000 (a Saturday) to 36,524 for 31 December 2099, Gregorian."
-use Rattle.std.specs.Prelude.{ℕ, ◌+◌, ◌-◌, ◌*◌, ◌/◌, ◌%◌, Bool, true, false, cond, ◌&&◌, List, [], ◌∷◌, get_or, take, leb, ltb, eqb}
+use Rattle.std.specs.Prelude.{ℕ, ◌+◌, ◌-◌, ◌*◌, ◌/◌, ◌%◌, Bool, cond, ◌&&◌, List, [], ◌∷◌, get_or, take, leb, ltb, eqb}
 use Rattle.base_lists.specs.Lists.{sum_of}
 use Rattle.calendar_dates.specs.declared.Date.{Date}
 use Rattle.calendar_dates.specs.declared.Numbered.{Numbered}

@@ -1,6 +1,6 @@
 -- Where the ruler ends, and what stands against a ruler quarter of the one day and of the other.
 use Prim.Native.Nat.{ℕ, ◌+◌, ◌-◌, ◌≤◌, ◌<◌}
-use mathlib.Core.Path.{◌≡◌, sym, ◌∙◌}
+use mathlib.Core.Path.{◌≡◌, sym}
 use Rattle.method.specs.Table.{size as size_of}
 use Rattle.method.specs.Ruler.{ruler_start, ruler_end, against}
 use Rattle.method.proofs.Ruler.{quarter_before, quarter_from}

@@ -1,8 +1,7 @@
 -- Adjustment windows: what a run of present readings says of one that ends there, and that none reaches over a missing reading.
-use Rattle.std.proofs.Common.{◌≡◌, ℕ, zero, suc, ◌+◌, ◌-◌, ◌%◌, ◌^◌, ◌<◌, ◌≤◌, true, false, not, eqb, leb, List, ◌++◌, length, get_or, take, drop, sym, refl, ap, ◌∙◌, ⊎_elim, add-zero, add-suc, add-one, arith, length-append, length-take, get_or-append-add, ne_eqb, eqb-true, le-leb}
+use Rattle.std.proofs.Common.{◌≡◌, ℕ, zero, suc, ◌+◌, ◌-◌, ◌%◌, ◌^◌, ◌<◌, ◌≤◌, true, false, not, eqb, leb, List, ◌++◌, length, get_or, take, drop, sym, refl, ap, ◌∙◌, ⊎_elim, add-zero, add-suc, add-one, arith, length-take, ne_eqb, eqb-true, le-leb}
 use mathlib.Core.Bool.{and-false}
 use borrow.Author.Tests.{lt-leb, eqb-false}
-use lib.ListN.{get_or-eq_default}
 use Rattle.base_lists.specs.Lists.{all, sum_of}
 use Rattle.base_lists.proofs.All.{all_before, all_lacks}
 use Rattle.base_lists.proofs.Bools.{bool_cases}

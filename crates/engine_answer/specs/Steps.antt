@@ -1,5 +1,5 @@
 -- 01, "Refusal numbers": what is told of a refusal.
-use Rattle.std.specs.Prelude.{ℕ, List, [], ◌∷◌, length, get_or}
+use Rattle.std.specs.Prelude.{ℕ, [], ◌∷◌, length, get_or}
 use Rattle.method.specs.declared.Refusal.{Refusal}
 use Rattle.method.specs.Verdict.{number, carries}
 use Rattle.engine_answer.specs.declared.Told.{Told}

@@ -1,7 +1,6 @@
 -- The numbers of a request say what its rules do, by either method and on a day of any group.
-use mathlib.Core.Path.{◌≡◌, refl}
+use mathlib.Core.Path.{refl}
 use mathlib.Core.Bool.{Bool, true, false, cond}
-use Prim.Native.Nat.{ℕ}
 use native.Mathlib.Omega.{arith}
 use Rattle.base_lists.specs.Lists.{places}
 use Rattle.calendar_groups.specs.declared.Group.{Group}

@@ -1,5 +1,5 @@
 -- What is told of an answered event leads to its answer.
-use Prim.Native.Nat.{ℕ, ◌-◌, ◌/◌, ◌≤◌, ◌<◌}
+use Prim.Native.Nat.{ℕ, ◌/◌, ◌≤◌, ◌<◌}
 use mathlib.Core.Path.{◌≡◌, refl, sym, ap, ◌∙◌}
 use mathlib.Core.Bool.{true, false, not, ◌||◌}
 use mathlib.Core.List.{List}
@@ -22,7 +22,7 @@ use Rattle.method.specs.Method.{outcome}
 use Rattle.method.proofs.Ruler.{day_most}
 use Rattle.method.proofs.Replies.{never_both}
 use Rattle.method_laws.proofs.ByList.{by_bad, by_answered}
-use Rattle.method_working.specs.Working.{rank, chooses, ends, adjusts, answers}
+use Rattle.method_working.specs.Working.{chooses, ends, adjusts, answers}
 use Rattle.method_working.specs.Sheet.{sheet_of}
 use Rattle.method_working.proofs.Leads.{leads, has_baseline}
 use Rattle.engine_refusals.specs.declared.Tested.TheVariants.{Passed}

@@ -2,7 +2,6 @@
 use Prim.Native.Nat.{◌≤◌}
 use mathlib.Core.Path.{refl, ◌∙◌}
 use native.Mathlib.Omega.{arith}
-use borrow.Author.Rules.{rules}
 use lib.ListN.{length, drop_of_length-le}
 use Rattle.base_bytes.proofs.Bytes.{four_set}
 use Rattle.base_bytes.specs.Bytes.{bytes}

@@ -1,11 +1,5 @@
-use Prim.Native.Nat.{◌+◌, ◌*◌, ◌-◌, ◌≤◌}
-use mathlib.Core.Path.{◌∙◌}
 use native.Mathlib.Omega.{arith}
-use lib.ListN.{length, drop}
-use borrow.Rule.Slice.PartMut.{mid_len}
-use Rattle.base_bytes.proofs.Filling.{Filling, filling_none}
 use Rattle.base_bytes.proofs.Bytes.{number_put, numbers_put, numbers_kept}
-use Rattle.base_bytes.specs.Bytes.{reading_bytes}
 use Rattle.base_bytes.proofs.put_numbers.Goals as goal
 
 pub returns-then-out-numbers : goal.returns-then-out-numbers

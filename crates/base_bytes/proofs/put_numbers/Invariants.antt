@@ -1,11 +1,7 @@
 -- `base_bytes::put_numbers` meets its contract. The loop's invariant: the bytes written and those left to write are the whole (`Filling`).
-use Prim.Native.Nat.{◌+◌, ◌*◌, ◌-◌, ◌≤◌}
-use mathlib.Core.Path.{◌∙◌}
-use native.Mathlib.Omega.{arith}
+use Prim.Native.Nat.{◌*◌, ◌-◌, ◌≤◌}
 use lib.ListN.{length, drop}
-use borrow.Rule.Slice.PartMut.{mid_len}
-use Rattle.base_bytes.proofs.Filling.{Filling, filling_none}
-use Rattle.base_bytes.proofs.Bytes.{number_put, numbers_put, numbers_kept}
+use Rattle.base_bytes.proofs.Filling.{Filling}
 use Rattle.base_bytes.specs.Bytes.{reading_bytes}
 use Rattle.base_bytes.proofs.put_numbers.Given as goal
 

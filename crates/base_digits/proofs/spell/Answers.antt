@@ -1,8 +1,4 @@
-use mathlib.Core.Path.{refl}
-use mathlib.Core.List.{[], append-nil}
-use native.Mathlib.Omega.{arith}
-use Rattle.base_digits.specs.Digits.{dec}
-use Rattle.base_digits.proofs.Spelling.{Spelling, room, one_more, last_one}
+use Rattle.base_digits.proofs.Spelling.{room, one_more, last_one}
 use Rattle.base_digits.proofs.spell.Goals as goal
 
 pub overflow_sub-start : goal.overflow_sub-start

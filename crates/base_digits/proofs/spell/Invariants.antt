@@ -1,9 +1,5 @@
 -- `base_digits::spell` meets its contract. The loop's invariant: what is left of the number, spelt, and the bytes so far are the whole (`Spelling`).
-use mathlib.Core.Path.{refl}
-use mathlib.Core.List.{[], append-nil}
-use native.Mathlib.Omega.{arith}
-use Rattle.base_digits.specs.Digits.{dec}
-use Rattle.base_digits.proofs.Spelling.{Spelling, room, one_more, last_one}
+use Rattle.base_digits.proofs.Spelling.{Spelling}
 use Rattle.base_digits.proofs.spell.Given as goal
 
 abbrev pub invariant-loop-rest : goal.invariant-loop-rest

@@ -2,7 +2,6 @@
 use Prim.Native.Nat.{◌<◌}
 use native.Mathlib.Omega.{arith}
 use lib.ListN.{length}
-use borrow.Author.Rules.{rules}
 use Rattle.base_digits.specs.Digits.{dec}
 use Rattle.base_digits.proofs.Digits.{dec-length}
 use Rattle.base_digits.proofs.Spelling.{sign_room, signed}

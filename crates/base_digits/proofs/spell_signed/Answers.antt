@@ -1,10 +1,7 @@
 -- `base_digits::spell_signed` meets its contract: the text of either sign (`Signed`).
-use native.Mathlib.Omega.{arith}
-use borrow.Author.Rules.{rules}
-use lib.Signed.{nat_abs-le}
 use mir.Syntax.{w64}
 use mir.ValLaws.{to_z-of_z}
-use Rattle.base_digits.proofs.Signed.{not_negative, negative, other}
+use Rattle.base_digits.proofs.Signed.{negative, other}
 use Rattle.base_digits.proofs.spell_signed.Goals as goal
 
 pub returns-then-z-lt0 : goal.returns-then-z-lt0

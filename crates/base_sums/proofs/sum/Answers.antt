@@ -1,4 +1,4 @@
-use Rattle.std.proofs.Common.{◌≡◌, ◌+◌, ◌-◌, ◌*◌, ◌%◌, ◌^◌, ◌<◌, ◌≤◌, length, drop, ap, arith, drop_of_length-le, rules}
+use Rattle.std.proofs.Common.{ap, arith, drop_of_length-le}
 use Rattle.base_lists.specs.Lists.{sum_of}
 use Rattle.base_lists.proofs.Sums.{sum_step}
 use Rattle.base_sums.proofs.sum.Goals as goal

@@ -1,8 +1,7 @@
 -- `base_sums::sum` meets its contract. The invariant: the total and what is left to add, as a number of 64 bits, is the sum;
 -- what was passed is at most 2 ^ 32 - 1 a number.
-use Rattle.std.proofs.Common.{◌≡◌, ◌+◌, ◌-◌, ◌*◌, ◌%◌, ◌^◌, ◌<◌, ◌≤◌, length, drop, ap, arith, drop_of_length-le, rules}
+use Rattle.std.proofs.Common.{◌≡◌, ◌+◌, ◌*◌, ◌%◌, ◌^◌, ◌<◌, ◌≤◌, length, drop}
 use Rattle.base_lists.specs.Lists.{sum_of}
-use Rattle.base_lists.proofs.Sums.{sum_step}
 use Rattle.base_sums.proofs.sum.Given as goal
 
 abbrev pub invariant-loop-i : goal.invariant-loop-i

@@ -1,7 +1,7 @@
 -- `base_sums::sum_between` meets its contract: the part ends where the list does.
-use Rattle.std.proofs.Common.{ℕ, ◌-◌, take, drop, refl, ap, ◌∙◌, arith, rules}
+use Rattle.std.proofs.Common.{refl, arith}
 use Rattle.base_lists.specs.Lists.{sum_of}
-use Rattle.base_lists.proofs.Parts.{part_within, no_part}
+use Rattle.base_lists.proofs.Parts.{no_part}
 use Rattle.base_sums.proofs.sum_between.Goals as goal
 
 pub returns-else-start-last : goal.returns-else-start-last

@@ -1,7 +1,5 @@
-use Prim.Native.Nat.{◌-◌}
 use native.Mathlib.Omega.{arith}
-use lib.ListN.{length}
-use Rattle.base_text.proofs.Copying.{Copying, past, too_long, none_yet, one_more, all_in}
+use Rattle.base_text.proofs.Copying.{past, too_long, one_more, all_in}
 use Rattle.base_text.proofs.put_bytes.Goals as goal
 
 pub returns-then-out-at : goal.returns-then-out-at

@@ -1,8 +1,7 @@
 -- `base_text::put_bytes` meets its contract. The loop's invariant: the first `i` bytes are in (`Copying`).
 use Prim.Native.Nat.{◌-◌}
-use native.Mathlib.Omega.{arith}
 use lib.ListN.{length}
-use Rattle.base_text.proofs.Copying.{Copying, past, too_long, none_yet, one_more, all_in}
+use Rattle.base_text.proofs.Copying.{Copying}
 use Rattle.base_text.proofs.put_bytes.Given as goal
 
 abbrev pub invariant-loop-i : goal.invariant-loop-i

@@ -1,6 +1,5 @@
 -- `base_text::put_field` meets its contract: the three ways out (`both_past`, `both_in`, `neither`).
 use native.Mathlib.Omega.{arith}
-use borrow.Author.Rules.{rules}
 use Rattle.base_text.proofs.Field.{both_past, both_in, neither}
 use Rattle.base_text.proofs.put_field.Goals as goal
 

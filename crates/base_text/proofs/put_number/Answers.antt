@@ -1,5 +1,4 @@
 -- `base_text::put_number` meets its contract: what is spelt is what is put.
-use borrow.Author.Rules.{rules}
 use Rattle.base_text.proofs.Numbers.{number_ends, number_put}
 use Rattle.base_text.proofs.put_number.Goals as goal
 

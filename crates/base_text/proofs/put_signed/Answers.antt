@@ -1,7 +1,6 @@
 -- `base_text::put_signed` meets its contract: what is spelt is what is put.
 use mir.Syntax.{w64}
 use mir.ValLaws.{to_z-of_z}
-use borrow.Author.Rules.{rules}
 use Rattle.base_text.proofs.Numbers.{signed_ends, signed_put}
 use Rattle.base_text.proofs.put_signed.Goals as goal
 

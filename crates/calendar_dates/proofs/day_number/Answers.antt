@@ -1,7 +1,6 @@
 -- `calendar_dates::day_number` meets its contract: each test that fails makes the definition NoSuchDate; a month's length is the difference of two sums.
 use mathlib.Core.Bool.{and-false}
 use mathlib.Core.Path.{◌∙◌}
-use borrow.Author.Rules.{rules}
 use borrow.Author.Tests.{lt-leb, le-leb}
 use Rattle.base_lists.proofs.Sums.{sum_before}
 use Rattle.calendar_dates.specs.Days.{months, is_date, numbered}

@@ -1,6 +1,5 @@
 -- `calendar_dates::months_over` meets its contract: both ways out are laws of Months.
 use native.Mathlib.Omega.{arith}
-use borrow.Author.Rules.{rules}
 use Rattle.calendar_dates.proofs.Months.{over_least, over_so, over_next}
 use Rattle.calendar_dates.proofs.months_over.Goals as goal
 

@@ -1,6 +1,5 @@
 -- `calendar_dates::new_year` meets its contract: the definition is the code's sum, and small.
 use native.Mathlib.Omega.{arith}
-use borrow.Author.Rules.{rules}
 use Rattle.calendar_dates.specs.Days.{new_year}
 use Rattle.calendar_dates.proofs.new_year.Goals as goal
 

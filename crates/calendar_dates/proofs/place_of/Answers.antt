@@ -1,5 +1,4 @@
 -- `calendar_dates::place_of` meets its contract: the definition's parts, one by one.
-use borrow.Author.Rules.{rules}
 use Rattle.calendar_dates.specs.Days.{year_of}
 use Rattle.calendar_dates.specs.Steps.{place_of}
 use Rattle.calendar_dates.proofs.Dates.{passed_is}

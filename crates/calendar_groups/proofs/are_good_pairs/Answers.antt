@@ -1,10 +1,5 @@
-use Prim.Native.Nat.{◌*◌, ◌-◌, ◌/◌, ◌≤◌}
-use mathlib.Core.Path.{◌≡◌, refl, sym, ◌∙◌}
-use mathlib.Core.Bool.{◌&&◌}
+use mathlib.Core.Path.{sym, ◌∙◌}
 use native.Mathlib.Omega.{arith}
-use borrow.Author.Rules.{rules}
-use lib.ListN.{length, drop}
-use Rattle.calendar_groups.specs.Holidays.{good_pairs}
 use Rattle.calendar_groups.proofs.Moves.{one_good, half_bad, none_left}
 use Rattle.calendar_groups.proofs.are_good_pairs.Goals as goal
 

@@ -1,12 +1,9 @@
 -- `calendar_groups::are_good_pairs` meets its contract. The invariant: what was found so far, and the pairs from `k` on, are all.
-use Prim.Native.Nat.{◌*◌, ◌-◌, ◌/◌, ◌≤◌}
-use mathlib.Core.Path.{◌≡◌, refl, sym, ◌∙◌}
+use Prim.Native.Nat.{◌*◌, ◌/◌, ◌≤◌}
+use mathlib.Core.Path.{◌≡◌}
 use mathlib.Core.Bool.{◌&&◌}
-use native.Mathlib.Omega.{arith}
-use borrow.Author.Rules.{rules}
 use lib.ListN.{length, drop}
 use Rattle.calendar_groups.specs.Holidays.{good_pairs}
-use Rattle.calendar_groups.proofs.Moves.{one_good, half_bad, none_left}
 use Rattle.calendar_groups.proofs.are_good_pairs.Given as goal
 
 abbrev pub invariant-loop-k : goal.invariant-loop-k

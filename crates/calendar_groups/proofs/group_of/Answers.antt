@@ -1,7 +1,6 @@
 -- `calendar_groups::group_of` meets its contract: each way out is one case of the definition.
 use mathlib.Core.Bool.{or-true}
 use mathlib.Core.Path.{sym, ◌∙◌}
-use borrow.Author.Rules.{rules}
 use borrow.Author.Tests.{eq-eqb, ne_eqb}
 use Rattle.calendar_groups.specs.Holidays.{group}
 use Rattle.calendar_groups.proofs.group_of.Goals as goal

@@ -1,7 +1,6 @@
 -- `calendar_groups::is_good_list` meets its contract: one law for each way out.
 use mathlib.Core.Path.{sym, ◌∙◌}
 use Rattle.calendar_groups.proofs.Moves.{too_many, bad_pair, by_rising, by_again}
-use borrow.Author.Rules.{rules}
 use Rattle.calendar_groups.proofs.is_good_list.Goals as goal
 
 pub returns-then-moves : goal.returns-then-moves

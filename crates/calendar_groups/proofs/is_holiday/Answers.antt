@@ -1,6 +1,5 @@
 -- `calendar_groups::is_holiday` meets its contract: by the second days of the list, and the two rules.
 use mathlib.Core.Path.{sym, ◌∙◌}
-use borrow.Author.Rules.{rules}
 use Rattle.calendar_groups.proofs.Moves.{replacing, by_easter, by_date, by_none}
 use Rattle.calendar_groups.proofs.is_holiday.Goals as goal
 

@@ -1,12 +1,9 @@
 -- `calendar_groups::is_repeated` meets its contract. The invariant: what was found so far, or the first days from the `k`-th on, is any.
-use Prim.Native.Nat.{◌+◌, ◌*◌, ◌-◌, ◌/◌, ◌≤◌}
-use mathlib.Core.Path.{◌≡◌, refl, sym, ◌∙◌}
+use Prim.Native.Nat.{◌*◌, ◌/◌, ◌≤◌}
+use mathlib.Core.Path.{◌≡◌}
 use mathlib.Core.Bool.{◌||◌}
-use native.Mathlib.Omega.{arith}
-use borrow.Author.Rules.{rules}
 use lib.ListN.{length, drop}
 use Rattle.calendar_groups.specs.Holidays.{first_days, repeated}
-use Rattle.calendar_groups.proofs.Moves.{rest, one_again, none_again}
 use Rattle.calendar_groups.proofs.is_repeated.Given as goal
 
 abbrev pub invariant-loop-k : goal.invariant-loop-k

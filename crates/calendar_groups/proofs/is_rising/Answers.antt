@@ -1,10 +1,5 @@
-use Prim.Native.Nat.{◌*◌, ◌-◌, ◌/◌, ◌≤◌}
-use mathlib.Core.Path.{◌≡◌, refl, sym, ◌∙◌}
-use mathlib.Core.Bool.{◌&&◌}
+use mathlib.Core.Path.{sym, ◌∙◌}
 use native.Mathlib.Omega.{arith}
-use lib.ListN.{length, drop}
-use Rattle.calendar_groups.specs.Holidays.{first_days}
-use Rattle.calendar_groups.specs.Steps.{rising as rises}
 use Rattle.calendar_groups.proofs.Moves.{one_rising, all_rise}
 use Rattle.calendar_groups.proofs.is_rising.Goals as goal
 

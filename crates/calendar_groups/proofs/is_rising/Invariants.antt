@@ -1,12 +1,10 @@
 -- `calendar_groups::is_rising` meets its contract. The invariant: what was found so far, and the first days from the `k`-th on, are all.
 use Prim.Native.Nat.{◌*◌, ◌-◌, ◌/◌, ◌≤◌}
-use mathlib.Core.Path.{◌≡◌, refl, sym, ◌∙◌}
+use mathlib.Core.Path.{◌≡◌}
 use mathlib.Core.Bool.{◌&&◌}
-use native.Mathlib.Omega.{arith}
 use lib.ListN.{length, drop}
 use Rattle.calendar_groups.specs.Holidays.{first_days}
 use Rattle.calendar_groups.specs.Steps.{rising as rises}
-use Rattle.calendar_groups.proofs.Moves.{one_rising, all_rise}
 use Rattle.calendar_groups.proofs.is_rising.Given as goal
 
 abbrev pub invariant-loop-k : goal.invariant-loop-k

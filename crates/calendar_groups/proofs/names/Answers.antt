@@ -1,10 +1,5 @@
-use Prim.Native.Nat.{◌*◌, ◌-◌, ◌/◌, ◌≤◌}
-use mathlib.Core.Path.{◌≡◌, refl, sym, ◌∙◌}
-use mathlib.Core.Bool.{◌||◌}
+use mathlib.Core.Path.{sym, ◌∙◌}
 use native.Mathlib.Omega.{arith}
-use lib.ListN.{length, drop}
-use Rattle.base_lists.specs.Lists.{member}
-use Rattle.calendar_groups.specs.Steps.{days_at}
 use Rattle.calendar_groups.proofs.Moves.{one_named, all_named}
 use Rattle.calendar_groups.proofs.names.Goals as goal
 

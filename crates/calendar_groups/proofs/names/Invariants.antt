@@ -1,12 +1,10 @@
 -- `calendar_groups::names` meets its contract. The invariant: what was found so far, or the day in the pairs from `k` on, is the day in any.
-use Prim.Native.Nat.{◌*◌, ◌-◌, ◌/◌, ◌≤◌}
-use mathlib.Core.Path.{◌≡◌, refl, sym, ◌∙◌}
+use Prim.Native.Nat.{◌*◌, ◌/◌, ◌≤◌}
+use mathlib.Core.Path.{◌≡◌}
 use mathlib.Core.Bool.{◌||◌}
-use native.Mathlib.Omega.{arith}
 use lib.ListN.{length, drop}
 use Rattle.base_lists.specs.Lists.{member}
 use Rattle.calendar_groups.specs.Steps.{days_at}
-use Rattle.calendar_groups.proofs.Moves.{one_named, all_named}
 use Rattle.calendar_groups.proofs.names.Given as goal
 
 abbrev pub invariant-loop-k : goal.invariant-loop-k

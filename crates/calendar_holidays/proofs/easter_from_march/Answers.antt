@@ -1,6 +1,5 @@
 -- `calendar_holidays::easter_from_march` meets its contract: of a date in April, and of one in May, by the laws of EasterTable.
 use native.Mathlib.Omega.{arith}
-use borrow.Author.Rules.{rules}
 use Rattle.calendar_holidays.proofs.EasterTable.{in_april, in_may}
 use Rattle.calendar_holidays.proofs.easter_from_march.Goals as goal
 

@@ -1,6 +1,5 @@
 -- `calendar_holidays::is_easter_holiday` meets its contract: none past the calendar, then each way out is a law of Holidays, at the days passed of the day's year.
 use native.Mathlib.Omega.{arith}
-use borrow.Author.Rules.{rules}
 use borrow.Author.Tests.{le-leb, lt-leb}
 use Rattle.calendar_dates.specs.Steps.{place_of}
 use Rattle.calendar_holidays.specs.Yearly.{is_easter_holiday}

@@ -1,6 +1,5 @@
 -- `calendar_holidays::is_fixed_holiday` meets its contract: none past the calendar, two of the tests before March, six after February.
 use native.Mathlib.Omega.{arith}
-use borrow.Author.Rules.{rules}
 use borrow.Author.Tests.{le-leb, lt-leb}
 use Rattle.calendar_dates.specs.Steps.{place_of}
 use Rattle.calendar_holidays.specs.Yearly.{is_fixed_holiday}

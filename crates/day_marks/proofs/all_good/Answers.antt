@@ -1,9 +1,5 @@
-use Prim.Native.Nat.{◌-◌, ◌≤◌}
-use mathlib.Core.Path.{◌≡◌, sym, ◌∙◌}
-use mathlib.Core.Bool.{◌&&◌}
+use mathlib.Core.Path.{sym, ◌∙◌}
 use borrow.Author.Rules.{rules}
-use lib.ListN.{length, drop}
-use Rattle.base_lists.specs.Lists.{all}
 use Rattle.base_lists.proofs.All.{all_step, all_end}
 use Rattle.method.specs.Table.{good_mark}
 use Rattle.day_marks.proofs.all_good.Goals as goal

@@ -1,11 +1,9 @@
 -- `day_marks::all_good` meets its contract. The invariant: what was found so far, and all from `i` on, is all.
-use Prim.Native.Nat.{◌-◌, ◌≤◌}
-use mathlib.Core.Path.{◌≡◌, sym, ◌∙◌}
+use Prim.Native.Nat.{◌≤◌}
+use mathlib.Core.Path.{◌≡◌}
 use mathlib.Core.Bool.{◌&&◌}
-use borrow.Author.Rules.{rules}
 use lib.ListN.{length, drop}
 use Rattle.base_lists.specs.Lists.{all}
-use Rattle.base_lists.proofs.All.{all_step, all_end}
 use Rattle.method.specs.Table.{good_mark}
 use Rattle.day_marks.proofs.all_good.Given as goal
 

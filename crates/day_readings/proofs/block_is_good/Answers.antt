@@ -1,5 +1,5 @@
 -- `day_readings::block_is_good` meets its contract: by one row of bits put together, or by two.
-use Rattle.std.proofs.Common.{arith, rules, ltb-true}
+use Rattle.std.proofs.Common.{arith, ltb-true}
 use Rattle.day_readings.proofs.Joining.{joined_good, joined_high}
 use Rattle.day_readings.proofs.block_is_good.Goals as goal
 

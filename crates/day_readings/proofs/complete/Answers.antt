@@ -1,5 +1,4 @@
-use Rattle.std.proofs.Common.{◌≡◌, ◌-◌, ◌≤◌, ◌&&◌, length, drop, sym, ◌∙◌, arith, rules}
-use Rattle.base_lists.specs.Lists.{all}
+use Rattle.std.proofs.Common.{sym, ◌∙◌, arith, rules}
 use Rattle.base_lists.proofs.All.{all_step, all_end}
 use Rattle.method.specs.Table.{present}
 use Rattle.day_readings.proofs.Joining.{joined_present}

@@ -1,7 +1,6 @@
-use Rattle.std.proofs.Common.{◌-◌, length, sym, ◌∙◌, rules}
+use Rattle.std.proofs.Common.{sym, ◌∙◌, rules}
 use Rattle.base_lists.proofs.All.{leading_step, leading_stop, leading_end}
 use Rattle.method.specs.Table.{good_reading}
-use Rattle.day_readings.specs.Steps.{GoodBefore}
 use Rattle.day_readings.proofs.first_bad_reading.Goals as goal
 
 pub loop-i-preserved : goal.loop-i-preserved

@@ -1,7 +1,5 @@
 -- `day_readings::first_bad_reading` meets its contract. The invariant: only good readings stand before `i`.
-use Rattle.std.proofs.Common.{◌-◌, length, sym, ◌∙◌, rules}
-use Rattle.base_lists.proofs.All.{leading_step, leading_stop, leading_end}
-use Rattle.method.specs.Table.{good_reading}
+use Rattle.std.proofs.Common.{◌-◌, length}
 use Rattle.day_readings.specs.Steps.{GoodBefore}
 use Rattle.day_readings.proofs.first_bad_reading.Given as goal
 

@@ -1,7 +1,6 @@
-use Rattle.std.proofs.Common.{◌+◌, ◌-◌, length, ◌∙◌, rules}
+use Rattle.std.proofs.Common.{◌+◌, ◌∙◌, rules}
 use Rattle.base_lists.proofs.All.{leading_part}
 use Rattle.method.specs.Table.{most_quarters, good_reading}
-use Rattle.day_readings.specs.Steps.{GoodBefore}
 use Rattle.day_readings.proofs.good_blocks.Goals as goal
 
 pub loop-at-preserved : goal.loop-at-preserved

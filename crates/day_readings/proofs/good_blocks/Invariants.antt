@@ -1,7 +1,5 @@
 -- `day_readings::good_blocks` meets its contract, which is the invariant: only good readings stand before `at`.
-use Rattle.std.proofs.Common.{◌+◌, ◌-◌, length, ◌∙◌, rules}
-use Rattle.base_lists.proofs.All.{leading_part}
-use Rattle.method.specs.Table.{most_quarters, good_reading}
+use Rattle.std.proofs.Common.{◌-◌, length}
 use Rattle.day_readings.specs.Steps.{GoodBefore}
 use Rattle.day_readings.proofs.good_blocks.Given as goal
 

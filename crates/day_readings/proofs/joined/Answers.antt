@@ -1,4 +1,4 @@
-use Rattle.std.proofs.Common.{ℕ, ◌+◌, ◌-◌, ◌%◌, ◌^◌, ◌<◌, ◌≤◌, length, get_or, arith, rules}
+use Rattle.std.proofs.Common.{rules}
 use Rattle.day_readings.proofs.Joining.{joins}
 use Rattle.day_readings.proofs.joined.Goals as goal
 

@@ -1,6 +1,5 @@
 -- `day_readings::joined` meets its contract. The invariant: none of the readings passed, and `more`, is above the bits.
-use Rattle.std.proofs.Common.{ℕ, ◌+◌, ◌-◌, ◌%◌, ◌^◌, ◌<◌, ◌≤◌, length, get_or, arith, rules}
-use Rattle.day_readings.proofs.Joining.{joins}
+use Rattle.std.proofs.Common.{ℕ, ◌+◌, ◌%◌, ◌^◌, ◌<◌, ◌≤◌, length, get_or}
 use Rattle.day_readings.proofs.joined.Given as goal
 
 abbrev pub invariant-loop-i : goal.invariant-loop-i

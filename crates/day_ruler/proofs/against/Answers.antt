@@ -1,6 +1,5 @@
 -- `day_ruler::against` meets its contract.
 use Rattle.day_ruler.proofs.Stands.{stands_before, stands_from}
-use borrow.Author.Rules.{rules}
 use Rattle.day_ruler.proofs.against.Goals as goal
 
 pub returns-then-quarter-today : goal.returns-then-quarter-today

@@ -4,7 +4,6 @@ use native.Mathlib.Omega.{arith}
 use Rattle.day_ruler.proofs.Stands.{ends}
 use Rattle.method.proofs.Tables.{size_most}
 use Rattle.method.proofs.Ruler.{start_size}
-use borrow.Author.Rules.{rules}
 use Rattle.day_ruler.proofs.end.Goals as goal
 
 pub overflow_add-result : goal.overflow_add-result

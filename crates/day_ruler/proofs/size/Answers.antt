@@ -1,7 +1,6 @@
 -- `day_ruler::size` meets its contract.
 use mathlib.Core.Path.{sym}
 use Rattle.method.proofs.Tables.{size_is}
-use borrow.Author.Rules.{rules}
 use Rattle.day_ruler.proofs.size.Goals as goal
 
 pub returns : goal.returns

@@ -2,7 +2,6 @@
 use mathlib.Core.Path.{ap, ◌∙◌}
 use Rattle.method.specs.Table.{size}
 use Rattle.method.proofs.Ruler.{start_size}
-use borrow.Author.Rules.{rules}
 use Rattle.day_ruler.proofs.start.Goals as goal
 
 pub returns : goal.returns

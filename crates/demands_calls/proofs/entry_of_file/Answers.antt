@@ -1,5 +1,4 @@
 -- `host_entries::hp_baseline` meets the demands, by its contract.
-use borrow.Author.Rules.{rules}
 use Rattle.demands.proofs.Entries.{file_entry}
 use Rattle.demands_calls.proofs.entry_of_file.Goals as goal
 

@@ -1,5 +1,4 @@
 -- `host_entries::hp_baseline_table` meets the demands, by its contract.
-use borrow.Author.Rules.{rules}
 use Rattle.demands.proofs.Entries.{table_entry}
 use Rattle.demands_calls.proofs.entry_over_table.Goals as goal
 

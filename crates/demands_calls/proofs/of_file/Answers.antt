@@ -1,5 +1,4 @@
 -- `file_baseline::file_baseline` meets the demands, by its contract.
-use borrow.Author.Rules.{rules}
 use Rattle.demands.proofs.Demands.{demands}
 use Rattle.demands_calls.proofs.of_file.Goals as goal
 

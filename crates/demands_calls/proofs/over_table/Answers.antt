@@ -1,5 +1,4 @@
 -- `table_baseline::baseline` meets the demands, by its contract.
-use borrow.Author.Rules.{rules}
 use Rattle.demands.proofs.Demands.{demands}
 use Rattle.demands_calls.proofs.over_table.Goals as goal
 

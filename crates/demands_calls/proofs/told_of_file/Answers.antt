@@ -1,5 +1,4 @@
 -- `host_entries::hp_told` tells what the answer that meets the demands tells, by its contract.
-use borrow.Author.Rules.{rules}
 use Rattle.host_answer.proofs.Telling.{back}
 use Rattle.demands.proofs.Entries.{file_tells}
 use Rattle.demands_calls.proofs.told_of_file.Goals as goal

@@ -1,5 +1,5 @@
 -- `engine_adjustment::adjustment_end` meets its contract, by the two callees'.
-use Rattle.std.proofs.Common.{sym, ◌∙◌, rules}
+use Rattle.std.proofs.Common.{sym, ◌∙◌}
 use Rattle.method.specs.Adjustment.{adjustment_end}
 use Rattle.engine_adjustment.proofs.adjustment_end.Goals as goal
 

@@ -1,5 +1,4 @@
-use Rattle.std.proofs.Common.{◌≡◌, ◌++◌, sym, ◌∙◌, rules}
-use Rattle.method.specs.Adjustment.{latest_end}
+use Rattle.std.proofs.Common.{◌++◌, sym, ◌∙◌, rules}
 use Rattle.engine_adjustment.proofs.Windows.{whole_run, latest_here, latest_skips, latest_none}
 use Rattle.engine_adjustment.proofs.latest_end.Goals as goal
 

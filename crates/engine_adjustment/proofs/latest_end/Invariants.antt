@@ -1,7 +1,6 @@
 -- `engine_adjustment::latest_end` meets its contract. The invariant: the latest end from `end` down is the one asked for.
-use Rattle.std.proofs.Common.{◌≡◌, ◌++◌, sym, ◌∙◌, rules}
+use Rattle.std.proofs.Common.{◌≡◌, ◌++◌}
 use Rattle.method.specs.Adjustment.{latest_end}
-use Rattle.engine_adjustment.proofs.Windows.{whole_run, latest_here, latest_skips, latest_none}
 use Rattle.engine_adjustment.proofs.latest_end.Given as goal
 
 abbrev pub invariant-loop-end : goal.invariant-loop-end

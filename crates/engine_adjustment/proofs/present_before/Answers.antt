@@ -1,6 +1,5 @@
-use Rattle.std.proofs.Common.{◌≡◌, ◌-◌, ◌≤◌, true, ◌++◌, take, drop, sym, ◌∙◌, arith, rules}
+use Rattle.std.proofs.Common.{◌++◌, rules}
 use Rattle.base_lists.specs.Lists.{all}
-use Rattle.method.specs.Table.{present}
 use Rattle.engine_adjustment.proofs.Windows.{run_more}
 use Rattle.engine_adjustment.proofs.present_before.Goals as goal
 

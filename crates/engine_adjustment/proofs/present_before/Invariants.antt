@@ -1,8 +1,7 @@
 -- `engine_adjustment::present_before` meets its contract. The invariant: the `run` readings before `end` are present.
-use Rattle.std.proofs.Common.{◌≡◌, ◌-◌, ◌≤◌, true, ◌++◌, take, drop, sym, ◌∙◌, arith, rules}
+use Rattle.std.proofs.Common.{◌≡◌, ◌-◌, ◌≤◌, true, ◌++◌, take, drop}
 use Rattle.base_lists.specs.Lists.{all}
 use Rattle.method.specs.Table.{present}
-use Rattle.engine_adjustment.proofs.Windows.{run_more}
 use Rattle.engine_adjustment.proofs.present_before.Given as goal
 
 abbrev pub invariant-loop-run : goal.invariant-loop-run

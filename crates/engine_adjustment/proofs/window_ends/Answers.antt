@@ -1,5 +1,5 @@
 -- `engine_adjustment::window_ends` meets its contract: too early, or by what the run of present readings says.
-use Rattle.std.proofs.Common.{◌++◌, sym, rules}
+use Rattle.std.proofs.Common.{◌++◌, sym}
 use Rattle.engine_adjustment.proofs.Windows.{too_early, run_says}
 use Rattle.engine_adjustment.proofs.window_ends.Goals as goal
 

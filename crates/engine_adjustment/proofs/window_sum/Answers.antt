@@ -1,5 +1,5 @@
 -- `engine_adjustment::window_sum` meets its contract: the sums of the two days' parts, put together.
-use Rattle.std.proofs.Common.{◌∙◌, rules}
+use Rattle.std.proofs.Common.{◌∙◌}
 use Rattle.engine_adjustment.proofs.Windows.{window_parts}
 use Rattle.engine_adjustment.proofs.window_sum.Goals as goal
 

@@ -1,5 +1,4 @@
 -- `engine_answer::tell` meets its contract, refusal by refusal.
-use borrow.Author.Rules.{rules}
 use Rattle.engine_answer.specs.Steps.{told_of}
 use Rattle.engine_answer.proofs.tell.Goals as goal
 

@@ -1,11 +1,10 @@
 -- `engine_baseline::adjusted` meets its contract: each need is a law of `Steps`, at the start (`s`) or where the window's end is known (`e`).
-use mathlib.Core.Path.{refl, sym}
+use mathlib.Core.Path.{refl}
 use native.Mathlib.Omega.{arith}
-use borrow.Author.Rules.{rules}
 use lib.ListN.{length}
 use Rattle.engine_answer.proofs.Laws.{refuses}
 use Rattle.engine_numerators.proofs.Windows.{all-small}
-use Rattle.engine_baseline.proofs.Steps.{no_window, ranges, room_enough, room_long, adjusted_back, adjusted_answers}
+use Rattle.engine_baseline.proofs.Steps.{no_window, ranges, room_long, adjusted_back, adjusted_answers}
 use Rattle.engine_baseline.proofs.adjusted.Goals as goal
 
 pub returns-then-end-eq0 : goal.returns-then-end-eq0

@@ -1,7 +1,6 @@
 -- `engine_baseline::average` meets its contract: each need is a law of `Steps`.
-use mathlib.Core.Path.{refl, sym}
+use mathlib.Core.Path.{refl}
 use native.Mathlib.Omega.{arith}
-use borrow.Author.Rules.{rules}
 use lib.ListN.{length}
 use Rattle.engine_baseline.proofs.Steps.{ranges, room_long, averages}
 use Rattle.engine_baseline.proofs.average.Goals as goal

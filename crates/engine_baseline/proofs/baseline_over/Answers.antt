@@ -1,6 +1,5 @@
 -- `engine_baseline::baseline_over` meets its contract: what was found of the request is known at `d`; what was found of the list is searched for.
 use mathlib.Core.Path.{sym, ◌∙◌}
-use borrow.Author.Rules.{rules}
 use lib.ListN.{length}
 use Rattle.engine_answer.proofs.Laws.{refuses}
 use Rattle.engine_baseline.proofs.Steps.{found_so, over_bad, over_refused, fit, over_passed}

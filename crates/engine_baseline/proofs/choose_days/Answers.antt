@@ -1,6 +1,5 @@
 -- `engine_baseline::choose_days` meets its contract: the choice is known at `d`.
 use mathlib.Core.Path.{ap}
-use borrow.Author.Rules.{rules}
 use lib.ListN.{length}
 use Rattle.calendar_groups.specs.Holidays.{group}
 use Rattle.method.specs.Requested.{method_of}

@@ -1,8 +1,7 @@
 -- `engine_choice::choose_among_few` meets its contract: one law a way out.
 use mathlib.Core.Path.{ap, ◌∙◌}
-use borrow.Author.Rules.{rules}
 use Rattle.engine_choice.specs.Steps.{among_few}
-use Rattle.engine_choice.proofs.WholeChoice.{short_of_days, enough_days, filled_few}
+use Rattle.engine_choice.proofs.WholeChoice.{short_of_days, enough_days}
 use Rattle.engine_choice.proofs.choose_among_few.Goals as goal
 
 pub returns-then-before-reach : goal.returns-then-before-reach

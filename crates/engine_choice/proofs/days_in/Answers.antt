@@ -1,11 +1,9 @@
-use Prim.Native.Nat.{ℕ, ◌≤◌, ◌-◌}
-use mathlib.Core.Path.{◌≡◌, refl, ap, ◌∙◌}
+use Prim.Native.Nat.{ℕ}
+use mathlib.Core.Path.{ap, ◌∙◌}
 use mathlib.Core.List.{List}
 use native.Mathlib.Omega.{arith}
-use borrow.Author.Rules.{rules}
 use lib.ListN.{set}
-use Rattle.engine_answer.specs.Answer.{in_five}
-use Rattle.engine_choice.specs.Steps.{word_day, days_in}
+use Rattle.engine_choice.specs.Steps.{word_day}
 use Rattle.engine_choice.proofs.Five.{five_from}
 use Rattle.engine_choice.proofs.days_in.Goals as goal
 

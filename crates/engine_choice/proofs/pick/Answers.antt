@@ -1,7 +1,5 @@
 -- `engine_choice::pick` meets its contract: none is taken, or some are.
 use mathlib.Core.Path.{◌∙◌}
-use native.Mathlib.Omega.{arith}
-use borrow.Author.Rules.{rules}
 use Rattle.engine_choice.proofs.WholeChoice.{picked_none, picked_some}
 use Rattle.engine_choice.proofs.pick.Goals as goal
 

@@ -1,5 +1,4 @@
 -- `engine_example::baseline_apart` meets its contract, from what its rooms show alone.
-use borrow.Author.Rules.{rules}
 use lib.ListN.{length}
 use Rattle.method.specs.Table.{history}
 use Rattle.engine_baseline.proofs.Store.{words}

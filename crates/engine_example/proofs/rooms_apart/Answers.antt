@@ -2,7 +2,6 @@
 use Prim.Native.Nat.{◌+◌, ◌-◌}
 use mathlib.Core.Path.{refl, ap}
 use native.Mathlib.Omega.{arith}
-use borrow.Author.Rules.{rules}
 use Rattle.method.proofs.Tables.{size_most}
 use Rattle.engine_example.proofs.Apart.{no_day, too_short, both_agree}
 use Rattle.engine_example.proofs.rooms_apart.Goals as goal

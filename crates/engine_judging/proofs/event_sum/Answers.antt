@@ -1,5 +1,4 @@
 -- `engine_judging::event_sum` meets its contract.
-use borrow.Author.Rules.{rules}
 use Rattle.engine_judging.proofs.Judging.{event_part}
 use Rattle.engine_judging.proofs.event_sum.Goals as goal
 

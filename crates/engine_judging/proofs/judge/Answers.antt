@@ -1,6 +1,5 @@
 -- `engine_judging::judge` meets its contract: one law a way out.
 use mathlib.Core.Path.{sym, ◌∙◌}
-use borrow.Author.Rules.{rules}
 use Rattle.engine_judging.proofs.Judging.{judged_out, judged_lacking, judged_as_spare, judged_as_eligible}
 use Rattle.engine_judging.proofs.judge.Goals as goal
 

@@ -1,7 +1,6 @@
-use Prim.Native.Nat.{ℕ, ◌+◌, ◌-◌, ◌<◌}
+use Prim.Native.Nat.{◌+◌, ◌-◌}
 use mathlib.Core.Path.{◌∙◌, ap}
 use native.Mathlib.Omega.{arith}
-use borrow.Author.Rules.{rules}
 use lib.ListN.{get_or}
 use Rattle.calendar_groups.specs.Holidays.{group as group_of}
 use Rattle.engine_relevant.specs.Steps.{relevant_to}
@@ -9,7 +8,7 @@ use Rattle.engine_judging.specs.Steps.{day_from}
 use Rattle.engine_look_back.specs.Steps.{rooms_of}
 use Rattle.engine_look_back.proofs.Held.{before_is}
 use Rattle.engine_look_back.proofs.Judging.{room_back, part_most}
-use Rattle.engine_look_back.proofs.Looking.{Back, back_start, back_further, back_more, back_full, back_end}
+use Rattle.engine_look_back.proofs.Looking.{back_start, back_further, back_more, back_full, back_end}
 use Rattle.engine_look_back.proofs.look.Goals as goal
 
 pub loop-back-init : goal.loop-back-init

@@ -2,7 +2,6 @@
 use Prim.Native.Nat.{ℕ, ◌-◌}
 use mathlib.Core.Path.{refl, sym, ◌∙◌}
 use native.Mathlib.Omega.{arith}
-use borrow.Author.Rules.{rules}
 use Rattle.calendar_groups.specs.Holidays.{group as group_of}
 use Rattle.method.specs.Table.{Day}
 use Rattle.engine_relevant.specs.Steps.{relevant_to}

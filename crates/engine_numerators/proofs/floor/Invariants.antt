@@ -1,16 +1,8 @@
 -- `engine_numerators::floor` meets its contract.
 use Prim.Native.Nat.{◌-◌, ◌%◌, ◌^◌}
-use borrow.Author.Rules.{rules}
 use lib.ListN.{length, get_or}
-use mathlib.Core.Path.{ap, ◌∙◌}
-use Rattle.base_lists.proofs.Places.{Storing, storing_begin, storing_here, storing_next, storing_end}
-use mathlib.Core.List.{map}
-use lib.IntN.{ℤ}
-use mir.Syntax.{w64}
-use mir.Val.{to_z, of_z}
-use mir.ValLaws.{to_z-of_z}
+use Rattle.base_lists.proofs.Places.{Storing}
 use Rattle.method.specs.Adjustment.{floored, unfloored}
-use Rattle.base_lists.specs.Lists.{places}
 use Rattle.engine_numerators.proofs.floor.Given as goal
 
 abbrev pub invariant-loop-q : goal.invariant-loop-q

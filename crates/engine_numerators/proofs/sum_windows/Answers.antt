@@ -1,8 +1,6 @@
-use Prim.Native.Nat.{◌+◌, ◌-◌, ◌≤◌}
+use Prim.Native.Nat.{◌+◌}
 use mathlib.Core.Path.{◌≡◌, refl}
 use native.Mathlib.Omega.{arith}
-use borrow.Author.Rules.{rules}
-use lib.ListN.{take}
 use Rattle.base_lists.specs.Lists.{sum_of}
 use Rattle.engine_numerators.specs.NumeratorSteps.{window_sums}
 use Rattle.engine_numerators.proofs.Windows.{all-small, windows_few, windows_next}

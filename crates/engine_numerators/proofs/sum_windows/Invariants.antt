@@ -1,12 +1,8 @@
 -- `engine_numerators::sum_windows` meets its contract. The loop's invariant: the total of the first `k` days.
-use Prim.Native.Nat.{◌+◌, ◌-◌, ◌≤◌}
-use mathlib.Core.Path.{◌≡◌, refl}
-use native.Mathlib.Omega.{arith}
-use borrow.Author.Rules.{rules}
+use Prim.Native.Nat.{◌-◌, ◌≤◌}
+use mathlib.Core.Path.{◌≡◌}
 use lib.ListN.{take}
-use Rattle.base_lists.specs.Lists.{sum_of}
 use Rattle.engine_numerators.specs.NumeratorSteps.{window_sums}
-use Rattle.engine_numerators.proofs.Windows.{all-small, windows_few, windows_next}
 use Rattle.engine_numerators.proofs.sum_windows.Given as goal
 
 abbrev pub invariant-loop-k : goal.invariant-loop-k

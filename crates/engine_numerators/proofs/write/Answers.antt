@@ -1,7 +1,7 @@
 -- `engine_numerators::write` meets its contract: the law is `written`.
 use Prim.Native.Nat.{◌<◌, ◌^◌}
 use native.Mathlib.Omega.{arith}
-use borrow.Author.Rules.{rules, sfits_of}
+use borrow.Author.Rules.{sfits_of}
 use lib.ListN.{length}
 use lib.Signed.{mag}
 use mir.Syntax.{w64}

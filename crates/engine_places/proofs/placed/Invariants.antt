@@ -1,11 +1,8 @@
 -- `engine_places::placed` meets its contract. The invariant: the places of the first `k` days are filled.
 use Prim.Native.Nat.{◌-◌, ◌≤◌}
-use mathlib.Core.Path.{◌≡◌, refl, ap, ◌∙◌}
-use native.Mathlib.Omega.{arith}
-use borrow.Author.Rules.{rules}
+use mathlib.Core.Path.{◌≡◌}
 use lib.ListN.{get_or}
-use Rattle.base_lists.proofs.Places.{filled, filled_more, filled_all}
-use Rattle.base_lists.specs.Lists.{places}
+use Rattle.base_lists.proofs.Places.{filled}
 use Rattle.engine_places.proofs.placed.Given as goal
 
 abbrev pub invariant-loop-k : goal.invariant-loop-k

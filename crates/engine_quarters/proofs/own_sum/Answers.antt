@@ -6,7 +6,6 @@ use native.Mathlib.Omega.{arith}
 use Rattle.engine_numerators.proofs.Windows.{all-small, ruler_most}
 use Rattle.engine_quarters.proofs.Sums.{day_small}
 use Rattle.method.specs.Adjustment.{A}
-use borrow.Author.Rules.{rules}
 use Rattle.engine_quarters.proofs.own_sum.Goals as goal
 
 pub returns : goal.returns

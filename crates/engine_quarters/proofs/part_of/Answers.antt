@@ -3,7 +3,6 @@ use mathlib.Core.Path.{ap, ◌∙◌}
 use Rattle.method.specs.Table.{size}
 use Rattle.engine_rooms.specs.Rooms.{readings_at}
 use Rattle.engine_quarters.proofs.Sums.{day_stands}
-use borrow.Author.Rules.{rules}
 use Rattle.engine_quarters.proofs.part_of.Goals as goal
 
 pub returns : goal.returns

@@ -1,12 +1,6 @@
-use Prim.Native.Nat.{◌-◌, ◌*◌, ◌≤◌, min}
-use mathlib.Core.Path.{◌≡◌}
 use native.Mathlib.Omega.{arith}
-use borrow.Author.Rules.{rules}
-use lib.ListN.{take}
-use Rattle.method.specs.Adjustment.{S}
 use Rattle.engine_rooms.specs.Rooms.{room_history}
-use Rattle.engine_baseline.specs.Engine.{with_days}
-use Rattle.engine_quarters.proofs.Sums.{S_none, S_more, take_five}
+use Rattle.engine_quarters.proofs.Sums.{S_none, S_more}
 use Rattle.engine_quarters.proofs.quarter_sum.Goals as goal
 
 pub loop-k-init : goal.loop-k-init

@@ -1,13 +1,10 @@
 -- `engine_quarters::quarter_sum` meets its contract. The loop's invariant: the sum over the first `k` days, and that it is small.
-use Prim.Native.Nat.{◌-◌, ◌*◌, ◌≤◌, min}
+use Prim.Native.Nat.{◌-◌, ◌*◌, ◌≤◌}
 use mathlib.Core.Path.{◌≡◌}
-use native.Mathlib.Omega.{arith}
-use borrow.Author.Rules.{rules}
 use lib.ListN.{take}
 use Rattle.method.specs.Adjustment.{S}
 use Rattle.engine_rooms.specs.Rooms.{room_history}
 use Rattle.engine_baseline.specs.Engine.{with_days}
-use Rattle.engine_quarters.proofs.Sums.{S_none, S_more, take_five}
 use Rattle.engine_quarters.proofs.quarter_sum.Given as goal
 
 abbrev pub invariant-loop-k : goal.invariant-loop-k

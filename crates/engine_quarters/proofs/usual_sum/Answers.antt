@@ -1,12 +1,7 @@
-use Prim.Native.Nat.{◌-◌, ◌*◌, ◌≤◌}
 use mathlib.Core.Path.{◌≡◌}
 use native.Mathlib.Omega.{arith}
-use borrow.Author.Rules.{rules}
-use lib.ListN.{take}
 use Rattle.method.specs.Adjustment.{B}
-use Rattle.engine_rooms.specs.Rooms.{room_history}
-use Rattle.engine_baseline.specs.Engine.{with_days}
-use Rattle.engine_quarters.proofs.Sums.{sums_from, no_quarters, more_quarters}
+use Rattle.engine_quarters.proofs.Sums.{no_quarters, more_quarters}
 use Rattle.engine_quarters.proofs.usual_sum.Goals as goal
 
 pub loop-q-init : goal.loop-q-init

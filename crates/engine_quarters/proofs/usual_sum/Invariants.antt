@@ -1,13 +1,10 @@
 -- `engine_quarters::usual_sum` meets its contract. The loop's invariant: the sum of S over the first `q` quarters of the window.
 use Prim.Native.Nat.{◌-◌, ◌*◌, ◌≤◌}
 use mathlib.Core.Path.{◌≡◌}
-use native.Mathlib.Omega.{arith}
-use borrow.Author.Rules.{rules}
 use lib.ListN.{take}
-use Rattle.method.specs.Adjustment.{B}
 use Rattle.engine_rooms.specs.Rooms.{room_history}
 use Rattle.engine_baseline.specs.Engine.{with_days}
-use Rattle.engine_quarters.proofs.Sums.{sums_from, no_quarters, more_quarters}
+use Rattle.engine_quarters.proofs.Sums.{sums_from}
 use Rattle.engine_quarters.proofs.usual_sum.Given as goal
 
 abbrev pub invariant-loop-q : goal.invariant-loop-q

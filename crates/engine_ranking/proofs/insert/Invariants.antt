@@ -1,10 +1,6 @@
 -- `engine_ranking::insert` meets its contract. The loop's invariant: what the row will be is the row with the word put in (`Carried`).
 use Prim.Native.Nat.{◌-◌}
-use mathlib.Core.Path.{refl}
-use mathlib.Core.Logic.{⊎_elim}
-use native.Mathlib.Omega.{arith}
-use borrow.Author.Rules.{rules}
-use Rattle.engine_ranking.proofs.Carry.{Carried, swapped, passed, finished}
+use Rattle.engine_ranking.proofs.Carry.{Carried}
 use Rattle.engine_ranking.proofs.insert.Given as goal
 
 abbrev pub invariant-loop-i : goal.invariant-loop-i

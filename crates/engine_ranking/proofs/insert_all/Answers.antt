@@ -1,7 +1,5 @@
-use Prim.Native.Nat.{◌-◌}
 use native.Mathlib.Omega.{arith}
-use native.Mathlib.Nat.{sub-zero}
-use Rattle.engine_ranking.proofs.OneByOne.{Inserting, one_more, counted, all_in}
+use Rattle.engine_ranking.proofs.OneByOne.{one_more, counted, all_in}
 use Rattle.engine_ranking.proofs.insert_all.Goals as goal
 
 pub returns-then-count-done : goal.returns-then-count-done

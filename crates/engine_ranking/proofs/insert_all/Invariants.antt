@@ -1,8 +1,6 @@
 -- `engine_ranking::insert_all` meets its contract. The loop's invariant: what is left to do gives the whole (`Inserting`).
 use Prim.Native.Nat.{◌-◌}
-use native.Mathlib.Omega.{arith}
-use native.Mathlib.Nat.{sub-zero}
-use Rattle.engine_ranking.proofs.OneByOne.{Inserting, one_more, counted, all_in}
+use Rattle.engine_ranking.proofs.OneByOne.{Inserting}
 use Rattle.engine_ranking.proofs.insert_all.Given as goal
 
 abbrev pub invariant-loop-done : goal.invariant-loop-done

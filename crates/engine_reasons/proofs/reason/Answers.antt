@@ -1,9 +1,8 @@
 -- `engine_reasons::reason` meets its contract: one law a way out.
 use mathlib.Core.Path.{sym, ◌∙◌}
-use borrow.Author.Rules.{rules}
 use Rattle.calendar_groups.specs.Holidays.{group as group_of}
 use Rattle.engine_rooms.specs.Rooms.{room_history}
-use Rattle.engine_reasons.proofs.Reasons.{lies, too_early, another, day_before, by_room}
+use Rattle.engine_reasons.proofs.Reasons.{too_early, another, day_before, by_room}
 use Rattle.engine_reasons.proofs.reason.Goals as goal
 
 pub returns-then-request-back : goal.returns-then-request-back

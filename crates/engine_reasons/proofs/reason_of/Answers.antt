@@ -1,6 +1,5 @@
 -- `engine_reasons::reason_of` meets its contract: one law a way out.
 use mathlib.Core.Path.{sym, ◌∙◌}
-use borrow.Author.Rules.{rules}
 use Rattle.engine_judging.specs.Steps.{day_from}
 use Rattle.engine_reasons.proofs.Reasons.{lacking, out, recorded, as_eligible}
 use Rattle.engine_reasons.proofs.reason_of.Goals as goal

@@ -1,7 +1,6 @@
 -- `engine_reasons::sum_of` meets its contract.
 use mathlib.Core.Path.{sym, ◌∙◌}
-use borrow.Author.Rules.{rules}
-use Rattle.engine_reasons.proofs.Sums.{summed_missing, summed_small, summed_whole}
+use Rattle.engine_reasons.proofs.Sums.{summed_missing, summed_whole}
 use Rattle.engine_reasons.proofs.sum_of.Goals as goal
 
 pub returns-then-complete : goal.returns-then-complete

@@ -1,5 +1,4 @@
 -- `engine_refusals::is_good` meets its contract.
-use borrow.Author.Rules.{rules}
 use Rattle.engine_refusals.proofs.FirstRefusal.{good_is}
 use Rattle.engine_refusals.proofs.is_good.Goals as goal
 

@@ -1,7 +1,6 @@
 -- `engine_refusals::of_request` meets its contract: each way out is a law of `FirstRefusal`. That the request is good is known at `d`.
 use mathlib.Core.Path.{sym, ◌∙◌}
 use native.Mathlib.Omega.{arith}
-use borrow.Author.Rules.{rules}
 use Rattle.engine_rooms.specs.Rooms.{room_history}
 use Rattle.engine_refusals.proofs.FirstRefusal.{good_request_lem, bad_request, not_held, not_yet, no_room, fits}
 use Rattle.engine_rooms.proofs.Held.{event_held, event_not}

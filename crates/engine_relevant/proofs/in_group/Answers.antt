@@ -1,7 +1,6 @@
 -- `engine_relevant::in_group` meets its contract: one law a way out.
 use mathlib.Core.Path.{sym, ap, ◌∙◌}
 use mathlib.Core.Bool.{not}
-use borrow.Author.Rules.{rules}
 use Rattle.calendar_groups.specs.Holidays.{group as group_of}
 use Rattle.calendar_groups.specs.declared.Group.{Group}
 use Rattle.method.specs.Relevant.{same_group}

@@ -1,6 +1,5 @@
 -- `engine_relevant::relevant` meets its contract: one law a way out.
 use mathlib.Core.Path.{◌∙◌}
-use borrow.Author.Rules.{rules}
 use Rattle.calendar_groups.specs.Holidays.{group as group_of}
 use Rattle.engine_relevant.proofs.Relevance.{too_early, the_eve, by_group}
 use Rattle.engine_relevant.proofs.relevant.Goals as goal

@@ -1,10 +1,7 @@
-use Prim.Native.Nat.{◌-◌, ◌≤◌}
+use Prim.Native.Nat.{◌-◌}
 use mathlib.Core.Path.{◌≡◌, sym, ap, ◌∙◌}
 use native.Mathlib.Omega.{arith}
-use borrow.Author.Rules.{rules}
 use Rattle.calendar_groups.specs.Holidays.{group as group_of}
-use Rattle.method.specs.Method.{whole_reach}
-use Rattle.method.specs.Requested.{method_of}
 use Rattle.engine_relevant.proofs.Relevance.{relevant_to_lem}
 use Rattle.engine_relevant.proofs.Reaching.{reach_within, reach_start, reach_pass, reach_here, reach_none}
 use Rattle.engine_relevant.proofs.whole_reach.Goals as goal

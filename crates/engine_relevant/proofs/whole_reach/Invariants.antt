@@ -1,13 +1,10 @@
 -- `engine_relevant::whole_reach` meets its contract. The invariant: no relevant day lies farther back than `back`.
-use Prim.Native.Nat.{◌-◌, ◌≤◌}
-use mathlib.Core.Path.{◌≡◌, sym, ap, ◌∙◌}
-use native.Mathlib.Omega.{arith}
-use borrow.Author.Rules.{rules}
+use Prim.Native.Nat.{◌≤◌}
+use mathlib.Core.Path.{◌≡◌}
 use Rattle.calendar_groups.specs.Holidays.{group as group_of}
 use Rattle.method.specs.Method.{whole_reach}
 use Rattle.method.specs.Requested.{method_of}
-use Rattle.engine_relevant.proofs.Relevance.{relevant_to_lem}
-use Rattle.engine_relevant.proofs.Reaching.{reach_within, reach_start, reach_pass, reach_here, reach_none}
+use Rattle.engine_relevant.proofs.Reaching.{reach_within}
 use Rattle.engine_relevant.proofs.whole_reach.Given as goal
 
 abbrev pub invariant-loop-back : goal.invariant-loop-back

@@ -2,7 +2,6 @@
 use Prim.Native.Nat.{◌+◌, ◌-◌}
 use mathlib.Core.Path.{◌≡◌, refl}
 use native.Mathlib.Omega.{arith}
-use borrow.Author.Rules.{rules}
 use Rattle.engine_rooms.proofs.Parts.{part_inside, part_past}
 use Rattle.engine_rooms.proofs.readings_at.Goals as goal
 

@@ -1,5 +1,4 @@
 -- `engine_rules::rules_of` meets its contract: one law a method.
-use borrow.Author.Rules.{rules}
 use borrow.Author.Tests.{eq-eqb, ne_eqb}
 use Rattle.engine_rules.specs.Steps.{in_numbers}
 use Rattle.engine_rules.proofs.rules_of.Goals as goal

@@ -1,5 +1,4 @@
 -- `engine_sums::add_day` meets its contract: the law is `clipped`.
-use Rattle.std.proofs.Common.{arith, length-drop, length-take, rules}
 use Rattle.engine_sums.proofs.Adding.{clipped}
 use Rattle.engine_sums.proofs.add_day.Goals as goal
 

@@ -1,5 +1,5 @@
-use Rattle.std.proofs.Common.{◌+◌, ◌-◌, ◌%◌, ◌^◌, length, get_or, ap, ◌∙◌, rules}
-use Rattle.base_lists.proofs.Places.{Storing, storing_begin, storing_here, storing_next, storing_end}
+use Rattle.std.proofs.Common.{◌+◌, ◌%◌, ◌^◌, get_or, ap, ◌∙◌}
+use Rattle.base_lists.proofs.Places.{storing_begin, storing_here, storing_next}
 use Rattle.engine_sums.proofs.add_part.Goals as goal
 
 pub loop-q-init : goal.loop-q-init

@@ -1,6 +1,6 @@
 -- `engine_sums::add_part` meets its contract.
-use Rattle.std.proofs.Common.{◌+◌, ◌-◌, ◌%◌, ◌^◌, length, get_or, ap, ◌∙◌, rules}
-use Rattle.base_lists.proofs.Places.{Storing, storing_begin, storing_here, storing_next, storing_end}
+use Rattle.std.proofs.Common.{◌+◌, ◌-◌, ◌%◌, ◌^◌, length, get_or}
+use Rattle.base_lists.proofs.Places.{Storing}
 use Rattle.engine_sums.proofs.add_part.Given as goal
 
 abbrev pub invariant-loop-q : goal.invariant-loop-q

@@ -1,5 +1,5 @@
-use Rattle.std.proofs.Common.{◌-◌, length, refl, arith, rules}
-use Rattle.base_lists.proofs.Places.{Storing, storing_begin, storing_next, storing_end}
+use Rattle.std.proofs.Common.{refl}
+use Rattle.base_lists.proofs.Places.{storing_begin, storing_next}
 use Rattle.engine_sums.proofs.clear.Goals as goal
 
 pub loop-q-init : goal.loop-q-init

@@ -1,6 +1,6 @@
 -- `engine_sums::clear` meets its contract.
-use Rattle.std.proofs.Common.{◌-◌, length, refl, arith, rules}
-use Rattle.base_lists.proofs.Places.{Storing, storing_begin, storing_next, storing_end}
+use Rattle.std.proofs.Common.{◌-◌, length}
+use Rattle.base_lists.proofs.Places.{Storing}
 use Rattle.engine_sums.proofs.clear.Given as goal
 
 abbrev pub invariant-loop-q : goal.invariant-loop-q

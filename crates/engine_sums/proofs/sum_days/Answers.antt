@@ -1,6 +1,6 @@
-use Rattle.std.proofs.Common.{◌≡◌, ℕ, ◌-◌, ◌≤◌, min, List, map, length, sym, ap, ◌∙◌, arith, rules}
+use Rattle.std.proofs.Common.{◌≡◌, ℕ, List, map, length, sym, ap, ◌∙◌, arith}
 use Rattle.base_lists.proofs.Places.{length_over}
-use Rattle.engine_sums.proofs.Adding.{Added, added_begin, added_next}
+use Rattle.engine_sums.proofs.Adding.{added_begin, added_next}
 use Rattle.base_lists.specs.Lists.{places}
 use Rattle.engine_sums.proofs.sum_days.Goals as goal
 

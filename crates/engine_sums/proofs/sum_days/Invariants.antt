@@ -1,8 +1,6 @@
 -- `engine_sums::sum_days` meets its contract. The loop's invariant: the sums of the first `k` days (`Added`).
-use Rattle.std.proofs.Common.{◌≡◌, ℕ, ◌-◌, ◌≤◌, min, List, map, length, sym, ap, ◌∙◌, arith, rules}
-use Rattle.base_lists.proofs.Places.{length_over}
-use Rattle.engine_sums.proofs.Adding.{Added, added_begin, added_next}
-use Rattle.base_lists.specs.Lists.{places}
+use Rattle.std.proofs.Common.{◌-◌, ◌≤◌, length}
+use Rattle.engine_sums.proofs.Adding.{Added}
 use Rattle.engine_sums.proofs.sum_days.Given as goal
 
 abbrev pub invariant-loop-k : goal.invariant-loop-k

@@ -1,12 +1,10 @@
-use Prim.Native.Nat.{ℕ, ◌≤◌, ◌-◌}
-use mathlib.Core.Path.{◌≡◌, refl, ap, ◌∙◌}
+use Prim.Native.Nat.{ℕ}
+use mathlib.Core.Path.{ap, ◌∙◌}
 use mathlib.Core.List.{List}
 use native.Mathlib.Omega.{arith}
-use borrow.Author.Rules.{rules}
 use lib.ListN.{set}
 use Rattle.engine_choice.specs.Steps.{word_day}
 use Rattle.engine_choice.proofs.Five.{one_more}
-use Rattle.engine_window.specs.Steps.{ranked}
 use Rattle.engine_window.proofs.days_of.Goals as goal
 
 pub loop-i-preserved : goal.loop-i-preserved

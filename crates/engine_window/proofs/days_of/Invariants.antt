@@ -1,12 +1,6 @@
 -- `engine_window::days_of` meets its contract. The invariant: the days of the first `i` words stand in their places, and noughts after them.
-use Prim.Native.Nat.{ℕ, ◌≤◌, ◌-◌}
-use mathlib.Core.Path.{◌≡◌, refl, ap, ◌∙◌}
-use mathlib.Core.List.{List}
-use native.Mathlib.Omega.{arith}
-use borrow.Author.Rules.{rules}
-use lib.ListN.{set}
-use Rattle.engine_choice.specs.Steps.{word_day}
-use Rattle.engine_choice.proofs.Five.{one_more}
+use Prim.Native.Nat.{◌≤◌, ◌-◌}
+use mathlib.Core.Path.{◌≡◌}
 use Rattle.engine_window.specs.Steps.{ranked}
 use Rattle.engine_window.proofs.days_of.Given as goal
 

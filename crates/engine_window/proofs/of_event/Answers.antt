@@ -1,6 +1,5 @@
 -- `engine_window::of_event` meets its contract: the eligible days fill the window, or they do not. What was looked at is known at `l`.
 use mathlib.Core.Path.{◌∙◌}
-use borrow.Author.Rules.{rules}
 use Rattle.calendar_groups.specs.Holidays.{group as group_of}
 use Rattle.engine_choice.proofs.Requested.{follows}
 use Rattle.engine_window.proofs.Shown.{shown_full, shown_few}

@@ -1,6 +1,5 @@
 -- `file_baseline::asked` meets its contract: one law for each way out.
 use Rattle.file_baseline.proofs.DaysAsked.{asked_early, asked_late, asked-held}
-use borrow.Author.Rules.{rules}
 use Rattle.file_baseline.proofs.asked.Goals as goal
 
 pub returns-then-event-shape : goal.returns-then-event-shape

@@ -3,7 +3,6 @@ use mathlib.Core.Path.{sym, ◌∙◌}
 use lib.ListN.{length}
 use Rattle.table_bytes.proofs.Laws.{refuses}
 use Rattle.file_baseline.proofs.Files.{refused_file}
-use borrow.Author.Rules.{rules}
 use Rattle.file_baseline.proofs.file_baseline.Goals as goal
 
 pub returns-in-Refused : goal.returns-in-Refused

@@ -1,7 +1,6 @@
 -- `file_baseline::first_bad_reading` meets its contract: it is found before the span, in its rooms, or after it.
 use native.Mathlib.Omega.{arith}
 use Rattle.file_baseline.proofs.Files.{bad_few, rooms_few, found_before, found_inside, found_after}
-use borrow.Author.Rules.{rules}
 use Rattle.file_baseline.proofs.first_bad_reading.Goals as goal
 
 pub returns-then-bad-start : goal.returns-then-bad-start

@@ -9,7 +9,6 @@ use Rattle.file_moves.proofs.Moves.{list_few, list_first}
 use Rattle.table_baseline.proofs.Tables.{table_refused}
 use Rattle.file_record.specs.Reader.{list_in, table_in}
 use Rattle.file_baseline.proofs.Files.{marks_count, day_few, over_loaded}
-use borrow.Author.Rules.{rules}
 use Rattle.file_baseline.proofs.loaded_baseline.Goals as goal
 
 pub overflow_add-shape : goal.overflow_add-shape

@@ -4,7 +4,6 @@ use lib.ListN.{length}
 use Rattle.file_record.proofs.Events.{within_is}
 use Rattle.table_bytes.proofs.Laws.{refuses}
 use Rattle.file_baseline.proofs.Files.{refused_there, none_there, event_there}
-use borrow.Author.Rules.{rules}
 use Rattle.file_baseline.proofs.place_baseline.Goals as goal
 
 pub returns-in-Refused : goal.returns-in-Refused

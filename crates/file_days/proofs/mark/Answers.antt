@@ -1,7 +1,6 @@
 -- `file_days::mark` meets its contract: refused, and a file of days.
 use mathlib.Core.Path.{sym, ◌∙◌}
-use Rattle.file_days.proofs.Days.{days_within, mark_is, mark_refused}
-use borrow.Author.Rules.{rules}
+use Rattle.file_days.proofs.Days.{days_within, mark_is}
 use Rattle.file_days.proofs.mark.Goals as goal
 
 pub mark_within-requires : goal.mark_within-requires

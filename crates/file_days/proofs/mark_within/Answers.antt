@@ -4,7 +4,6 @@ use Prim.Native.Nat.{ℕ, ◌+◌}
 use lib.ListN.{get_or}
 use native.Mathlib.Omega.{arith}
 use Rattle.file_days.proofs.Days.{record_within, holding_low, holding_high, mark_there, mark_none}
-use borrow.Author.Rules.{rules}
 use Rattle.file_days.proofs.mark_within.Goals as goal
 
 pub overflow_add-at : goal.overflow_add-at

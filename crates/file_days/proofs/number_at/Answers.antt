@@ -1,7 +1,6 @@
 -- `file_days::number_at` meets its contract.
 use mathlib.Core.Path.{sym, ◌∙◌}
 use Rattle.file_record.proofs.Numbers.{number_four}
-use borrow.Author.Rules.{rules}
 use Rattle.file_days.proofs.number_at.Goals as goal
 
 pub returns : goal.returns

@@ -1,7 +1,6 @@
 -- `file_days::reading` meets its contract: refused, and a file of days.
 use mathlib.Core.Path.{sym, ◌∙◌}
-use Rattle.file_days.proofs.Days.{days_within, reading_is, reading_refused}
-use borrow.Author.Rules.{rules}
+use Rattle.file_days.proofs.Days.{days_within, reading_is}
 use Rattle.file_days.proofs.reading.Goals as goal
 
 pub reading_within-requires : goal.reading_within-requires

@@ -4,7 +4,6 @@ use mathlib.Core.Path.{sym, ap, ◌∙◌}
 use native.Mathlib.Omega.{arith}
 use Rattle.file_record.specs.Reader.{number_at}
 use Rattle.file_days.proofs.Days.{record_within, holding_low, holding_high, reading_there, reading_past, reading_none}
-use borrow.Author.Rules.{rules}
 use Rattle.file_days.proofs.reading_within.Goals as goal
 
 pub overflow_add-at : goal.overflow_add-at

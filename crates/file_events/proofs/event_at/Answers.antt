@@ -1,7 +1,6 @@
 -- `file_events::event_at` meets its contract: one law for each way out.
 use mathlib.Core.Path.{sym, ◌∙◌}
-use Rattle.file_record.proofs.Events.{event_refused, within_is}
-use borrow.Author.Rules.{rules}
+use Rattle.file_record.proofs.Events.{within_is}
 use Rattle.file_events.proofs.event_at.Goals as goal
 
 pub returns-in-File : goal.returns-in-File

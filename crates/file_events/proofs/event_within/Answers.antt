@@ -2,7 +2,6 @@
 use native.Mathlib.Omega.{arith}
 use Rattle.file_record.proofs.Starts.{day_start_most}
 use Rattle.file_record.proofs.Events.{within_past, within_cut, within_there}
-use borrow.Author.Rules.{rules}
 use Rattle.file_events.proofs.event_within.Goals as goal
 
 pub overflow_add-at : goal.overflow_add-at

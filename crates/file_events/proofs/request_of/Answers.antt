@@ -3,7 +3,6 @@ use Prim.Native.Nat.{◌+◌}
 use mathlib.Core.Path.{sym, ◌∙◌}
 use Rattle.file_record.proofs.Numbers.{number_two}
 use Rattle.file_record.proofs.Events.{event_read}
-use borrow.Author.Rules.{rules}
 use Rattle.file_events.proofs.request_of.Goals as goal
 
 pub returns : goal.returns

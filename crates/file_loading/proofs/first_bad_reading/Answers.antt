@@ -1,6 +1,5 @@
 -- `file_loading::first_bad_reading` meets its contract: one law for each way out.
 use mathlib.Core.Path.{sym, ◌∙◌}
-use borrow.Author.Rules.{rules}
 use Rattle.file_loading.proofs.Loading.{stands_is, bad_in, bad_empty, bad_none}
 use Rattle.file_loading.proofs.first_bad_reading.Goals as goal
 

@@ -1,10 +1,6 @@
-use Prim.Native.Nat.{◌+◌, ◌*◌, ◌-◌, ◌≤◌}
+use Prim.Native.Nat.{◌+◌, ◌*◌}
 use native.Mathlib.Omega.{arith}
-use native.Mathlib.Nat.{sub-zero, add-zero}
-use borrow.Author.Rules.{rules}
-use lib.ListN.{length, drop}
-use Rattle.base_bytes.proofs.Filling.{Filling, filling_none}
-use Rattle.file_record.specs.Reader.{numbers}
+use lib.ListN.{length}
 use Rattle.file_loading.proofs.Loading.{reading_put, day_loaded}
 use Rattle.file_loading.proofs.load_day.Goals as goal
 

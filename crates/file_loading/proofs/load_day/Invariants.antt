@@ -1,12 +1,8 @@
 -- `file_loading::load_day` meets its contract. The loop's invariant: the readings written and those left to write are the whole (`Filling`).
 use Prim.Native.Nat.{◌+◌, ◌*◌, ◌-◌, ◌≤◌}
-use native.Mathlib.Omega.{arith}
-use native.Mathlib.Nat.{sub-zero, add-zero}
-use borrow.Author.Rules.{rules}
 use lib.ListN.{length, drop}
-use Rattle.base_bytes.proofs.Filling.{Filling, filling_none}
+use Rattle.base_bytes.proofs.Filling.{Filling}
 use Rattle.file_record.specs.Reader.{numbers}
-use Rattle.file_loading.proofs.Loading.{reading_put, day_loaded}
 use Rattle.file_loading.proofs.load_day.Given as goal
 
 abbrev pub invariant-loop-q : goal.invariant-loop-q

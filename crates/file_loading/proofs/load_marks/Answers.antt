@@ -1,12 +1,10 @@
-use Prim.Native.Nat.{◌+◌, ◌-◌, ◌≤◌}
+use Prim.Native.Nat.{◌+◌}
 use native.Mathlib.Omega.{arith}
 use native.Mathlib.Nat.{sub-zero, add-zero}
-use lib.ListN.{drop}
-use Rattle.file_record.specs.Reader.{shape_base, day_start, marks_from}
-use Rattle.base_bytes.proofs.Filling.{Filling, filling_none, filling_one}
+use Rattle.file_record.specs.Reader.{shape_base, day_start}
+use Rattle.base_bytes.proofs.Filling.{filling_none, filling_one}
 use Rattle.file_record.proofs.Starts.{day_start_none, day_start_more}
 use Rattle.file_loading.proofs.Loading.{day_within, marks_more, marks_loaded}
-use borrow.Author.Rules.{rules}
 use Rattle.file_loading.proofs.load_marks.Goals as goal
 
 pub loop-k-init : goal.loop-k-init

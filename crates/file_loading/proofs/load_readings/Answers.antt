@@ -2,13 +2,12 @@ use Prim.Native.Nat.{ℕ, ◌+◌, ◌-◌, ◌≤◌}
 use mathlib.Core.Path.{◌≡◌, ◌∙◌, ap}
 use native.Mathlib.Omega.{arith}
 use lib.ListN.{length, drop}
-use borrow.Author.Rules.{rules}
 use borrow.Rule.Slice.PartMut.{mid_len}
 use Rattle.method.specs.Table.{size}
-use Rattle.file_record.specs.Reader.{dy_length, numbers, readings_from}
+use Rattle.file_record.specs.Reader.{dy_length, numbers}
 use Rattle.file_record.specs.Steps.{span_within}
-use Rattle.base_bytes.proofs.Filling.{Filling, filling_none}
-use Rattle.file_loading.proofs.Loading.{start, place, place_none, day_within, part_size, part_within, day_put, readings_loaded}
+use Rattle.base_bytes.proofs.Filling.{filling_none}
+use Rattle.file_loading.proofs.Loading.{start, place_none, day_within, part_size, part_within, day_put, readings_loaded}
 use Rattle.file_loading.proofs.load_readings.Goals as goal
 
 pub loop-k-init : goal.loop-k-init
@@ -19,100 +18,100 @@ loop-k-init c =
 pub overflow_add-at : goal.overflow_add-at
 overflow_add-at c =
     let its : ((let a = c.args in (c.day_start-at.result + dy_length (a.shape.first + c.loop-k.k) ≤ length a.file.now) × (c.place-end.result ≤ length c.loop-k.readings) × (c.place-start.result ≤ c.place-end.result) × (c.place-end.result - c.place-start.result ≡ size (a.shape.first + c.loop-k.k)))) = (let s = c in
-            let l = c.loop-k in
-            let more = c.loop-k-test.true in
-            let stands = s.requires.0 in
-            let part = part_size s.args.shape s.args.span s.args.file.now l.invariant.0 more c.place-start.ensures c.place-end.ensures in (
-              day_within s.args.shape s.args.file.now (omega (arith, stands.high)) c.base-base.ensures c.day_start-at.ensures stands.long,
-              part_within s.args.shape s.args.span s.args.file.now l.invariant.0 more c.place-end.ensures (omega (arith, l.invariant.2.long)),
-              part.0,
-              part.1,
-            )) in
+    let l = c.loop-k in
+    let more = c.loop-k-test.true in
+    let stands = s.requires.0 in
+    let part = part_size s.args.shape s.args.span s.args.file.now l.invariant.0 more c.place-start.ensures c.place-end.ensures in (
+      day_within s.args.shape s.args.file.now (omega (arith, stands.high)) c.base-base.ensures c.day_start-at.ensures stands.long,
+      part_within s.args.shape s.args.span s.args.file.now l.invariant.0 more c.place-end.ensures (omega (arith, l.invariant.2.long)),
+      part.0,
+      part.1,
+    )) in
     omega (arith, (its).0)
 
 pub offset_bounds-readings-start : goal.offset_bounds-readings-start
 offset_bounds-readings-start c =
     let its : ((let a = c.args in (c.day_start-at.result + dy_length (a.shape.first + c.loop-k.k) ≤ length a.file.now) × (c.place-end.result ≤ length c.loop-k.readings) × (c.place-start.result ≤ c.place-end.result) × (c.place-end.result - c.place-start.result ≡ size (a.shape.first + c.loop-k.k)))) = (let s = c in
-            let l = c.loop-k in
-            let more = c.loop-k-test.true in
-            let stands = s.requires.0 in
-            let part = part_size s.args.shape s.args.span s.args.file.now l.invariant.0 more c.place-start.ensures c.place-end.ensures in (
-              day_within s.args.shape s.args.file.now (omega (arith, stands.high)) c.base-base.ensures c.day_start-at.ensures stands.long,
-              part_within s.args.shape s.args.span s.args.file.now l.invariant.0 more c.place-end.ensures (omega (arith, l.invariant.2.long)),
-              part.0,
-              part.1,
-            )) in
+    let l = c.loop-k in
+    let more = c.loop-k-test.true in
+    let stands = s.requires.0 in
+    let part = part_size s.args.shape s.args.span s.args.file.now l.invariant.0 more c.place-start.ensures c.place-end.ensures in (
+      day_within s.args.shape s.args.file.now (omega (arith, stands.high)) c.base-base.ensures c.day_start-at.ensures stands.long,
+      part_within s.args.shape s.args.span s.args.file.now l.invariant.0 more c.place-end.ensures (omega (arith, l.invariant.2.long)),
+      part.0,
+      part.1,
+    )) in
     omega (arith, (its).1, (its).2)
 
 pub slice_bounds-load_day-count : goal.slice_bounds-load_day-count
 slice_bounds-load_day-count c =
     let its : ((let a = c.args in (c.day_start-at.result + dy_length (a.shape.first + c.loop-k.k) ≤ length a.file.now) × (c.place-end.result ≤ length c.loop-k.readings) × (c.place-start.result ≤ c.place-end.result) × (c.place-end.result - c.place-start.result ≡ size (a.shape.first + c.loop-k.k)))) = (let s = c in
-            let l = c.loop-k in
-            let more = c.loop-k-test.true in
-            let stands = s.requires.0 in
-            let part = part_size s.args.shape s.args.span s.args.file.now l.invariant.0 more c.place-start.ensures c.place-end.ensures in (
-              day_within s.args.shape s.args.file.now (omega (arith, stands.high)) c.base-base.ensures c.day_start-at.ensures stands.long,
-              part_within s.args.shape s.args.span s.args.file.now l.invariant.0 more c.place-end.ensures (omega (arith, l.invariant.2.long)),
-              part.0,
-              part.1,
-            )) in
+    let l = c.loop-k in
+    let more = c.loop-k-test.true in
+    let stands = s.requires.0 in
+    let part = part_size s.args.shape s.args.span s.args.file.now l.invariant.0 more c.place-start.ensures c.place-end.ensures in (
+      day_within s.args.shape s.args.file.now (omega (arith, stands.high)) c.base-base.ensures c.day_start-at.ensures stands.long,
+      part_within s.args.shape s.args.span s.args.file.now l.invariant.0 more c.place-end.ensures (omega (arith, l.invariant.2.long)),
+      part.0,
+      part.1,
+    )) in
     (its).2
 
 pub slice_bounds-load_day-start : goal.slice_bounds-load_day-start
 slice_bounds-load_day-start c =
     let its : ((let a = c.args in (c.day_start-at.result + dy_length (a.shape.first + c.loop-k.k) ≤ length a.file.now) × (c.place-end.result ≤ length c.loop-k.readings) × (c.place-start.result ≤ c.place-end.result) × (c.place-end.result - c.place-start.result ≡ size (a.shape.first + c.loop-k.k)))) = (let s = c in
-            let l = c.loop-k in
-            let more = c.loop-k-test.true in
-            let stands = s.requires.0 in
-            let part = part_size s.args.shape s.args.span s.args.file.now l.invariant.0 more c.place-start.ensures c.place-end.ensures in (
-              day_within s.args.shape s.args.file.now (omega (arith, stands.high)) c.base-base.ensures c.day_start-at.ensures stands.long,
-              part_within s.args.shape s.args.span s.args.file.now l.invariant.0 more c.place-end.ensures (omega (arith, l.invariant.2.long)),
-              part.0,
-              part.1,
-            )) in
+    let l = c.loop-k in
+    let more = c.loop-k-test.true in
+    let stands = s.requires.0 in
+    let part = part_size s.args.shape s.args.span s.args.file.now l.invariant.0 more c.place-start.ensures c.place-end.ensures in (
+      day_within s.args.shape s.args.file.now (omega (arith, stands.high)) c.base-base.ensures c.day_start-at.ensures stands.long,
+      part_within s.args.shape s.args.span s.args.file.now l.invariant.0 more c.place-end.ensures (omega (arith, l.invariant.2.long)),
+      part.0,
+      part.1,
+    )) in
     (its).2
 
 pub slice_bounds-load_day-end : goal.slice_bounds-load_day-end
 slice_bounds-load_day-end c =
     let its : ((let a = c.args in (c.day_start-at.result + dy_length (a.shape.first + c.loop-k.k) ≤ length a.file.now) × (c.place-end.result ≤ length c.loop-k.readings) × (c.place-start.result ≤ c.place-end.result) × (c.place-end.result - c.place-start.result ≡ size (a.shape.first + c.loop-k.k)))) = (let s = c in
-            let l = c.loop-k in
-            let more = c.loop-k-test.true in
-            let stands = s.requires.0 in
-            let part = part_size s.args.shape s.args.span s.args.file.now l.invariant.0 more c.place-start.ensures c.place-end.ensures in (
-              day_within s.args.shape s.args.file.now (omega (arith, stands.high)) c.base-base.ensures c.day_start-at.ensures stands.long,
-              part_within s.args.shape s.args.span s.args.file.now l.invariant.0 more c.place-end.ensures (omega (arith, l.invariant.2.long)),
-              part.0,
-              part.1,
-            )) in
+    let l = c.loop-k in
+    let more = c.loop-k-test.true in
+    let stands = s.requires.0 in
+    let part = part_size s.args.shape s.args.span s.args.file.now l.invariant.0 more c.place-start.ensures c.place-end.ensures in (
+      day_within s.args.shape s.args.file.now (omega (arith, stands.high)) c.base-base.ensures c.day_start-at.ensures stands.long,
+      part_within s.args.shape s.args.span s.args.file.now l.invariant.0 more c.place-end.ensures (omega (arith, l.invariant.2.long)),
+      part.0,
+      part.1,
+    )) in
     (its).1
 
 pub load_day-requires : goal.load_day-requires
 load_day-requires c =
     let its : ((let a = c.args in (c.day_start-at.result + dy_length (a.shape.first + c.loop-k.k) ≤ length a.file.now) × (c.place-end.result ≤ length c.loop-k.readings) × (c.place-start.result ≤ c.place-end.result) × (c.place-end.result - c.place-start.result ≡ size (a.shape.first + c.loop-k.k)))) = (let s = c in
-            let l = c.loop-k in
-            let more = c.loop-k-test.true in
-            let stands = s.requires.0 in
-            let part = part_size s.args.shape s.args.span s.args.file.now l.invariant.0 more c.place-start.ensures c.place-end.ensures in (
-              day_within s.args.shape s.args.file.now (omega (arith, stands.high)) c.base-base.ensures c.day_start-at.ensures stands.long,
-              part_within s.args.shape s.args.span s.args.file.now l.invariant.0 more c.place-end.ensures (omega (arith, l.invariant.2.long)),
-              part.0,
-              part.1,
-            )) in
+    let l = c.loop-k in
+    let more = c.loop-k-test.true in
+    let stands = s.requires.0 in
+    let part = part_size s.args.shape s.args.span s.args.file.now l.invariant.0 more c.place-start.ensures c.place-end.ensures in (
+      day_within s.args.shape s.args.file.now (omega (arith, stands.high)) c.base-base.ensures c.day_start-at.ensures stands.long,
+      part_within s.args.shape s.args.span s.args.file.now l.invariant.0 more c.place-end.ensures (omega (arith, l.invariant.2.long)),
+      part.0,
+      part.1,
+    )) in
     let i = its in
     omega (arith, i.0, i.3, mid_len c.place-start.result c.place-end.result c.loop-k.readings i.1)
 
 pub loop-k-preserved : goal.loop-k-preserved
 loop-k-preserved c =
     let its : ((let a = c.args in (c.day_start-at.result + dy_length (a.shape.first + c.loop-k.k) ≤ length a.file.now) × (c.place-end.result ≤ length c.loop-k.readings) × (c.place-start.result ≤ c.place-end.result) × (c.place-end.result - c.place-start.result ≡ size (a.shape.first + c.loop-k.k)))) = (let s = c in
-            let l = c.loop-k in
-            let more = c.loop-k-test.true in
-            let stands = s.requires.0 in
-            let part = part_size s.args.shape s.args.span s.args.file.now l.invariant.0 more c.place-start.ensures c.place-end.ensures in (
-              day_within s.args.shape s.args.file.now (omega (arith, stands.high)) c.base-base.ensures c.day_start-at.ensures stands.long,
-              part_within s.args.shape s.args.span s.args.file.now l.invariant.0 more c.place-end.ensures (omega (arith, l.invariant.2.long)),
-              part.0,
-              part.1,
-            )) in
+    let l = c.loop-k in
+    let more = c.loop-k-test.true in
+    let stands = s.requires.0 in
+    let part = part_size s.args.shape s.args.span s.args.file.now l.invariant.0 more c.place-start.ensures c.place-end.ensures in (
+      day_within s.args.shape s.args.file.now (omega (arith, stands.high)) c.base-base.ensures c.day_start-at.ensures stands.long,
+      part_within s.args.shape s.args.span s.args.file.now l.invariant.0 more c.place-end.ensures (omega (arith, l.invariant.2.long)),
+      part.0,
+      part.1,
+    )) in
     let i = its in
     let a = c.args in
     let l = c.loop-k in

@@ -1,15 +1,10 @@
 -- `file_loading::load_readings` meets its contract. The loop's invariant: the days written and those left to write are the whole (`Filling`).
-use Prim.Native.Nat.{ℕ, ◌+◌, ◌-◌, ◌≤◌}
-use mathlib.Core.Path.{◌≡◌, ◌∙◌, ap}
-use native.Mathlib.Omega.{arith}
-use lib.ListN.{length, drop}
-use borrow.Author.Rules.{rules}
-use borrow.Rule.Slice.PartMut.{mid_len}
-use Rattle.method.specs.Table.{size}
-use Rattle.file_record.specs.Reader.{dy_length, numbers, readings_from}
+use Prim.Native.Nat.{◌+◌, ◌-◌, ◌≤◌}
+use lib.ListN.{drop}
+use Rattle.file_record.specs.Reader.{readings_from}
 use Rattle.file_record.specs.Steps.{span_within}
-use Rattle.base_bytes.proofs.Filling.{Filling, filling_none}
-use Rattle.file_loading.proofs.Loading.{start, place, place_none, day_within, part_size, part_within, day_put, readings_loaded}
+use Rattle.base_bytes.proofs.Filling.{Filling}
+use Rattle.file_loading.proofs.Loading.{start, place}
 use Rattle.file_loading.proofs.load_readings.Given as goal
 
 abbrev pub invariant-loop-k : goal.invariant-loop-k

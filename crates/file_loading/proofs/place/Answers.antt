@@ -1,9 +1,6 @@
 -- `file_loading::place` meets its contract: the readings before the span are left out.
 use native.Mathlib.Omega.{arith}
 use Rattle.file_loading.proofs.Loading.{place_is}
-use borrow.Author.Rules.{rules}
-use Rattle.file_loading.proofs.place.Reads as reads
-use Rattle.day_ruler.proofs.offset.Reads as offset-reads
 use Rattle.file_loading.proofs.place.Goals as goal
 
 pub overflow_sub-result : goal.overflow_sub-result

@@ -1,10 +1,6 @@
 -- `file_loading::stands` meets its contract.
 use mathlib.Core.Path.{refl}
 use Rattle.file_loading.specs.Steps.{stands_within}
-use borrow.Author.Rules.{rules}
-use Rattle.file_loading.proofs.stands.Reads as reads
-use Rattle.file_starts.proofs.base.Reads as base-reads
-use Rattle.file_starts.proofs.day_start.Reads as day-start-reads
 use Rattle.file_loading.proofs.stands.Goals as goal
 
 pub returns : goal.returns

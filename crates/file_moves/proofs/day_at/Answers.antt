@@ -1,7 +1,6 @@
 -- `file_moves::day_at` meets its contract.
 use mathlib.Core.Path.{sym, ◌∙◌}
 use Rattle.file_record.proofs.Numbers.{number_two}
-use borrow.Author.Rules.{rules}
 use Rattle.file_moves.proofs.day_at.Goals as goal
 
 pub returns : goal.returns

@@ -1,10 +1,6 @@
-use Prim.Native.Nat.{◌*◌, ◌-◌, ◌≤◌}
 use native.Mathlib.Omega.{arith}
 use native.Mathlib.Nat.{sub-zero}
-use borrow.Author.Rules.{rules}
-use lib.ListN.{drop, length-set}
-use Rattle.base_bytes.proofs.Filling.{Filling, filling_none}
-use Rattle.file_record.specs.Reader.{move_start, move_numbers}
+use Rattle.base_bytes.proofs.Filling.{filling_none}
 use Rattle.file_record.specs.Steps.{list_within}
 use Rattle.file_moves.proofs.Moves.{move_put, list_loaded}
 use Rattle.file_moves.proofs.load.Goals as goal

@@ -1,13 +1,9 @@
 -- `file_moves::load` meets its contract. The loop's invariant: the numbers written and those left to write are the whole (`Filling`).
 use Prim.Native.Nat.{◌*◌, ◌-◌, ◌≤◌}
-use native.Mathlib.Omega.{arith}
-use native.Mathlib.Nat.{sub-zero}
-use borrow.Author.Rules.{rules}
-use lib.ListN.{drop, length-set}
-use Rattle.base_bytes.proofs.Filling.{Filling, filling_none}
+use lib.ListN.{drop}
+use Rattle.base_bytes.proofs.Filling.{Filling}
 use Rattle.file_record.specs.Reader.{move_start, move_numbers}
 use Rattle.file_record.specs.Steps.{list_within}
-use Rattle.file_moves.proofs.Moves.{move_put, list_loaded}
 use Rattle.file_moves.proofs.load.Given as goal
 
 abbrev pub invariant-loop-k : goal.invariant-loop-k

@@ -1,12 +1,6 @@
 -- `file_moves::load_list` meets its contract: one law for each way out.
-use mathlib.Core.Path.{refl, sym, ◌∙◌, ap}
-use mathlib.Core.List.{◌++◌}
-use Prim.Native.Nat.{ℕ}
-use native.Mathlib.Omega.{arith}
-use lib.ListN.{length, drop}
-use Rattle.file_record.specs.Steps.{list_within}
-use Rattle.file_moves.proofs.Moves.{fits_all, fits_not, ends_early, list_length}
-use borrow.Author.Rules.{rules}
+use lib.ListN.{length}
+use Rattle.file_moves.proofs.Moves.{fits_all, fits_not, ends_early}
 use Rattle.file_moves.proofs.load_list.Goals as goal
 
 pub returns-then-shape-moves-clause-said : goal.returns-then-shape-moves-clause-said

@@ -1,7 +1,6 @@
 -- `file_moves::move_at` meets its contract: one law for each way out.
 use mathlib.Core.Path.{sym, ◌∙◌}
-use Rattle.file_moves.proofs.Moves.{refused_file, within_is}
-use borrow.Author.Rules.{rules}
+use Rattle.file_moves.proofs.Moves.{within_is}
 use Rattle.file_moves.proofs.move_at.Goals as goal
 
 pub returns-in-File : goal.returns-in-File

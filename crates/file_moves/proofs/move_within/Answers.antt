@@ -1,7 +1,6 @@
 -- `file_moves::move_within` meets its contract: one law for each way out.
 use native.Mathlib.Omega.{arith}
 use Rattle.file_moves.proofs.Moves.{within_past, within_cut, within_there}
-use borrow.Author.Rules.{rules}
 use Rattle.file_moves.proofs.move_within.Goals as goal
 
 pub returns-then-at-file : goal.returns-then-at-file

@@ -1,9 +1,7 @@
 -- `file_putting::put_day` meets its contract (`Putting`).
-use mathlib.Core.Path.{refl, ap, ◌∙◌}
+use mathlib.Core.Path.{refl}
 use native.Mathlib.Omega.{arith}
-use borrow.Author.Rules.{rules}
-use lib.ListN.{length, length-set}
-use Rattle.file_putting.proofs.Putting.{put-length, day_kept, day_put}
+use Rattle.file_putting.proofs.Putting.{day_kept, day_put}
 use Rattle.file_putting.proofs.put_day.Goals as goal
 
 pub returns : goal.returns

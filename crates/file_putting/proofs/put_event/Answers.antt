@@ -1,7 +1,5 @@
 -- `file_putting::put_event` meets its contract (`Putting`).
 use native.Mathlib.Omega.{arith}
-use borrow.Author.Rules.{rules}
-use lib.ListN.{length-set}
 use Rattle.file_putting.proofs.Putting.{event_kept, event_put}
 use Rattle.file_putting.proofs.put_event.Goals as goal
 

@@ -1,7 +1,4 @@
 -- `file_putting::put_head` meets its contract: its four bytes take the place of the first four.
-use native.Mathlib.Omega.{arith}
-use borrow.Author.Rules.{rules}
-use lib.ListN.{length-set}
 use Rattle.base_bytes.specs.Bytes.{bytes}
 use Rattle.base_bytes.proofs.Bytes.{four_set}
 use Rattle.file_putting.proofs.put_head.Goals as goal

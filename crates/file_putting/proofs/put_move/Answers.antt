@@ -1,7 +1,5 @@
 -- `file_putting::put_move` meets its contract (`Putting`).
 use native.Mathlib.Omega.{arith}
-use borrow.Author.Rules.{rules}
-use lib.ListN.{length-set}
 use Rattle.file_putting.proofs.Putting.{move_kept, move_put}
 use Rattle.file_putting.proofs.put_move.Goals as goal
 

@@ -1,6 +1,5 @@
 -- `file_putting::put_opening` meets its contract (`Putting`).
 use native.Mathlib.Omega.{arith}
-use borrow.Author.Rules.{rules}
 use Rattle.file_putting.proofs.Putting.{opening_kept, opening_put}
 use Rattle.file_putting.proofs.put_opening.Goals as goal
 

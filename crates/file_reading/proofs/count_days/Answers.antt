@@ -1,12 +1,11 @@
-use Prim.Native.Nat.{◌+◌, ◌-◌}
+use Prim.Native.Nat.{◌+◌}
 use mathlib.Core.Path.{sym, ◌∙◌}
 use lib.ListN.{drop}
 use native.Mathlib.Omega.{arith}
-use borrow.Author.Rules.{rules}
 use Rattle.file_record.specs.Reader.{is_dy_of, dy_length, days_from, day_start}
 use Rattle.file_record.proofs.Starts.{day_start_none, day_start_more}
 use Rattle.file_record.proofs.Records.{day_whole}
-use Rattle.file_record.proofs.Runs.{Counted, counted_none, counted_more, counted_stops, counted_full}
+use Rattle.file_record.proofs.Runs.{counted_none, counted_more, counted_stops, counted_full}
 use Rattle.file_reading.proofs.count_days.Goals as goal
 
 pub loop-days-init : goal.loop-days-init

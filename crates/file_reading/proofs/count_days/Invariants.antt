@@ -1,13 +1,7 @@
 -- `file_reading::count_days` meets its contract. The loop's invariant: what is counted and what is left to count are the whole run (`Counted`).
-use Prim.Native.Nat.{◌+◌, ◌-◌}
-use mathlib.Core.Path.{sym, ◌∙◌}
-use lib.ListN.{drop}
-use native.Mathlib.Omega.{arith}
-use borrow.Author.Rules.{rules}
-use Rattle.file_record.specs.Reader.{is_dy_of, dy_length, days_from, day_start}
-use Rattle.file_record.proofs.Starts.{day_start_none, day_start_more}
-use Rattle.file_record.proofs.Records.{day_whole}
-use Rattle.file_record.proofs.Runs.{Counted, counted_none, counted_more, counted_stops, counted_full}
+use Prim.Native.Nat.{◌-◌}
+use Rattle.file_record.specs.Reader.{is_dy_of, dy_length, day_start}
+use Rattle.file_record.proofs.Runs.{Counted}
 use Rattle.file_reading.proofs.count_days.Given as goal
 
 abbrev pub invariant-loop-days : goal.invariant-loop-days

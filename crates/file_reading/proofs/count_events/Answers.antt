@@ -1,11 +1,10 @@
-use Prim.Native.Nat.{◌+◌, ◌*◌, ◌-◌}
+use Prim.Native.Nat.{◌+◌, ◌*◌}
 use mathlib.Core.Path.{sym, ◌∙◌}
 use lib.ListN.{drop}
 use native.Mathlib.Omega.{arith}
-use native.Mathlib.Nat.{add-zero}
 use Rattle.file_record.specs.Reader.{is_ev, ev_length, events_from}
 use Rattle.file_record.proofs.Records.{event_whole}
-use Rattle.file_record.proofs.Runs.{Counted, counted_none, counted_more, counted_stops, counted_full}
+use Rattle.file_record.proofs.Runs.{counted_more, counted_stops, counted_full}
 use Rattle.file_reading.proofs.count_events.Goals as goal
 
 pub loop-events-preserved : goal.loop-events-preserved

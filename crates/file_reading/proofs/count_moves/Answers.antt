@@ -1,11 +1,10 @@
-use Prim.Native.Nat.{◌+◌, ◌-◌}
+use Prim.Native.Nat.{◌+◌}
 use mathlib.Core.Path.{sym, ◌∙◌}
 use lib.ListN.{drop}
 use native.Mathlib.Omega.{arith}
-use borrow.Author.Rules.{rules}
-use Rattle.file_record.specs.Reader.{pf_length, is_mv, mv_length, moves_from, moves_in, move_start}
+use Rattle.file_record.specs.Reader.{is_mv, mv_length, moves_from, moves_in, move_start}
 use Rattle.file_record.proofs.Records.{move_whole}
-use Rattle.file_record.proofs.Runs.{Counted, counted_none, counted_more, counted_stops, counted_full}
+use Rattle.file_record.proofs.Runs.{counted_more, counted_stops, counted_full}
 use Rattle.file_reading.proofs.count_moves.Goals as goal
 
 pub loop-moves-preserved : goal.loop-moves-preserved

@@ -1,12 +1,7 @@
 -- `file_reading::count_moves` meets its contract. The loop's invariant: what is counted and what is left to count are the whole run (`Counted`).
-use Prim.Native.Nat.{◌+◌, ◌-◌}
-use mathlib.Core.Path.{sym, ◌∙◌}
-use lib.ListN.{drop}
-use native.Mathlib.Omega.{arith}
-use borrow.Author.Rules.{rules}
-use Rattle.file_record.specs.Reader.{pf_length, is_mv, mv_length, moves_from, moves_in, move_start}
-use Rattle.file_record.proofs.Records.{move_whole}
-use Rattle.file_record.proofs.Runs.{Counted, counted_none, counted_more, counted_stops, counted_full}
+use Prim.Native.Nat.{◌-◌}
+use Rattle.file_record.specs.Reader.{pf_length, is_mv, mv_length, move_start}
+use Rattle.file_record.proofs.Runs.{Counted}
 use Rattle.file_reading.proofs.count_moves.Given as goal
 
 abbrev pub invariant-loop-moves : goal.invariant-loop-moves

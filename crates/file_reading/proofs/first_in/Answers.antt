@@ -2,7 +2,6 @@
 use native.Mathlib.Omega.{arith}
 use mathlib.Core.Path.{sym, ◌∙◌}
 use Rattle.file_record.proofs.Files.{first_cut, first_named, first_none}
-use borrow.Author.Rules.{rules}
 use Rattle.file_reading.proofs.first_in.Goals as goal
 
 pub returns-then-file-at-lt-BEFORE_READINGS : goal.returns-then-file-at-lt-BEFORE_READINGS

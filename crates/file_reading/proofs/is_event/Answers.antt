@@ -1,7 +1,6 @@
 -- `file_reading::is_event` meets its contract.
 use mathlib.Core.Path.{sym, ◌∙◌}
 use Rattle.file_record.proofs.Records.{event_record}
-use borrow.Author.Rules.{rules}
 use Rattle.file_reading.proofs.is_event.Goals as goal
 
 pub returns : goal.returns

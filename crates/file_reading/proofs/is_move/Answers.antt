@@ -1,7 +1,6 @@
 -- `file_reading::is_move` meets its contract.
 use mathlib.Core.Path.{sym, ◌∙◌}
 use Rattle.file_record.proofs.Records.{move_record}
-use borrow.Author.Rules.{rules}
 use Rattle.file_reading.proofs.is_move.Goals as goal
 
 pub returns : goal.returns

@@ -1,7 +1,5 @@
 -- `file_reading::is_record` meets its contract: one law for each way out.
 use mathlib.Core.Path.{◌∙◌}
-use native.Mathlib.Omega.{arith}
-use borrow.Author.Rules.{rules}
 use Rattle.file_record.proofs.Records.{record_cut, record_marked}
 use Rattle.file_reading.proofs.is_record.Goals as goal
 

@@ -1,7 +1,6 @@
 -- `file_reading::number2` meets its contract.
 use mathlib.Core.Path.{sym, ◌∙◌}
 use Rattle.file_record.proofs.Numbers.{number_two}
-use borrow.Author.Rules.{rules}
 use Rattle.file_reading.proofs.number2.Goals as goal
 
 pub returns : goal.returns

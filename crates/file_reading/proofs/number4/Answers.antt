@@ -1,7 +1,6 @@
 -- `file_reading::number4` meets its contract.
 use mathlib.Core.Path.{sym, ◌∙◌}
 use Rattle.file_record.proofs.Numbers.{number_four}
-use borrow.Author.Rules.{rules}
 use Rattle.file_reading.proofs.number4.Goals as goal
 
 pub returns : goal.returns

@@ -1,6 +1,5 @@
 -- `file_reading::opens` meets its contract.
 use Rattle.file_record.proofs.Records.{opens_at}
-use borrow.Author.Rules.{rules}
 use Rattle.file_reading.proofs.opens.Goals as goal
 
 pub returns : goal.returns

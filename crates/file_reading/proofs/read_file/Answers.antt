@@ -3,7 +3,6 @@ use mathlib.Core.Path.{sym, ◌∙◌}
 use native.Mathlib.Omega.{arith}
 use Rattle.file_record.proofs.Starts.{base_most, day_start_most}
 use Rattle.file_record.proofs.Files.{base_from, file_cut, file_foreign, file_good, file_bad}
-use borrow.Author.Rules.{rules}
 use Rattle.file_reading.proofs.read_file.Goals as goal
 
 pub returns-then-file-lt-PF_LENGTH : goal.returns-then-file-lt-PF_LENGTH

@@ -2,7 +2,6 @@
 use native.Mathlib.Omega.{arith}
 use Rattle.method.proofs.Tables.{offset_most}
 use Rattle.file_record.proofs.Starts.{day_start_is}
-use borrow.Author.Rules.{rules}
 use Rattle.file_starts.proofs.day_start.Goals as goal
 
 pub overflow_mul-result-2 : goal.overflow_mul-result-2

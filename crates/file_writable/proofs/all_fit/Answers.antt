@@ -1,11 +1,5 @@
-use Prim.Native.Nat.{◌*◌, ◌-◌, ◌/◌, ◌≤◌}
-use mathlib.Core.Path.{◌≡◌, refl, sym, ◌∙◌}
+use mathlib.Core.Path.{sym, ◌∙◌}
 use native.Mathlib.Omega.{arith}
-use borrow.Author.Rules.{rules}
-use lib.ListN.{length, drop}
-use Rattle.base_lists.specs.Lists.{all}
-use Rattle.file_record.specs.Layout.{fits_event}
-use Rattle.file_record.specs.Writer.{events_of}
 use Rattle.file_writable.proofs.Tests.{one_fits, one_does_not, none_left}
 use Rattle.file_writable.proofs.all_fit.Goals as goal
 

@@ -1,13 +1,10 @@
 -- `file_writable::all_fit` meets its contract. The loop's invariant: those that are left fit where all do.
 use Prim.Native.Nat.{◌*◌, ◌-◌, ◌/◌, ◌≤◌}
-use mathlib.Core.Path.{◌≡◌, refl, sym, ◌∙◌}
-use native.Mathlib.Omega.{arith}
-use borrow.Author.Rules.{rules}
+use mathlib.Core.Path.{◌≡◌}
 use lib.ListN.{length, drop}
 use Rattle.base_lists.specs.Lists.{all}
 use Rattle.file_record.specs.Layout.{fits_event}
 use Rattle.file_record.specs.Writer.{events_of}
-use Rattle.file_writable.proofs.Tests.{one_fits, one_does_not, none_left}
 use Rattle.file_writable.proofs.all_fit.Given as goal
 
 abbrev pub invariant-loop-i : goal.invariant-loop-i

@@ -1,7 +1,6 @@
 -- `file_writable::few_of` meets its contract.
 use mathlib.Core.Path.{refl}
 use Rattle.file_record.specs.Writer.{few_of}
-use borrow.Author.Rules.{rules}
 use Rattle.file_writable.proofs.few_of.Goals as goal
 
 pub returns : goal.returns

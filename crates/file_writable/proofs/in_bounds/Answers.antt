@@ -2,7 +2,6 @@
 use mathlib.Core.Path.{refl}
 use Rattle.file_record.specs.Writer.{days_in_bounds}
 use Rattle.file_writable.proofs.Tests.{days_over}
-use borrow.Author.Rules.{rules}
 use Rattle.file_writable.proofs.in_bounds.Goals as goal
 
 pub returns-then-days : goal.returns-then-days

@@ -1,6 +1,5 @@
 -- `file_writable::is_matching` meets its contract.
 use Rattle.file_writable.proofs.Tests.{too_many, few_enough}
-use borrow.Author.Rules.{rules}
 use Rattle.file_writable.proofs.is_matching.Goals as goal
 
 pub returns-then-days : goal.returns-then-days

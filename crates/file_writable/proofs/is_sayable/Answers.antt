@@ -1,6 +1,5 @@
 -- `file_writable::is_sayable` meets its contract: one law for each way out.
 use Rattle.file_writable.proofs.Tests.{say_events, say_moves, say_early}
-use borrow.Author.Rules.{rules}
 use Rattle.file_writable.proofs.is_sayable.Goals as goal
 
 pub returns-then-moves_fit : goal.returns-then-moves_fit

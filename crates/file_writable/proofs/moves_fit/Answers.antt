@@ -1,9 +1,5 @@
-use Prim.Native.Nat.{◌-◌, ◌≤◌}
-use mathlib.Core.Path.{◌≡◌, sym, ◌∙◌}
-use mathlib.Core.Bool.{◌&&◌}
+use mathlib.Core.Path.{sym, ◌∙◌}
 use borrow.Author.Rules.{rules}
-use lib.ListN.{length, drop}
-use Rattle.base_lists.specs.Lists.{all}
 use Rattle.base_lists.proofs.All.{all_step, all_end}
 use Rattle.file_record.specs.Layout.{fits_day}
 use Rattle.file_writable.proofs.moves_fit.Goals as goal

@@ -1,11 +1,9 @@
 -- `file_writable::moves_fit` meets its contract. The invariant: what was found so far, and all from `i` on, is all.
-use Prim.Native.Nat.{◌-◌, ◌≤◌}
-use mathlib.Core.Path.{◌≡◌, sym, ◌∙◌}
+use Prim.Native.Nat.{◌≤◌}
+use mathlib.Core.Path.{◌≡◌}
 use mathlib.Core.Bool.{◌&&◌}
-use borrow.Author.Rules.{rules}
 use lib.ListN.{length, drop}
 use Rattle.base_lists.specs.Lists.{all}
-use Rattle.base_lists.proofs.All.{all_step, all_end}
 use Rattle.file_record.specs.Layout.{fits_day}
 use Rattle.file_writable.proofs.moves_fit.Given as goal
 

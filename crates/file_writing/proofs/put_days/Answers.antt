@@ -1,11 +1,6 @@
-use Prim.Native.Nat.{◌-◌, ◌≤◌}
 use native.Mathlib.Omega.{arith}
-use borrow.Author.Rules.{rules}
 use lib.ListN.{length}
-use Rattle.base_bytes.proofs.Filling.{Filling}
-use Rattle.file_record.specs.Layout.{dy_records}
-use Rattle.file_record.specs.Reader.{day_start}
-use Rattle.file_writing.proofs.Records.{Bounds, days_left, bounds, days_begin, day_put, days_put}
+use Rattle.file_writing.proofs.Records.{Bounds, bounds, days_begin, day_put, days_put}
 use Rattle.file_writing.proofs.put_days.Goals as goal
 
 pub loop-k-init : goal.loop-k-init
@@ -16,50 +11,50 @@ loop-k-init c =
 pub slice_bounds-put_day-count : goal.slice_bounds-put_day-count
 slice_bounds-put_day-count c =
     let its : ((let a = c.args in Bounds a.first (length a.marks.now) c.loop-k.k c.day_start-start.result c.day_start-end.result c.offset-from.result c.offset-to.result)) = (let a = c.args in
-            bounds a.first a.marks.now a.readings.now c.loop-k.k c.day_start-start.ensures
-            c.day_start-end.ensures c.offset-from.ensures c.offset-to.ensures c.loop-k-test.true) in
+    bounds a.first a.marks.now a.readings.now c.loop-k.k c.day_start-start.ensures
+    c.day_start-end.ensures c.offset-from.ensures c.offset-to.ensures c.loop-k-test.true) in
     omega (arith, its)
 
 pub slice_bounds-put_day-start : goal.slice_bounds-put_day-start
 slice_bounds-put_day-start c =
     let its : ((let a = c.args in Bounds a.first (length a.marks.now) c.loop-k.k c.day_start-start.result c.day_start-end.result c.offset-from.result c.offset-to.result)) = (let a = c.args in
-            bounds a.first a.marks.now a.readings.now c.loop-k.k c.day_start-start.ensures
-            c.day_start-end.ensures c.offset-from.ensures c.offset-to.ensures c.loop-k-test.true) in
+    bounds a.first a.marks.now a.readings.now c.loop-k.k c.day_start-start.ensures
+    c.day_start-end.ensures c.offset-from.ensures c.offset-to.ensures c.loop-k-test.true) in
     omega (arith, its)
 
 pub slice_bounds-put_day-end : goal.slice_bounds-put_day-end
 slice_bounds-put_day-end c =
     let its : ((let a = c.args in Bounds a.first (length a.marks.now) c.loop-k.k c.day_start-start.result c.day_start-end.result c.offset-from.result c.offset-to.result)) = (let a = c.args in
-            bounds a.first a.marks.now a.readings.now c.loop-k.k c.day_start-start.ensures
-            c.day_start-end.ensures c.offset-from.ensures c.offset-to.ensures c.loop-k-test.true) in
+    bounds a.first a.marks.now a.readings.now c.loop-k.k c.day_start-start.ensures
+    c.day_start-end.ensures c.offset-from.ensures c.offset-to.ensures c.loop-k-test.true) in
     omega (arith, its)
 
 pub offset_bounds-readings-from : goal.offset_bounds-readings-from
 offset_bounds-readings-from c =
     let its : ((let a = c.args in Bounds a.first (length a.marks.now) c.loop-k.k c.day_start-start.result c.day_start-end.result c.offset-from.result c.offset-to.result)) = (let a = c.args in
-            bounds a.first a.marks.now a.readings.now c.loop-k.k c.day_start-start.ensures
-            c.day_start-end.ensures c.offset-from.ensures c.offset-to.ensures c.loop-k-test.true) in
+    bounds a.first a.marks.now a.readings.now c.loop-k.k c.day_start-start.ensures
+    c.day_start-end.ensures c.offset-from.ensures c.offset-to.ensures c.loop-k-test.true) in
     omega (arith, its)
 
 pub slice_bounds-put_day-count-in-loop-k : goal.slice_bounds-put_day-count-in-loop-k
 slice_bounds-put_day-count-in-loop-k c =
     let its : ((let a = c.args in Bounds a.first (length a.marks.now) c.loop-k.k c.day_start-start.result c.day_start-end.result c.offset-from.result c.offset-to.result)) = (let a = c.args in
-            bounds a.first a.marks.now a.readings.now c.loop-k.k c.day_start-start.ensures
-            c.day_start-end.ensures c.offset-from.ensures c.offset-to.ensures c.loop-k-test.true) in
+    bounds a.first a.marks.now a.readings.now c.loop-k.k c.day_start-start.ensures
+    c.day_start-end.ensures c.offset-from.ensures c.offset-to.ensures c.loop-k-test.true) in
     omega (arith, its)
 
 pub slice_bounds-put_day-start-in-loop-k : goal.slice_bounds-put_day-start-in-loop-k
 slice_bounds-put_day-start-in-loop-k c =
     let its : ((let a = c.args in Bounds a.first (length a.marks.now) c.loop-k.k c.day_start-start.result c.day_start-end.result c.offset-from.result c.offset-to.result)) = (let a = c.args in
-            bounds a.first a.marks.now a.readings.now c.loop-k.k c.day_start-start.ensures
-            c.day_start-end.ensures c.offset-from.ensures c.offset-to.ensures c.loop-k-test.true) in
+    bounds a.first a.marks.now a.readings.now c.loop-k.k c.day_start-start.ensures
+    c.day_start-end.ensures c.offset-from.ensures c.offset-to.ensures c.loop-k-test.true) in
     omega (arith, its)
 
 pub slice_bounds-put_day-end-in-loop-k : goal.slice_bounds-put_day-end-in-loop-k
 slice_bounds-put_day-end-in-loop-k c =
     let its : ((let a = c.args in Bounds a.first (length a.marks.now) c.loop-k.k c.day_start-start.result c.day_start-end.result c.offset-from.result c.offset-to.result)) = (let a = c.args in
-            bounds a.first a.marks.now a.readings.now c.loop-k.k c.day_start-start.ensures
-            c.day_start-end.ensures c.offset-from.ensures c.offset-to.ensures c.loop-k-test.true) in
+    bounds a.first a.marks.now a.readings.now c.loop-k.k c.day_start-start.ensures
+    c.day_start-end.ensures c.offset-from.ensures c.offset-to.ensures c.loop-k-test.true) in
     omega (arith, its)
 
 pub loop-k-preserved : goal.loop-k-preserved

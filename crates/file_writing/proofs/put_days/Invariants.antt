@@ -1,12 +1,10 @@
 -- `file_writing::put_days` meets its contract. The loop's invariant: the days written and those left to write are the whole (`Filling`).
 use Prim.Native.Nat.{◌-◌, ◌≤◌}
-use native.Mathlib.Omega.{arith}
-use borrow.Author.Rules.{rules}
 use lib.ListN.{length}
 use Rattle.base_bytes.proofs.Filling.{Filling}
 use Rattle.file_record.specs.Layout.{dy_records}
 use Rattle.file_record.specs.Reader.{day_start}
-use Rattle.file_writing.proofs.Records.{Bounds, days_left, bounds, days_begin, day_put, days_put}
+use Rattle.file_writing.proofs.Records.{days_left}
 use Rattle.file_writing.proofs.put_days.Given as goal
 
 abbrev pub invariant-loop-k : goal.invariant-loop-k

@@ -1,15 +1,5 @@
-use Prim.Native.Nat.{◌*◌, ◌-◌, ◌/◌, ◌≤◌}
-use mathlib.Core.Path.{◌≡◌}
-use mathlib.Core.Bool.{true}
 use native.Mathlib.Omega.{arith}
-use borrow.Author.Rules.{rules}
-use lib.ListN.{length, drop}
-use Rattle.base_lists.specs.Lists.{all}
-use Rattle.base_bytes.proofs.Filling.{Filling, filling_none}
-use Rattle.file_record.specs.Layout.{ev_records, fits_event}
-use Rattle.file_record.specs.Reader.{ev_length}
-use Rattle.file_record.specs.Writer.{events_of}
-use Rattle.file_writing.proofs.Records.{events_left, one_fits, others_fit, event_put, events_put}
+use Rattle.file_writing.proofs.Records.{one_fits, others_fit, event_put, events_put}
 use Rattle.file_writing.proofs.put_events.Goals as goal
 
 pub overflow_cast-events : goal.overflow_cast-events

@@ -1,7 +1,6 @@
 -- `file_writing::put_file` meets its contract: its records are put one after the other.
 use native.Mathlib.Omega.{arith}
-use Rattle.file_writing.proofs.Records.{places, opening_room, days_room, events_room, file_long, file_put}
-use borrow.Author.Rules.{rules}
+use Rattle.file_writing.proofs.Records.{places, days_room, file_put}
 use Rattle.file_writing.proofs.put_file.Goals as goal
 
 pub slice_bounds-put_opening-end : goal.slice_bounds-put_opening-end

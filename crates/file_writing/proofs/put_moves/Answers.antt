@@ -1,11 +1,5 @@
-use Prim.Native.Nat.{◌*◌, ◌-◌, ◌/◌, ◌≤◌}
 use native.Mathlib.Omega.{arith}
-use borrow.Author.Rules.{rules}
-use lib.ListN.{length}
-use Rattle.base_bytes.proofs.Filling.{Filling, filling_none}
-use Rattle.file_record.specs.Layout.{mv_records}
-use Rattle.file_record.specs.Reader.{mv_length}
-use Rattle.file_writing.proofs.Records.{moves_left, move_put, moves_put}
+use Rattle.file_writing.proofs.Records.{move_put, moves_put}
 use Rattle.file_writing.proofs.put_moves.Goals as goal
 
 pub loop-i-preserved : goal.loop-i-preserved

@@ -1,7 +1,6 @@
 -- `file_writing::put_opening` meets its contract: the PF is put, and then the MV.
 use native.Mathlib.Omega.{arith}
-use Rattle.file_writing.proofs.Records.{moves_room, opening_put}
-use borrow.Author.Rules.{rules}
+use Rattle.file_writing.proofs.Records.{opening_put}
 use Rattle.file_writing.proofs.put_opening.Goals as goal
 
 pub returns : goal.returns

@@ -1,7 +1,6 @@
 -- `file_writing::write` meets its contract: one law for each way out.
 use mathlib.Core.Path.{sym, ◌∙◌}
 use native.Mathlib.Omega.{arith}
-use borrow.Author.Rules.{rules}
 use lib.ListN.{length}
 use Rattle.file_record.specs.Writer.{lent}
 use Rattle.file_record.proofs.Writing.{matches, says, no_match, unsaid}
@@ -38,44 +37,44 @@ overflow_cast-shape c =
 pub overflow_add-end : goal.overflow_add-end
 overflow_add-end c =
     let its : ((let a = c.args in Passed a.participation a.portfolio a.first a.marks.now a.readings.now a.moves.now a.events.now c.day_start-start.result)) = (record {
-              matched = sym c.is_matching-matching.ensures ∙ c.if-matching.true;
-              said_so = sym c.is_sayable-sayable.ensures ∙ c.if-sayable.true;
-              starts = rw c.base.ensures at c.day_start-start.ensures;
-            }) in
+      matched = sym c.is_matching-matching.ensures ∙ c.if-matching.true;
+      said_so = sym c.is_sayable-sayable.ensures ∙ c.if-sayable.true;
+      starts = rw c.base.ensures at c.day_start-start.ensures;
+    }) in
     omega (arith, end_most (its))
 
 pub returns-then-out-end : goal.returns-then-out-end
 returns-then-out-end c =
     let its : ((let a = c.args in Passed a.participation a.portfolio a.first a.marks.now a.readings.now a.moves.now a.events.now c.day_start-start.result)) = (record {
-              matched = sym c.is_matching-matching.ensures ∙ c.if-matching.true;
-              said_so = sym c.is_sayable-sayable.ensures ∙ c.if-sayable.true;
-              starts = rw c.base.ensures at c.day_start-start.ensures;
-            }) in
+      matched = sym c.is_matching-matching.ensures ∙ c.if-matching.true;
+      said_so = sym c.is_sayable-sayable.ensures ∙ c.if-sayable.true;
+      starts = rw c.base.ensures at c.day_start-start.ensures;
+    }) in
     too_short (its) c.args.out.now c.if-out-end.true
 
 pub put_file-requires : goal.put_file-requires
 put_file-requires c =
     let its : ((let a = c.args in Passed a.participation a.portfolio a.first a.marks.now a.readings.now a.moves.now a.events.now c.day_start-start.result)) = (record {
-              matched = sym c.is_matching-matching.ensures ∙ c.if-matching.true;
-              said_so = sym c.is_sayable-sayable.ensures ∙ c.if-sayable.true;
-              starts = rw c.base.ensures at c.day_start-start.ensures;
-            }) in
+      matched = sym c.is_matching-matching.ensures ∙ c.if-matching.true;
+      said_so = sym c.is_sayable-sayable.ensures ∙ c.if-sayable.true;
+      starts = rw c.base.ensures at c.day_start-start.ensures;
+    }) in
     shaped (its) c.args.out.now c.if-out-end.false
 
 pub overflow_cast-result : goal.overflow_cast-result
 overflow_cast-result c =
     let its : ((let a = c.args in Passed a.participation a.portfolio a.first a.marks.now a.readings.now a.moves.now a.events.now c.day_start-start.result)) = (record {
-              matched = sym c.is_matching-matching.ensures ∙ c.if-matching.true;
-              said_so = sym c.is_sayable-sayable.ensures ∙ c.if-sayable.true;
-              starts = rw c.base.ensures at c.day_start-start.ensures;
-            }) in
+      matched = sym c.is_matching-matching.ensures ∙ c.if-matching.true;
+      said_so = sym c.is_sayable-sayable.ensures ∙ c.if-sayable.true;
+      starts = rw c.base.ensures at c.day_start-start.ensures;
+    }) in
     omega (arith, end_most (its))
 
 pub returns-else-out-end : goal.returns-else-out-end
 returns-else-out-end c =
     let its : ((let a = c.args in Passed a.participation a.portfolio a.first a.marks.now a.readings.now a.moves.now a.events.now c.day_start-start.result)) = (record {
-              matched = sym c.is_matching-matching.ensures ∙ c.if-matching.true;
-              said_so = sym c.is_sayable-sayable.ensures ∙ c.if-sayable.true;
-              starts = rw c.base.ensures at c.day_start-start.ensures;
-            }) in
+      matched = sym c.is_matching-matching.ensures ∙ c.if-matching.true;
+      said_so = sym c.is_sayable-sayable.ensures ∙ c.if-sayable.true;
+      starts = rw c.base.ensures at c.day_start-start.ensures;
+    }) in
     written (its) c.args.out.now c.if-out-end.false c.put_file.ensures

@@ -1,7 +1,6 @@
 -- `host_answer::number_at` meets its contract: a place among the numbers, and one past them.
 use mathlib.Core.Path.{◌∙◌}
 use native.Mathlib.Omega.{arith}
-use borrow.Author.Rules.{rules}
 use Rattle.host_answer.proofs.Telling.{widened, number_past, number_there}
 use Rattle.host_answer.proofs.number_at.Goals as goal
 

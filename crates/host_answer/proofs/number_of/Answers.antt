@@ -1,6 +1,5 @@
 -- `host_answer::number_of` meets its contract.
 use mathlib.Core.Path.{sym, ap, ◌∙◌}
-use borrow.Author.Rules.{rules}
 use Rattle.engine_answer.proofs.Carried.{tells}
 use Rattle.host_answer.specs.Telling.{number_of}
 use Rattle.host_answer.proofs.number_of.Goals as goal

@@ -1,5 +1,4 @@
 -- `host_answer::tell` meets its contract: of an answer, and of a refusal.
-use borrow.Author.Rules.{rules}
 use Rattle.host_answer.proofs.Telling.{back, by_given}
 use Rattle.host_answer.proofs.tell.Goals as goal
 

@@ -2,7 +2,6 @@
 use Prim.Native.Nat.{◌<◌, ◌^◌}
 use mathlib.Core.Path.{refl}
 use native.Mathlib.Omega.{arith}
-use borrow.Author.Rules.{rules}
 use lib.Signed.{mag}
 use Rattle.host_answer.specs.Names.{by_name, row_from}
 use Rattle.host_answer.specs.Telling.{answer_row}

@@ -1,7 +1,6 @@
 -- `host_answer::tell_refusal` meets its contract: its number, and what it carries.
 use mathlib.Core.Path.{◌∙◌}
 use native.Mathlib.Omega.{arith}
-use borrow.Author.Rules.{rules}
 use Rattle.host_answer.proofs.Telling.{back, widened, refusal_number, refusal_carries}
 use Rattle.host_answer.proofs.tell_refusal.Goals as goal
 

@@ -3,7 +3,6 @@ use native.Mathlib.Omega.{arith}
 use Rattle.host_answer.specs.Names.{by_name, row_from}
 use Rattle.host_answer.proofs.Telling.{back, no_name}
 use Rattle.host_calendar.specs.Calendar.{calendar_row}
-use borrow.Author.Rules.{rules}
 use Rattle.host_calendar.proofs.tell_calendar.Goals as goal
 
 pub returns-in-0 : goal.returns-in-0

@@ -4,9 +4,8 @@ use native.Mathlib.Omega.{arith}
 use Rattle.calendar_dates.specs.declared.Place.{Place}
 use Rattle.calendar_dates.specs.Steps.{place_of}
 use Rattle.calendar_holidays.specs.Yearly.{easter}
-use Rattle.engine_numerators.proofs.Signed.{difference_fits, difference_back}
+use Rattle.engine_numerators.proofs.Signed.{difference_back}
 use Rattle.host_calendar.proofs.Ways.{easter_there, easter_none}
-use borrow.Author.Rules.{rules}
 use Rattle.host_calendar.proofs.tell_easter.Goals as goal
 
 pub returns-then-is_easter_holiday : goal.returns-then-is_easter_holiday

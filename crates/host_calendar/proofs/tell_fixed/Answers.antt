@@ -2,7 +2,6 @@
 use mathlib.Core.Path.{sym, ◌∙◌}
 use Rattle.host_answer.proofs.Telling.{back}
 use Rattle.host_calendar.proofs.Ways.{fixed_there, fixed_none, fixed_past}
-use borrow.Author.Rules.{rules}
 use Rattle.host_calendar.proofs.tell_fixed.Goals as goal
 
 pub returns-then-is_fixed_holiday : goal.returns-then-is_fixed_holiday

@@ -4,7 +4,6 @@ use native.Mathlib.Omega.{arith}
 use lib.IntN.{pos}
 use Rattle.host_answer.proofs.Telling.{widened}
 use Rattle.host_calendar.proofs.Ways.{group_past, group_there}
-use borrow.Author.Rules.{rules}
 use Rattle.host_calendar.proofs.tell_group.Goals as goal
 
 pub returns-then-day-gt-LAST_DAY : goal.returns-then-day-gt-LAST_DAY

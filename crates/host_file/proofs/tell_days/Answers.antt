@@ -3,7 +3,6 @@ use native.Mathlib.Omega.{arith}
 use Rattle.host_answer.specs.Names.{by_name, row_from}
 use Rattle.host_answer.proofs.Telling.{widened, no_name}
 use Rattle.host_file.specs.OfFile.{days_row}
-use borrow.Author.Rules.{rules}
 use Rattle.host_file.proofs.tell_days.Goals as goal
 
 pub returns-in-0 : goal.returns-in-0

@@ -1,5 +1,4 @@
 -- `host_file::tell_event` meets its contract: refused, none there, and an event.
-use borrow.Author.Rules.{rules}
 use Rattle.host_answer.proofs.Telling.{back}
 use Rattle.host_file.proofs.Ways.{of_event}
 use Rattle.host_file.proofs.tell_event.Goals as goal

@@ -1,5 +1,4 @@
 -- `host_file::tell_file` meets its contract: refused, and as laid down.
-use borrow.Author.Rules.{rules}
 use Rattle.host_answer.proofs.Telling.{back}
 use Rattle.host_file.proofs.Ways.{of_read}
 use Rattle.host_file.proofs.tell_file.Goals as goal

@@ -1,8 +1,6 @@
 -- `host_file::tell_move` meets its contract: refused, none there, and a move.
 use Rattle.host_answer.proofs.Telling.{back}
-use Rattle.host_file.specs.OfFile.{move_told}
 use Rattle.host_file.proofs.Ways.{of_move}
-use borrow.Author.Rules.{rules}
 use Rattle.host_file.proofs.tell_move.Goals as goal
 
 pub returns-in-Refused : goal.returns-in-Refused

@@ -1,6 +1,5 @@
 -- `host_file::tell_request` meets its contract, name by name.
 use native.Mathlib.Omega.{arith}
-use borrow.Author.Rules.{rules}
 use Rattle.host_answer.specs.Names.{by_name, row_from}
 use Rattle.host_answer.proofs.Telling.{widened}
 use Rattle.host_file.specs.OfFile.{request_row}

@@ -1,7 +1,5 @@
-use Prim.Native.Nat.{◌-◌, ◌≤◌}
 use native.Mathlib.Omega.{arith}
-use borrow.Author.Rules.{rules}
-use Rattle.host_look_back.proofs.Ranking.{Passed, passed_none, passed_next, passed_here, passed_all}
+use Rattle.host_look_back.proofs.Ranking.{passed_none, passed_next, passed_here, passed_all}
 use Rattle.host_look_back.proofs.rank_in.Goals as goal
 
 pub loop-i-init : goal.loop-i-init

@@ -1,8 +1,6 @@
 -- `host_look_back::rank_in` meets its contract. The invariant: the day is none of the first `i`.
 use Prim.Native.Nat.{◌-◌, ◌≤◌}
-use native.Mathlib.Omega.{arith}
-use borrow.Author.Rules.{rules}
-use Rattle.host_look_back.proofs.Ranking.{Passed, passed_none, passed_next, passed_here, passed_all}
+use Rattle.host_look_back.proofs.Ranking.{Passed}
 use Rattle.host_look_back.proofs.rank_in.Given as goal
 
 abbrev pub invariant-loop-i : goal.invariant-loop-i

@@ -2,7 +2,6 @@
 use Rattle.calendar_groups.specs.Holidays.{group as group_of}
 use Rattle.engine_rooms.specs.Rooms.{room_history}
 use Rattle.host_look_back.proofs.Windows.{chosen_untold, chosen_told_lem}
-use borrow.Author.Rules.{rules}
 use Rattle.host_look_back.proofs.tell_chosen.Goals as goal
 
 pub returns-then-window : goal.returns-then-window

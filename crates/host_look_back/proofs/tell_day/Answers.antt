@@ -1,6 +1,5 @@
 -- `host_look_back::tell_day` meets its contract: place by place in the look-back, and outside it.
 use native.Mathlib.Omega.{arith}
-use borrow.Author.Rules.{rules}
 use Rattle.calendar_groups.specs.Holidays.{group as group_of}
 use Rattle.engine_rooms.specs.Rooms.{room_history}
 use Rattle.host_answer.proofs.Telling.{back}

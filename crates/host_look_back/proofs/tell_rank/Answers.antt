@@ -5,7 +5,6 @@ use Rattle.calendar_groups.specs.Holidays.{group as group_of}
 use Rattle.engine_rooms.specs.Rooms.{room_history}
 use Rattle.host_answer.proofs.Telling.{widened}
 use Rattle.host_look_back.proofs.Windows.{rank-untold, rank_told_lem}
-use borrow.Author.Rules.{rules}
 use Rattle.host_look_back.proofs.tell_rank.Goals as goal
 
 pub returns-then-window : goal.returns-then-window

@@ -1,11 +1,9 @@
 -- `host_numbers::tell_written` meets its contract.
 use mathlib.Core.Path.{sym, ap, ◌∙◌}
-use native.Mathlib.Omega.{arith}
 use borrow.Author.Rules.{sfits_of}
-use Rattle.host_answer.proofs.Telling.{back, widened}
+use Rattle.host_answer.proofs.Telling.{back}
 use Rattle.host_numbers.specs.Numbers.{written_told}
 use Rattle.host_numbers.proofs.Minus.{minus, minus_fits}
-use borrow.Author.Rules.{rules}
 use Rattle.host_numbers.proofs.tell_written.Goals as goal
 
 pub overflow_sub-result : goal.overflow_sub-result

@@ -5,14 +5,13 @@ use native.Mathlib.Omega.{arith}
 use lib.Seq.{length-take-le}
 use Rattle.file_moves.proofs.Moves.{list_few, list_first}
 use Rattle.host_overlap.proofs.Ways.{day_there, day_none, cut_is}
-use borrow.Author.Rules.{rules}
 use Rattle.host_overlap.proofs.cut_within.Goals as goal
 
 pub slice_bounds-moves-end : goal.slice_bounds-moves-end
-slice_bounds-moves-end c =  omega (arith, list_few c.args.file.now c.requires)
+slice_bounds-moves-end c = omega (arith, list_few c.args.file.now c.requires)
 
 pub slice_bounds-least_needed-end : goal.slice_bounds-least_needed-end
-slice_bounds-least_needed-end c =  sym (length-take-le (2 * c.args.shape.moves) _ (omega (arith, list_few c.args.file.now c.requires)))
+slice_bounds-least_needed-end c = sym (length-take-le (2 * c.args.shape.moves) _ (omega (arith, list_few c.args.file.now c.requires)))
 
 pub returns-then-day-lt-NO_DAY : goal.returns-then-day-lt-NO_DAY
 returns-then-day-lt-NO_DAY c =

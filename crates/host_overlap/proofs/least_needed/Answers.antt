@@ -1,8 +1,6 @@
-use Prim.Native.Nat.{◌-◌}
 use native.Mathlib.Omega.{arith}
-use borrow.Author.Rules.{rules}
 use Rattle.file_record.specs.Reader.{request_at}
-use Rattle.host_overlap.proofs.Least.{Going, going_none, going_more, going_end}
+use Rattle.host_overlap.proofs.Least.{going_none, going_more, going_end}
 use Rattle.host_overlap.proofs.least_needed.Goals as goal
 
 pub loop-place-init : goal.loop-place-init

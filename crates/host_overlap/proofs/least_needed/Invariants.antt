@@ -1,9 +1,7 @@
 -- `host_overlap::least_needed` meets its contract. The loop's invariant: the least so far, and the events left (`Going`).
 use Prim.Native.Nat.{◌-◌}
-use native.Mathlib.Omega.{arith}
-use borrow.Author.Rules.{rules}
 use Rattle.file_record.specs.Reader.{request_at}
-use Rattle.host_overlap.proofs.Least.{Going, going_none, going_more, going_end}
+use Rattle.host_overlap.proofs.Least.{Going}
 use Rattle.host_overlap.proofs.least_needed.Given as goal
 
 abbrev pub invariant-loop-place : goal.invariant-loop-place

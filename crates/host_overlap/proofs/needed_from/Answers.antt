@@ -2,7 +2,6 @@
 use mathlib.Core.Path.{sym, ◌∙◌}
 use native.Mathlib.Omega.{arith}
 use Rattle.host_overlap.proofs.Ways.{needs_none, needs_some}
-use borrow.Author.Rules.{rules}
 use Rattle.host_overlap.proofs.needed_from.Goals as goal
 
 pub returns-in-Failed : goal.returns-in-Failed

@@ -4,7 +4,6 @@ use mathlib.Core.List.{[]}
 use native.Mathlib.Omega.{arith}
 use Rattle.engine_rooms.proofs.Held.{event_held}
 use Rattle.host_overlap.proofs.Ways.{bad_list, good_list}
-use borrow.Author.Rules.{rules}
 use Rattle.host_overlap.proofs.of_event.Goals as goal
 
 pub returns-then-is_good_list : goal.returns-then-is_good_list

@@ -6,14 +6,13 @@ use lib.Seq.{length-take-le}
 use Rattle.file_moves.proofs.Moves.{list_few, list_first}
 use Rattle.host_answer.proofs.Telling.{back}
 use Rattle.host_overlap.proofs.Ways.{of_place, of_event}
-use borrow.Author.Rules.{rules}
 use Rattle.host_overlap.proofs.tell_at.Goals as goal
 
 pub slice_bounds-moves-end : goal.slice_bounds-moves-end
-slice_bounds-moves-end c =  omega (arith, list_few c.args.file.now c.requires)
+slice_bounds-moves-end c = omega (arith, list_few c.args.file.now c.requires)
 
 pub slice_bounds-tell_event-end : goal.slice_bounds-tell_event-end
-slice_bounds-tell_event-end c =  sym (length-take-le (2 * c.args.shape.moves) _ (omega (arith, list_few c.args.file.now c.requires)))
+slice_bounds-tell_event-end c = sym (length-take-le (2 * c.args.shape.moves) _ (omega (arith, list_few c.args.file.now c.requires)))
 
 pub returns-in-Refused : goal.returns-in-Refused
 returns-in-Refused c =

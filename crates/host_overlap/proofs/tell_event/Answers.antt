@@ -3,7 +3,6 @@ use mathlib.Core.Path.{sym, ◌∙◌}
 use native.Mathlib.Omega.{arith}
 use Rattle.host_answer.proofs.Telling.{back}
 use Rattle.host_overlap.proofs.Ways.{enough_event, told_refused, told_numbers}
-use borrow.Author.Rules.{rules}
 use Rattle.host_overlap.proofs.tell_event.Goals as goal
 
 pub tell_numbers-requires : goal.tell_numbers-requires

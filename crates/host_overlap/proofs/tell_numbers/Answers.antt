@@ -5,7 +5,6 @@ use lib.IntN.{pos}
 use Rattle.host_answer.specs.Names.{by_name, row_from}
 use Rattle.host_answer.proofs.Telling.{widened, no_name}
 use Rattle.host_overlap.specs.Overlap.{numbers_of}
-use borrow.Author.Rules.{rules}
 use Rattle.host_overlap.proofs.tell_numbers.Goals as goal
 
 pub returns-in-0 : goal.returns-in-0

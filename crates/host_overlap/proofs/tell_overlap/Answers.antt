@@ -2,7 +2,6 @@
 use mathlib.Core.Path.{sym, ◌∙◌}
 use Rattle.host_answer.proofs.Telling.{back}
 use Rattle.host_overlap.proofs.Ways.{of_refused}
-use borrow.Author.Rules.{rules}
 use Rattle.host_overlap.proofs.tell_overlap.Goals as goal
 
 pub returns-in-Refused : goal.returns-in-Refused

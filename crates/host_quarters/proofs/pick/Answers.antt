@@ -3,7 +3,6 @@ use mathlib.Core.Path.{refl}
 use Rattle.calendar_groups.specs.Holidays.{group}
 use Rattle.engine_rooms.specs.Rooms.{room_history}
 use Rattle.host_quarters.proofs.Picking.{picks_short, picks_few, picks_days}
-use borrow.Author.Rules.{rules}
 use Rattle.host_quarters.proofs.pick.Goals as goal
 
 pub returns-in-Short : goal.returns-in-Short

@@ -7,7 +7,6 @@ use mir.ValLaws.{to_z_pos}
 use Rattle.calendar_groups.specs.Holidays.{group}
 use Rattle.engine_rooms.specs.Rooms.{room_history}
 use Rattle.host_quarters.proofs.Ways.{none_chosen, of_average, no_window, end_told, own_told, usual_told, no_other}
-use borrow.Author.Rules.{rules}
 use Rattle.host_quarters.proofs.tell_adjustment.Goals as goal
 
 pub returns-then-request-eq-AVERAGE_X_OF_Y : goal.returns-then-request-eq-AVERAGE_X_OF_Y

@@ -7,9 +7,8 @@ use lib.ListN.{take}
 use mir.Syntax.{w64}
 use mir.ValLaws.{to_z_pos}
 use Rattle.engine_rooms.specs.Rooms.{room_history}
-use Rattle.engine_numerators.proofs.Signed.{difference_fits, difference_back}
+use Rattle.engine_numerators.proofs.Signed.{difference_back}
 use Rattle.host_quarters.proofs.Numerators.{by_average, without_window, with_window}
-use borrow.Author.Rules.{rules}
 use Rattle.host_quarters.proofs.tell_numerator.Goals as goal
 
 pub returns-then-request-eq-AVERAGE_X_OF_Y : goal.returns-then-request-eq-AVERAGE_X_OF_Y

@@ -10,7 +10,6 @@ use Rattle.engine_rooms.specs.Rooms.{room_history}
 use Rattle.engine_choice.proofs.Requested.{chosen_five}
 use Rattle.host_answer.proofs.Telling.{back}
 use Rattle.host_quarters.proofs.Ways.{quarter_none, sum_told, past_ruler, numerator_told, outside_event}
-use borrow.Author.Rules.{rules}
 use Rattle.host_quarters.proofs.tell_quarter.Goals as goal
 
 pub returns-then-t-end : goal.returns-then-t-end

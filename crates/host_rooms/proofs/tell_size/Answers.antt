@@ -4,7 +4,6 @@ use Rattle.host_answer.specs.Names.{by_name}
 use Rattle.host_answer.proofs.Telling.{widened}
 use Rattle.host_rooms.specs.Steps.{window_row}
 use Rattle.host_rooms.proofs.Rows.{short_told, no_size}
-use borrow.Author.Rules.{rules}
 use Rattle.host_rooms.proofs.tell_size.Goals as goal
 
 pub returns-then-place-eq0 : goal.returns-then-place-eq0

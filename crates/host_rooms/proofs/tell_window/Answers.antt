@@ -5,7 +5,6 @@ use Rattle.calendar_groups.specs.Holidays.{group}
 use Rattle.engine_rooms.specs.Rooms.{room_history}
 use Rattle.host_answer.proofs.Telling.{widened, back}
 use Rattle.host_rooms.proofs.Rows.{group_told, size_told}
-use borrow.Author.Rules.{rules}
 use Rattle.host_rooms.proofs.tell_window.Goals as goal
 
 pub returns-then-place-eq0 : goal.returns-then-place-eq0

@@ -5,7 +5,6 @@ use Rattle.calendar_groups.specs.Holidays.{group}
 use Rattle.engine_rooms.specs.Rooms.{room_history}
 use Rattle.host_answer.proofs.Telling.{back}
 use Rattle.host_rooms.proofs.Rows.{result_told, window_told, adjustment_told, day_told, quarter_told, none_told}
-use borrow.Author.Rules.{rules}
 use Rattle.host_rooms.proofs.tell_working.Goals as goal
 
 pub returns-in-0 : goal.returns-in-0

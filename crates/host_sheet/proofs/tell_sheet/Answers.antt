@@ -2,7 +2,6 @@
 use mathlib.Core.Path.{sym, ◌∙◌}
 use Rattle.host_answer.proofs.Telling.{back}
 use Rattle.host_sheet.proofs.Places.{refused_there, event_there}
-use borrow.Author.Rules.{rules}
 use Rattle.host_sheet.proofs.tell_sheet.Goals as goal
 
 pub returns-in-Refused : goal.returns-in-Refused

@@ -3,7 +3,6 @@ use mathlib.Core.Path.{sym, ◌∙◌}
 use Rattle.table_days.specs.Lent.{table_of}
 use Rattle.host_answer.proofs.Telling.{back}
 use Rattle.host_table.proofs.Tests.{table_told}
-use borrow.Author.Rules.{rules}
 use Rattle.host_table.proofs.tell_table.Goals as goal
 
 pub returns-in-Failed : goal.returns-in-Failed

@@ -1,8 +1,7 @@
 -- `listing_event::event` meets its contract: too little room, a refusal, or an answer.
 use native.Mathlib.Omega.{arith}
-use borrow.Author.Rules.{rules}
 use Rattle.table_days.specs.Lent.{table_of}
-use Rattle.listing_lines.proofs.Writing.{named, whole, no_room, with_room}
+use Rattle.listing_lines.proofs.Writing.{named, whole, with_room}
 use Rattle.listing_event.proofs.Replies.{refusal_text, listed}
 use Rattle.listing_event.proofs.event.Goals as goal
 

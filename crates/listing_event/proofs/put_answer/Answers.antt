@@ -2,7 +2,6 @@
 use native.Mathlib.Omega.{arith}
 use mir.Syntax.{w64}
 use mir.ValLaws.{to_z-of_z}
-use borrow.Author.Rules.{rules}
 use Rattle.listing_lines.specs.Lines.{lines_text}
 use Rattle.listing_lines.proofs.Writing.{then, whole}
 use Rattle.listing_event.proofs.put_answer.Goals as goal

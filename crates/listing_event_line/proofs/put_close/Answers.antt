@@ -1,7 +1,6 @@
 -- `listing_event_line::put_close` meets its contract: five pieces in a row.
 use mir.Syntax.{w64}
 use mir.ValLaws.{to_z-of_z}
-use borrow.Author.Rules.{rules}
 use Rattle.listing_event_line.proofs.Lines.{close_is}
 use Rattle.listing_event_line.proofs.put_close.Goals as goal
 

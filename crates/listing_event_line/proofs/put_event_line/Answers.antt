@@ -1,5 +1,5 @@
 -- `listing_event_line::put_event_line` meets its contract: how many days, the days, and what stands before and after them are the line.
-use mathlib.Core.Path.{sym, ap, ◌∙◌}
+use mathlib.Core.Path.{ap, ◌∙◌}
 use native.Mathlib.Omega.{arith}
 use lib.ListN.{length, take}
 use mir.Syntax.{w64}
@@ -7,7 +7,7 @@ use mir.ValLaws.{to_z-of_z}
 use borrow.Author.Rules.{rules}
 use Rattle.base_lists.specs.Ascii.{ascii}
 use Rattle.base_digits.specs.Digits.{dec}
-use Rattle.listing_lines.proofs.Writing.{same_length as kept_length, both_placed, then, named, no_room, with_room}
+use Rattle.listing_lines.proofs.Writing.{same_length as kept_length, both_placed, then, named, with_room}
 use Rattle.listing_lines.proofs.Lines.{spaced_word_and}
 use Rattle.listing_event_line.proofs.Lines.{Few, few_days, days_are, event_is}
 use Rattle.listing_event_line.proofs.put_event_line.Goals as goal

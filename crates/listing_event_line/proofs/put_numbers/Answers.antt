@@ -1,12 +1,8 @@
-use Prim.Native.Nat.{◌+◌, ◌*◌, ◌-◌, ◌≤◌}
-use mathlib.Core.Path.{◌≡◌, refl}
-use mathlib.Core.List.{map}
+use mathlib.Core.Path.{refl}
 use native.Mathlib.Omega.{arith}
-use lib.ListN.{length, drop, get_or}
-use borrow.Author.Rules.{rules}
+use lib.ListN.{get_or}
 use Rattle.base_digits.specs.Digits.{dec}
-use Rattle.listing_lines.specs.Lines.{spaced}
-use Rattle.listing_lines.proofs.Writing.{both_placed, Writing, writing_begin}
+use Rattle.listing_lines.proofs.Writing.{both_placed, writing_begin}
 use Rattle.listing_event_line.proofs.Lines.{numbers_next, numbers_end}
 use Rattle.listing_event_line.proofs.put_numbers.Goals as goal
 

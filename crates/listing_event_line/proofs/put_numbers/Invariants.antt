@@ -1,14 +1,11 @@
 -- `listing_event_line::put_numbers` meets its contract. The loop's invariant: all but the numbers from `i` on is written.
 use Prim.Native.Nat.{◌+◌, ◌*◌, ◌-◌, ◌≤◌}
-use mathlib.Core.Path.{◌≡◌, refl}
+use mathlib.Core.Path.{◌≡◌}
 use mathlib.Core.List.{map}
-use native.Mathlib.Omega.{arith}
-use lib.ListN.{length, drop, get_or}
-use borrow.Author.Rules.{rules}
+use lib.ListN.{length, drop}
 use Rattle.base_digits.specs.Digits.{dec}
 use Rattle.listing_lines.specs.Lines.{spaced}
-use Rattle.listing_lines.proofs.Writing.{both_placed, Writing, writing_begin}
-use Rattle.listing_event_line.proofs.Lines.{numbers_next, numbers_end}
+use Rattle.listing_lines.proofs.Writing.{Writing}
 use Rattle.listing_event_line.proofs.put_numbers.Given as goal
 
 abbrev pub invariant-loop-i : goal.invariant-loop-i

@@ -1,11 +1,10 @@
 -- `listing_event_line::put_refusal` meets its contract: four pieces in a row are the line.
 use mathlib.Core.Path.{sym}
 use native.Mathlib.Omega.{arith}
-use borrow.Author.Rules.{rules}
 use Rattle.base_lists.specs.Ascii.{ascii}
 use Rattle.base_digits.specs.Digits.{dec}
 use Rattle.engine_answer.proofs.Carried.{tells}
-use Rattle.listing_lines.proofs.Writing.{placed, both_placed, then, named, no_room, with_room}
+use Rattle.listing_lines.proofs.Writing.{placed, both_placed, then, named, with_room}
 use Rattle.listing_lines.proofs.Lines.{spaced_word_and}
 use Rattle.listing_event_line.proofs.Lines.{carried_length, refusal_is}
 use Rattle.listing_event_line.proofs.put_refusal.Goals as goal

@@ -1,6 +1,5 @@
 -- `listing_event_line::put_three` meets its contract: three pieces in a row.
 use native.Mathlib.Omega.{arith}
-use borrow.Author.Rules.{rules}
 use Rattle.base_digits.specs.Digits.{dec}
 use Rattle.listing_lines.proofs.Writing.{placed, then_both}
 use Rattle.listing_lines.proofs.Lines.{three_fields}

@@ -1,7 +1,6 @@
 -- `listing_first_line::opening` meets its contract: too little room, a header, or a refused file.
-use borrow.Author.Rules.{rules}
 use Rattle.listing_lines.specs.WriteSteps.{opening_line}
-use Rattle.listing_lines.proofs.Writing.{no_room, with_room}
+use Rattle.listing_lines.proofs.Writing.{with_room}
 use Rattle.listing_first_line.proofs.opening.Goals as goal
 
 pub returns-in-File : goal.returns-in-File

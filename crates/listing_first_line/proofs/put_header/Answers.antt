@@ -1,7 +1,5 @@
 -- `listing_first_line::put_header` meets its contract: five pieces in a row are the line.
-use mathlib.Core.Path.{refl}
 use native.Mathlib.Omega.{arith}
-use borrow.Author.Rules.{rules}
 use Rattle.base_lists.specs.Ascii.{ascii}
 use Rattle.base_digits.specs.Digits.{dec}
 use Rattle.listing_lines.proofs.Writing.{placed, both_placed, then, named}

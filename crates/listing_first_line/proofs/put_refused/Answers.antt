@@ -1,6 +1,5 @@
 -- `listing_first_line::put_refused` meets its contract.
 use native.Mathlib.Omega.{arith}
-use borrow.Author.Rules.{rules}
 use Rattle.base_digits.specs.Digits.{dec}
 use Rattle.listing_lines.proofs.Writing.{both_placed, then_put, named}
 use Rattle.listing_first_line.proofs.Header.{refused_is}

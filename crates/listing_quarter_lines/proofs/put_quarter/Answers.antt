@@ -1,6 +1,5 @@
 -- `listing_quarter_lines::put_quarter` meets its contract: three numbers and the end of the line.
 use native.Mathlib.Omega.{arith}
-use borrow.Author.Rules.{rules}
 use Rattle.base_digits.specs.Digits.{dec}
 use Rattle.listing_lines.proofs.Writing.{placed, then_both, then_put, named}
 use Rattle.listing_lines.proofs.Lines.{three_fields}

@@ -1,13 +1,8 @@
-use Prim.Native.Nat.{◌+◌, ◌*◌, ◌-◌, ◌≤◌}
-use mathlib.Core.Path.{◌≡◌, refl}
+use Prim.Native.Nat.{◌-◌}
+use mathlib.Core.Path.{refl}
 use native.Mathlib.Omega.{arith}
-use lib.ListN.{length, take, drop}
-use borrow.Author.Rules.{rules}
-use Rattle.listing_lines.specs.Lines.{lines_text}
-use Rattle.listing_lines.specs.Listing.{quarter_lines}
 use Rattle.method.specs.Table.{most_quarters}
-use Rattle.listing_quarter_lines.specs.Room.{line_room}
-use Rattle.listing_lines.proofs.Writing.{Writing, writing_begin, no_room, with_room}
+use Rattle.listing_lines.proofs.Writing.{writing_begin, with_room}
 use Rattle.listing_quarter_lines.proofs.Quarters.{quarters_next, quarters_end, those_there}
 use Rattle.listing_quarter_lines.proofs.put_quarters.Goals as goal
 

@@ -1,5 +1,4 @@
 -- `listing_whole::listing` meets its contract: by way of a buffer of its own, or straight into the lent one.
-use borrow.Author.Rules.{rules}
 use Rattle.listing_whole.proofs.Whole.{straight}
 use Rattle.listing_whole.proofs.listing.Goals as goal
 

@@ -1,5 +1,4 @@
 -- `listing_whole::put_event` meets its contract: the event is there, and its lines are those of its own place.
-use borrow.Author.Rules.{rules}
 use Rattle.listing_whole.proofs.Holding.{its_lines, never_none, never_refused}
 use Rattle.listing_whole.proofs.put_event.Goals as goal
 

@@ -1,12 +1,7 @@
-use Prim.Native.Nat.{◌+◌, ◌*◌, ◌-◌, ◌≤◌}
-use mathlib.Core.Path.{◌≡◌, refl}
+use mathlib.Core.Path.{refl}
 use native.Mathlib.Omega.{arith}
 use native.Mathlib.Nat.{sub-zero}
-use lib.ListN.{length}
-use borrow.Author.Rules.{rules}
-use Rattle.listing_lines.specs.WriteSteps.{event_texts}
-use Rattle.listing_lines.proofs.Writing.{Writing, writing_begin, same_length as still_as_long}
-use Rattle.listing_event.specs.Room.{lines_room}
+use Rattle.listing_lines.proofs.Writing.{writing_begin, same_length as still_as_long}
 use Rattle.listing_whole.proofs.Whole.{events_next, events_end}
 use Rattle.listing_whole.proofs.put_events.Goals as goal
 

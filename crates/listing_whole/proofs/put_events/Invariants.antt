@@ -1,14 +1,10 @@
 -- `listing_whole::put_events` meets its contract. The loop's invariant: all but the texts of the events from `place` on is written.
 use Prim.Native.Nat.{◌+◌, ◌*◌, ◌-◌, ◌≤◌}
-use mathlib.Core.Path.{◌≡◌, refl}
-use native.Mathlib.Omega.{arith}
-use native.Mathlib.Nat.{sub-zero}
+use mathlib.Core.Path.{◌≡◌}
 use lib.ListN.{length}
-use borrow.Author.Rules.{rules}
 use Rattle.listing_lines.specs.WriteSteps.{event_texts}
-use Rattle.listing_lines.proofs.Writing.{Writing, writing_begin, same_length as still_as_long}
+use Rattle.listing_lines.proofs.Writing.{Writing}
 use Rattle.listing_event.specs.Room.{lines_room}
-use Rattle.listing_whole.proofs.Whole.{events_next, events_end}
 use Rattle.listing_whole.proofs.put_events.Given as goal
 
 abbrev pub invariant-loop-place : goal.invariant-loop-place

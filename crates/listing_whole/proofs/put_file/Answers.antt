@@ -2,7 +2,6 @@
 use Prim.Native.Nat.{◌*◌}
 use mathlib.Core.Path.{sym, ◌∙◌}
 use native.Mathlib.Omega.{arith}
-use borrow.Author.Rules.{rules}
 use lib.Seq.{length-take-le}
 use Rattle.method.specs.Table.{most_quarters}
 use Rattle.method.proofs.Tables.{offset_most}
@@ -16,18 +15,18 @@ use Rattle.listing_whole.proofs.Whole.{file_listed}
 use Rattle.listing_whole.proofs.put_file.Goals as goal
 
 pub slice_bounds-marks-end : goal.slice_bounds-marks-end
-slice_bounds-marks-end c =  omega (arith, (shape_fits c.args.file.now c.args.shape c.requires.0).days)
+slice_bounds-marks-end c = omega (arith, (shape_fits c.args.file.now c.args.shape c.requires.0).days)
 
 pub slice_bounds-put_events-end : goal.slice_bounds-put_events-end
 slice_bounds-put_events-end c =
     let its : ((let a = c.args in let l = c.load_within in WithinBuffers a.shape (span 0 a.shape.days) a.file.now c.offset-count.result l.new.marks l.new.readings)) = (let s = c in
-            let a = s.args in
-            let all = span 0 a.shape.days in
-            let few = (shape_fits a.file.now a.shape s.requires.0).days in
-            let count = place_whole a.shape in
-            let fits = fits_own a.shape all a.file.now 128 (most_quarters * 128) s.requires.0 (omega arith) (omega arith) few
-            (omega (arith, count, offset_most a.shape.first a.shape.days 128 few)) in
-            within_buffers a.shape all a.file.now _ _ c.load_within.ensures.held_marks c.load_within.ensures.held_readings (c.load_within.ensures.said ∙ fits) (c.offset-count.ensures ∙ sym count)) in
+    let a = s.args in
+    let all = span 0 a.shape.days in
+    let few = (shape_fits a.file.now a.shape s.requires.0).days in
+    let count = place_whole a.shape in
+    let fits = fits_own a.shape all a.file.now 128 (most_quarters * 128) s.requires.0 (omega arith) (omega arith) few
+    (omega (arith, count, offset_most a.shape.first a.shape.days 128 few)) in
+    within_buffers a.shape all a.file.now _ _ c.load_within.ensures.held_marks c.load_within.ensures.held_readings (c.load_within.ensures.said ∙ fits) (c.offset-count.ensures ∙ sym count)) in
     sym (its).marks_size
 
 pub slice_bounds-readings-end : goal.slice_bounds-readings-end
@@ -38,13 +37,13 @@ slice_bounds-readings-end c =
 pub slice_bounds-put_events-end-2 : goal.slice_bounds-put_events-end-2
 slice_bounds-put_events-end-2 c =
     let its : ((let a = c.args in let l = c.load_within in WithinBuffers a.shape (span 0 a.shape.days) a.file.now c.offset-count.result l.new.marks l.new.readings)) = (let s = c in
-            let a = s.args in
-            let all = span 0 a.shape.days in
-            let few = (shape_fits a.file.now a.shape s.requires.0).days in
-            let count = place_whole a.shape in
-            let fits = fits_own a.shape all a.file.now 128 (most_quarters * 128) s.requires.0 (omega arith) (omega arith) few
-            (omega (arith, count, offset_most a.shape.first a.shape.days 128 few)) in
-            within_buffers a.shape all a.file.now _ _ c.load_within.ensures.held_marks c.load_within.ensures.held_readings (c.load_within.ensures.said ∙ fits) (c.offset-count.ensures ∙ sym count)) in
+    let a = s.args in
+    let all = span 0 a.shape.days in
+    let few = (shape_fits a.file.now a.shape s.requires.0).days in
+    let count = place_whole a.shape in
+    let fits = fits_own a.shape all a.file.now 128 (most_quarters * 128) s.requires.0 (omega arith) (omega arith) few
+    (omega (arith, count, offset_most a.shape.first a.shape.days 128 few)) in
+    within_buffers a.shape all a.file.now _ _ c.load_within.ensures.held_marks c.load_within.ensures.held_readings (c.load_within.ensures.said ∙ fits) (c.offset-count.ensures ∙ sym count)) in
     sym (its).readings_size
 
 pub slice_bounds-moves-end : goal.slice_bounds-moves-end
@@ -58,13 +57,13 @@ slice_bounds-put_events-end-3 c =
 pub put_events-requires : goal.put_events-requires
 put_events-requires c =
     let its : ((let a = c.args in let l = c.load_within in WithinBuffers a.shape (span 0 a.shape.days) a.file.now c.offset-count.result l.new.marks l.new.readings)) = (let s = c in
-            let a = s.args in
-            let all = span 0 a.shape.days in
-            let few = (shape_fits a.file.now a.shape s.requires.0).days in
-            let count = place_whole a.shape in
-            let fits = fits_own a.shape all a.file.now 128 (most_quarters * 128) s.requires.0 (omega arith) (omega arith) few
-            (omega (arith, count, offset_most a.shape.first a.shape.days 128 few)) in
-            within_buffers a.shape all a.file.now _ _ c.load_within.ensures.held_marks c.load_within.ensures.held_readings (c.load_within.ensures.said ∙ fits) (c.offset-count.ensures ∙ sym count)) in
+    let a = s.args in
+    let all = span 0 a.shape.days in
+    let few = (shape_fits a.file.now a.shape s.requires.0).days in
+    let count = place_whole a.shape in
+    let fits = fits_own a.shape all a.file.now 128 (most_quarters * 128) s.requires.0 (omega arith) (omega arith) few
+    (omega (arith, count, offset_most a.shape.first a.shape.days 128 few)) in
+    within_buffers a.shape all a.file.now _ _ c.load_within.ensures.held_marks c.load_within.ensures.held_readings (c.load_within.ensures.said ∙ fits) (c.offset-count.ensures ∙ sym count)) in
     let opening = c.opening-next in (
       holds c.requires.0 (its) (list_first c.args.file.now c.requires.0 _ (omega arith) c.load_list.ensures.said c.load_list.ensures.held),
       omega (arith, opening.ensures.most, (shape_fits c.args.file.now c.args.shape c.requires.0).events),

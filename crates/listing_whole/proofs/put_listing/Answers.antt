@@ -1,7 +1,6 @@
 -- `listing_whole::put_listing` meets its contract: a refused file's line, or the listing of a file.
 use mathlib.Core.Path.{sym, ◌∙◌}
 use native.Mathlib.Omega.{arith}
-use borrow.Author.Rules.{rules}
 use Rattle.listing_whole.proofs.Whole.{refusal_listed}
 use Rattle.listing_whole.proofs.put_listing.Goals as goal
 

@@ -1,6 +1,5 @@
 -- `table_baseline::baseline` meets its contract: what was found of the table is known at `d`.
 use mathlib.Core.Path.{sym, ◌∙◌}
-use borrow.Author.Rules.{rules}
 use lib.ListN.{length}
 use Rattle.table_days.specs.Lent.{table_of}
 use Rattle.engine_answer.proofs.Laws.{refuses}

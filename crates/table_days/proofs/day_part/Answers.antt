@@ -1,7 +1,6 @@
 -- `table_days::day_part` meets its contract: a part of the lent readings, at its place. Whether the day is held is known at `d`.
 use mathlib.Core.Path.{refl, sym, ◌∙◌}
 use native.Mathlib.Omega.{arith}
-use borrow.Author.Rules.{rules}
 use Rattle.table_days.specs.Lent.{table_of}
 use Rattle.table_days.proofs.Extracts.{has_inside, part_held, part_none}
 use Rattle.table_days.proofs.day_part.Goals as goal

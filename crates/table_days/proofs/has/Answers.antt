@@ -1,6 +1,5 @@
 -- `table_days::has` meets its contract.
 use mathlib.Core.Path.{refl, sym, ◌∙◌}
-use borrow.Author.Rules.{rules}
 use Rattle.table_days.specs.Lent.{table_of}
 use Rattle.table_days.proofs.Extracts.{has_day_lem, has_none}
 use Rattle.table_days.proofs.has.Goals as goal

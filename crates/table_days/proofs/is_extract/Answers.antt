@@ -1,6 +1,5 @@
 -- `table_days::is_extract` meets its contract: each way out is a law of `Extracts`.
 use mathlib.Core.Path.{sym, ◌∙◌}
-use borrow.Author.Rules.{rules}
 use Rattle.table_days.specs.Lent.{table_of}
 use Rattle.table_days.proofs.Extracts.{many, empty, unmatched, matched}
 use Rattle.table_days.proofs.is_extract.Goals as goal

@@ -1,5 +1,4 @@
 -- `table_days::is_held` meets its contract.
-use borrow.Author.Rules.{rules}
 use Rattle.table_days.specs.Lent.{table_of}
 use Rattle.table_days.proofs.Extracts.{within, before}
 use Rattle.table_days.proofs.is_held.Goals as goal

@@ -1,6 +1,5 @@
 -- `table_days::part_place` meets its contract: the part of a day, and whether it is empty, are known at `p`.
 use native.Mathlib.Omega.{arith}
-use borrow.Author.Rules.{rules}
 use Rattle.table_days.specs.Lent.{table_of}
 use Rattle.table_days.proofs.Extracts.{has_inside, part_some, place_nowhere, place_from, place_small}
 use Rattle.table_days.proofs.part_place.Goals as goal

@@ -1,5 +1,4 @@
 -- `table_engine::over_table` meets its contract: the rooms are those of the table's directory.
-use borrow.Author.Rules.{rules}
 use Rattle.table_engine.specs.Steps.{over_table}
 use Rattle.table_engine.proofs.over_table.Goals as goal
 

@@ -2,7 +2,6 @@
 use Prim.Native.Nat.{ℕ}
 use mathlib.Core.Path.{sym, ◌∙◌}
 use native.Mathlib.Omega.{arith}
-use borrow.Author.Rules.{rules}
 use lib.ListN.{replicate, length-replicate}
 use Rattle.table_days.specs.Lent.{table_of}
 use Rattle.table_days.proofs.Extracts.{extract_is}

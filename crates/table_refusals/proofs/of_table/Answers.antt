@@ -1,7 +1,6 @@
 -- `table_refusals::of_table` meets its contract: each way out is a law of `FirstRefusal`.
 use mathlib.Core.Path.{refl, sym, ◌∙◌}
 use native.Mathlib.Omega.{arith}
-use borrow.Author.Rules.{rules}
 use lib.ListN.{length}
 use Rattle.table_days.specs.Lent.{table_of}
 use Rattle.method.proofs.Tables.{offset_most}
