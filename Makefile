@@ -10,7 +10,7 @@ PREFIX ?= /usr/local
 FUZZ_SECONDS ?= 600
 FIRST ?= 5000000
 CRATES ?= method program_vectors
-proved_from := crates.txt $(shell find crates -name '*.rt' -o -name '*.antt' -o -path '*/program_list/std*')
+proved_from := crates.txt $(shell find crates -name out -prune -o \( -name '*.rt' -o -name '*.antt' \) -print)
 version := $(shell sed -n 's/^\#define HP_VERSION "\(.*\)"/\1/p' include/honeyplank.h)
 # a change that breaks callers is told by the first number of the version, before 1.0.0 by the first two: programs ask the loader for these
 breaks := $(if $(filter 0.%,$(version)),$(basename $(version)),$(firstword $(subst ., ,$(version))))
@@ -30,11 +30,9 @@ cargo_is := Rust 1.78 or newer: Debian's package cargo (on bookworm cargo-web), 
 python3_is := Debian's package python3
 need = $(foreach c,$(1),$(if $(shell command -v $(c)),,$(error There is no $(c) here. Get $($(c)_is))))
 
-# $(call prove,RT'S WORDS): runs rt, with a line for each crate, counted over those that the goal builds
-prove = $(call need,rt)@tools/prove $(1) $(proves)
+# $(call prove,CRATE,HOW): has rt prove and build it, with a line for each crate
+prove = $(call need,rt)@tools/prove $(1) $(2)
 
-# the program first: rt proves what it is built on two and more at a time, and for the archive one by one
-all install bench fuzz: proves := program_list host_entries
 all: $(program) $(command) $(library) $(addprefix build/,$(pages)) ## prove and build programs, archive, shared library, header and pkg-config files, under build/
 
 help: ## list the targets
@@ -45,17 +43,16 @@ demo: $(program) ## build what is needed and list samples/worked.rec; it has to 
 	@tests/x86 run $(program) < samples/worked.rec | tee build/demo.listing
 	@cmp build/demo.listing samples/worked.listing
 
-check: ## prove every crate that changed, and run the programs
-	$(call need,rt)
-	rt check
+check: ## prove every crate that changed
+	$(call prove)
 
-test: ## the gate: everything from nothing; the last line is 'N passed, 0 failed'
+test: ## the gate: all proofs, edits and tests; the last line is 'N passed, 0 failed'
 	$(call need,rt gcc cargo python3)
 	@tests/gate
 
 part: ## prove some crates and what they are built on, and try their must-fail edits (CRATES='method program_vectors')
 	$(call need,rt)
-	tools/in_memory rt must-fail $(CRATES)
+	rt ci $(CRATES)
 
 examples: $(library) $(patsubst %.c,build/%,$(wildcard examples/*.c)) ## build the example programs, under build/examples/
 
@@ -92,7 +89,7 @@ search: $(library) ## compare a million more generated calls and files to be wri
 
 fmt: ## lay out every source and proof file
 	$(call need,rt)
-	rt fmt
+	for crate in crates/*/; do (cd $$crate && rt fmt); done
 
 changed: ## change each answer in the table of checks by one, and see that each change is refused (minutes)
 	$(call need,rt python3)
@@ -103,22 +100,18 @@ fresh: ## demo and the gate without its proofs on a plain Debian, made for it (m
 	tests/fresh
 
 clean: ## remove what was built
-	rm -rf target build
+	rm -rf build crates/*/out
 
-# rt makes the archive each time, but the program only where its stamp does not stand; a program that is gone or empty has no stamp
-target/staticlib/libhost_entries.a: $(proved_from)
-	$(call prove,staticlib host_entries)
-	@test -s $@ && touch $@
+# copied at once: any other rt in such a crate's folder, rt ci too, removes what is built there or builds it for newer processors
+build/lib/libhoneyplank.a: $(proved_from)
+	$(call prove,host_entries_c,lib)
+	@mkdir -p $(@D) && cp crates/host_entries_c/out/libhost_entries_c.a $@
 
-target/bin/program_list: $(proved_from)
-	@[ -s $@ ] || rm -f target/stamp/program_list
-	$(call prove,check program_list)
-	@test -s $@ && touch $@
+build/bin/honeyplank-list: $(proved_from)
+	$(call prove,program_list,run)
+	@mkdir -p $(@D) && cp crates/program_list/out/program_list $@
 
-build/lib/libhoneyplank.a: target/staticlib/libhost_entries.a
-build/bin/honeyplank-list: target/bin/program_list
 build/include/honeyplank.h: include/honeyplank.h
-build/lib/libhoneyplank.a build/bin/honeyplank-list build/include/honeyplank.h:
 	@mkdir -p $(@D) && cp $< $@
 
 # it only lays out what the archive answers, and nothing of it is proved
@@ -142,8 +135,9 @@ build/$(shared): build/lib/libhoneyplank.a include/honeyplank.h Makefile
 	@tests/x86 cc -shared -nostartfiles -Wl,--whole-archive $< -Wl,--no-whole-archive -Wl,-z,defs,-z,text,-z,relro,-z,now \
 	  -Wl,-soname,libhoneyplank.so.$(breaks) -o $@
 
+# the same file by other names, and no symbolic links, which rt ci refuses anywhere in the tree
 $(addprefix build/,$(links)): build/$(shared)
-	@ln -sfn $(<F) $@
+	@ln -f $< $@
 
 # with no quotes: pkg-config itself puts a backslash before a space in pcfiledir
 build/lib/pkgconfig/honeyplank.pc: linked := -l:libhoneyplank.a

@@ -1,6 +1,6 @@
 # What is to be said of the contracts of public functions in .rt files, one a line: FILE:LINE<tab>KIND<tab>WHAT. A KIND is `requires` (it has one),
 # `silent` (it has no ensures), `nothing` (an ensures that says nothing of the result, or of what a lent buffer holds at the end) or `bound` (a
-# parameter, or a binder of the contract).
+# parameter, or a binder of the contract). Read after binders.awk.
 
 function say(kind, what) { print FILENAME ":" began "\t" kind "\t" what }
 
@@ -20,47 +20,48 @@ function words(text) {
   return text
 }
 
+# what stands in the first braces of a text
+function braced(text,    start, i, c, depth) {
+  start = index(text, "{")
+  for (i = start; i <= length(text); i++) {
+    c = substr(text, i, 1)
+    if (c == "{") depth++
+    if (c == "}" && --depth == 0) return substr(text, start + 1, i - start - 1)
+  }
+}
+
 # the parts of an ensures that have not the same words on both sides of their sign
 function telling(text,    parts, n, i, sides, out) {
-  gsub(/⌜|⌝/, " × ", text)
   gsub(/[ \t]+/, " ", text)
   n = split(text, parts, / × /)
   for (i = 1; i <= n; i++) {
     if (split(parts[i], sides, / (≡|≤|↔) /) == 2 && words(sides[1]) == words(sides[2])) continue
-    if (words(parts[i]) != "Unit") out = out " " words(parts[i])
+    out = out " " words(parts[i])
   }
   return out
 }
 
-function judge(text,    signature, clauses, n, i, name, result, told, mentioned, rest, parameter) {
+function judge(text,    signature, clauses, n, i, name, told, parameter) {
   signature = text
-  sub(/[ \t](ensures|requires)[ \t{].*$/, "", signature)
+  sub(/[ \t](ensures|requires)[* \t].*$/, "", signature)
   name = signature
   sub(/^.*[ \t]fn /, "", name)
   sub(/[^A-Za-z0-9_].*$/, "", name)
-  if (text ~ /[ \t]requires[ \t{]/) say("requires", name)
-  n = split(text, clauses, /[ \t]ensures[ \t]/)
+  if (text ~ /[ \t]requires[* \t]/) say("requires", name)
+  n = split(text, clauses, /[ \t]ensures[* \t]/)
   if (n == 1) { say("silent", name); return }
   for (i = 2; i <= n; i++) {
-    sub(/[ \t]requires[ \t{].*$/, "", clauses[i])
-    result = clauses[i]
-    if (!sub(/^[^λ]*λ /, "", result)) result = "_."
-    told = result
-    sub(/^[^.]*\./, "", told)
-    sub(/\..*$/, "", result)
-    say("bound", result)
-    told = telling(told)
-    if (result != "_" && has(told, result)) mentioned = 1
-    rest = rest " " told
+    binders(braced(clauses[i]))
+    told = told " " telling(braced(clauses[i]))
   }
-  if (signature ~ /->/ && !mentioned) say("nothing", name ": of its result")
+  if (signature ~ /->/ && !has(told, "result")) say("nothing", name ": of its result")
   sub(/^[^(]*\(/, "", signature)
   sub(/\)[^)]*$/, "", signature)
   while (match(signature, /[a-z_][a-z0-9_]*:/)) {
     parameter = substr(signature, RSTART, RLENGTH - 1)
     signature = substr(signature, RSTART + RLENGTH)
     say("bound", parameter)
-    if (signature ~ /^ *&('[a-z_]+ +)?mut / && !has(rest, parameter " .exit")) say("nothing", name ": of " parameter " at the end")
+    if (signature ~ /^ *&('[a-z_]+ +)?mut / && !has(told, parameter ".new")) say("nothing", name ": of " parameter " at the end")
   }
 }
 
@@ -69,7 +70,7 @@ FNR == 1 { open = 0 }
 {
   line = $0
   sub(/(^|[ \t])\/\/.*$/, "", line)
-  if (!open && line ~ /^[ \t]*(#\[no_mangle\][ \t]*)?pub ((const|unsafe|extern "C") )*fn /) { open = 1; began = FNR; whole = "" }
+  if (!open && line ~ /^[ \t]*(#\[unsafe\(no_mangle\)\][ \t]*)?pub ((const|unsafe|extern "C") )*fn /) { open = 1; began = FNR; whole = "" }
   if (!open) next
   whole = whole " " line
   if (line ~ /\{\}?[ \t]*$/) { judge(whole); open = 0 }

@@ -1,16 +1,11 @@
 # The names that .antt files declare or bind, one a line: FILE:LINE<tab>KIND<tab>NAME. A KIND is `pub` or `own` (a signature, however it is marked,
 # with any level or implicit arguments; a data type, a record, what is derived), `con` (a constructor), `field` (of a record), `bound` (a parameter, a
 # binder, a let) or `pattern` (a word of a clause's left side, but its first). An escaped name is given bare: it is the same name.
+# Read after binders.awk.
 
 function say(kind, name) {
   gsub(/«|»/, "", name)
   if (name != "" && name != "_" && name != ":") print FILENAME ":" FNR "\t" kind "\t" name
-}
-
-# each word of a text that is a list of names
-function each(kind, text,    words, n, i) {
-  n = split(text, words, /[ \t,]+/)
-  for (i = 1; i <= n; i++) say(kind, words[i])
 }
 
 # a text up to the first `sign` outside brackets, without what stands in brackets unless `all`; nothing where there is no such sign
@@ -23,21 +18,6 @@ function before(sign, text, all,    i, c, depth, out) {
     if (c == ")" || c == "}") depth--
   }
   return ""
-}
-
-# the binders of a line: (a b : T), {a : T}, λ a b., let a
-function binders(text,    rest, found) {
-  for (rest = text; match(rest, /[({][^(){}:;=.]* : /); rest = substr(rest, RSTART + RLENGTH)) each("bound", substr(rest, RSTART + 1, RLENGTH - 4))
-  for (rest = text; match(rest, /λ [^().]*\./); rest = substr(rest, RSTART + RLENGTH)) {
-    found = substr(rest, RSTART, RLENGTH - 1)
-    sub(/^λ/, "", found)
-    each("bound", found)
-  }
-  for (rest = text; match(rest, /(^|[ (])let [^ ]+ [:=]/); rest = substr(rest, RSTART + RLENGTH)) {
-    found = substr(rest, RSTART, RLENGTH - 2)
-    sub(/^.*let /, "", found)
-    say("bound", found)
-  }
 }
 
 FNR == 1 { block = begun = "" }

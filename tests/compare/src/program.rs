@@ -9,15 +9,9 @@ pub fn root(path: &str) -> PathBuf {
     PathBuf::from(concat!(env!("CARGO_MANIFEST_DIR"), "/../..")).join(path)
 }
 
-/// A program that was built: by itself, or on a processor that it is not for by the emulator.
+/// A program that was built.
 pub fn built(name: &str) -> Command {
-    let program = root("build/bin").join(name);
-    if cfg!(target_arch = "x86_64") {
-        return Command::new(program);
-    }
-    let mut command = Command::new(root("tests/x86"));
-    command.arg("run").arg(program);
-    command
+    Command::new(root("build/bin").join(name))
 }
 
 pub fn program() -> Command {
