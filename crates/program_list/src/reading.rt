@@ -1,78 +1,31 @@
-// Reads the start of a file, or of standard input. Unlike `io::read_full`, it tells a read that fails from the end.
-ghost use Rattle.program_list.specs.Reading.{Within};
+// Reads the start of a file, or of standard input.
+ghost use Rattle.std.specs.Prelude.{◌≡◌, take, IfOk, IfSome};
+ghost use Rattle.program_list.specs.Prints.{most};
 
-use crate::say;
-use libc::STDIN_FILENO;
-use program_words::Wanted;
+use std::alloc::Global;
+use std::fs::File;
+use std::io::Read;
+use std::rt::Files;
+use std::{io, str};
 
-// How many bytes were read, to the end or to the buffer's; or opening or reading failed, and that is said.
-#[derive(Clone, Copy)]
-pub(crate) enum Got {
-    Bytes(usize),
-    Failed,
+// One byte more than the longest file that is as laid down: what comes after it changes no listing.
+const MOST: u64 = 50_537;
+
+// The system's EILSEQ: bytes that are no text. std opens a file by a name in UTF-8 alone.
+const NO_TEXT: i32 = 84;
+
+// The first bytes of the input, which are all of them where there are fewer than that.
+pub(crate) fn start_of<R: Read + Drop>(alloc: Global, input: R) -> io::Result<Vec<u8>>
+    ensures { IfOk result (λ v. IfSome (R.remaining input) (λ xs. v.items ≡ take most xs)) }
+{
+    let mut bytes = Vec::new(alloc);
+    input.take(MOST).read_to_end(&mut bytes)?;
+    Ok(bytes)
 }
 
-// Fills the bytes from their start, as far as the input goes.
-fn fill(input: i32, bytes: &mut [u8]) -> Got
-    ensures { Within result bytes.new }
-{
-    let mut done = 0;
-    while done < bytes.len() {
-        let got = libc::read(input, &mut bytes[done..]);
-        if got < 0 {
-            return Got::Failed;
-        }
-        let more = io::count(got, &bytes[done..]);
-        if more == 0 {
-            break;
-        }
-        done += more;
-    }
-    Got::Bytes(done)
-}
-
-// The same; where it fails, says so of the name.
-fn fill_from(input: i32, name: &[u8], bytes: &mut [u8]) -> Got
-    ensures { Within result bytes.new }
-{
-    let got = fill(input, bytes);
-    match got {
-        Got::Bytes(_) => {}
-        Got::Failed => say::failed(name),
-    }
-    got
-}
-
-fn read_input(bytes: &mut [u8]) -> Got
-    ensures { Within result bytes.new }
-{
-    if libc::isatty(STDIN_FILENO) != 0 {
-        say::hint();
-    }
-    fill_from(STDIN_FILENO, b"standard input", bytes)
-}
-
-// Reads the file that the word at a place names, which is put into the room.
-fn read_file(place: usize, room: &mut [u8], bytes: &mut [u8]) -> Got
-    ensures { Within result bytes.new }
-{
-    let length = os::arg(place, room);
-    let input = os::open_read(&room[..length]);
-    if input < 0 {
-        say::failed(&room[..length]);
-        return Got::Failed;
-    }
-    let got = fill_from(input, &room[..length], bytes);
-    libc::close(input);
-    got
-}
-
-// Reads the file that is wanted, or standard input.
-pub(crate) fn read(wanted: Wanted, room: &mut [u8], bytes: &mut [u8]) -> Got
-    ensures { Within result bytes.new }
-{
-    match wanted {
-        Wanted::File(place) => read_file(place, room, bytes),
-        _ => read_input(bytes),
+pub(crate) fn open<R: Files>(rt: &R, name: &[u8]) -> io::Result<R::File> {
+    match str::from_utf8(name) {
+        Ok(name) => File::open(rt, name),
+        Err(_) => Err(io::Error::from_raw_os_error(NO_TEXT)),
     }
 }

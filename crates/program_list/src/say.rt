@@ -1,33 +1,20 @@
 // What the program says beside a listing: its help, its version and, on standard error, what failed.
-use libc::{STDERR_FILENO, STDOUT_FILENO};
-
-// Writes a text: whether all of it could be written. Unlike `io::write_all`, it has no buffer on the stack.
-fn write(output: i32, text: &[u8]) -> bool {
-    let mut done = 0;
-    while done < text.len() {
-        let put = libc::write(output, &text[done..]);
-        let more = io::count(put, &text[done..]);
-        if more == 0 {
-            return false;
-        }
-        done += more;
-    }
-    true
-}
+use std::io;
 
 // Prints a text; where that fails, says so.
-pub(crate) fn print(text: &[u8]) {
-    if !write(STDOUT_FILENO, text) {
-        failed(b"standard output");
+pub(crate) fn print(rt: &HostRuntime, text: &[u8]) {
+    if let Err(error) = rt.write_all(text) {
+        failed(rt, b"standard output", error);
     }
 }
 
-pub(crate) fn version() {
-    print(b"honeyplank-list 0.7.0\n");
+pub(crate) fn version(rt: &HostRuntime) {
+    print(rt, b"honeyplank-list 0.7.0\n");
 }
 
-pub(crate) fn help() {
+pub(crate) fn help(rt: &HostRuntime) {
     print(
+        rt,
         b"\
 Usage: honeyplank-list [FILE]
 Lists a record file: the demand response baseline of each of its events, by the
@@ -65,37 +52,49 @@ to know whether it failed, see whether it left standard error empty.
     );
 }
 
-fn complain(text: &[u8]) {
-    write(STDERR_FILENO, text);
+// Where standard error can't be written, there is nowhere to say it.
+fn complain(rt: &HostRuntime, text: &[u8]) {
+    let _ = rt.stderr().write_all(text);
 }
 
 // Opens a message by what it is about; an empty name shows as ''.
-fn about(name: &[u8]) {
-    complain(b"honeyplank-list: ");
+fn about(rt: &HostRuntime, name: &[u8]) {
+    complain(rt, b"honeyplank-list: ");
     if name.len() == 0 {
-        complain(b"''");
+        complain(rt, b"''");
     } else {
-        complain(name);
+        complain(rt, name);
     }
 }
 
-// A call failed on this, for the reason that errno has: a write that succeeds leaves it as it is.
-pub(crate) fn failed(name: &[u8]) {
-    about(name);
-    os::fail(b"");
+// A call failed on this, for a reason that is told in the system's words, without their number.
+pub(crate) fn failed(rt: &HostRuntime, name: &[u8], error: io::Error) {
+    about(rt, name);
+    complain(rt, b": ");
+    match error.to_string(rt.alloc()) {
+        Ok(text) => {
+            let text = text.as_str();
+            let reason = text
+                .split_once(" (os error ")
+                .map_or(text, |(reason, _)| reason);
+            complain(rt, reason.as_bytes());
+        }
+        Err(_) => complain(rt, b"out of memory"),
+    }
+    complain(rt, b"\n");
 }
 
-// The word at a place, which is put into the room, is refused.
-pub(crate) fn refused(place: usize, why: &[u8], room: &mut [u8]) {
-    let length = os::arg(place, room);
-    about(&room[..length]);
-    complain(why);
-    complain(b" (see honeyplank-list --help)\n");
+// A word of the command line is refused.
+pub(crate) fn refused(rt: &HostRuntime, word: &[u8], why: &[u8]) {
+    about(rt, word);
+    complain(rt, why);
+    complain(rt, b" (see honeyplank-list --help)\n");
 }
 
 // Standard input is a terminal, whose user may not know that the program waits.
-pub(crate) fn hint() {
+pub(crate) fn hint(rt: &HostRuntime) {
     complain(
+        rt,
         b"honeyplank-list: reads a record file from this terminal; Ctrl-D ends it (see honeyplank-list --help)\n",
     );
 }

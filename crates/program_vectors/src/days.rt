@@ -4,7 +4,7 @@ ghost use Rattle.std.specs.Prelude.{◌<◌};
 use crate::line::{put, put_four, put_two};
 use calendar_dates::{Date, Dated, Numbered};
 use calendar_groups::Group;
-use libc::STDOUT_FILENO;
+use std::io;
 
 fn letter(group: Group) -> u8 {
     match group {
@@ -32,7 +32,7 @@ fn put_letters(line: &mut [u8; 80], at: usize, year: u32, month: u32) -> usize {
 }
 
 // A month, one letter a day: `2024-05 HWHHH..`.
-fn month_line(year: u32, month: u32) {
+fn month_line(rt: &HostRuntime, year: u32, month: u32) -> io::Result<()> {
     let mut line = [0u8; 80];
     let mut at = put_four(&mut line, 0, year);
     at = put(&mut line, at, b'-');
@@ -40,26 +40,24 @@ fn month_line(year: u32, month: u32) {
     at = put(&mut line, at, b' ');
     at = put_letters(&mut line, at, year, month);
     at = put(&mut line, at, b'\n');
-    crate::line::write(line, at);
+    crate::line::write(rt, line, at)
 }
 
-fn year_lines(year: u32) {
+fn year_lines(rt: &HostRuntime, year: u32) -> io::Result<()> {
     for month in 1..=12 {
-        month_line(year, month);
+        month_line(rt, year, month)?;
     }
+    Ok(())
 }
 
-pub(crate) fn groups() {
-    io::write_all(
-        STDOUT_FILENO,
-        b"Groups: W weekday, S Saturday, H holiday group\n",
-    );
-    year_lines(2000);
-    year_lines(2019);
-    year_lines(2023);
-    year_lines(2024);
-    year_lines(2025);
-    year_lines(2099);
+pub(crate) fn groups(rt: &HostRuntime) -> io::Result<()> {
+    rt.write_all(b"Groups: W weekday, S Saturday, H holiday group\n")?;
+    year_lines(rt, 2000)?;
+    year_lines(rt, 2019)?;
+    year_lines(rt, 2023)?;
+    year_lines(rt, 2024)?;
+    year_lines(rt, 2025)?;
+    year_lines(rt, 2099)
 }
 
 // A date as `2024-05-05`.
@@ -71,41 +69,42 @@ pub(crate) fn put_date(line: &mut [u8; 80], at: usize, date: Date) -> usize {
     put_two(line, next, date.day)
 }
 
-fn date_line(day: u32) {
+fn date_line(rt: &HostRuntime, day: u32) -> io::Result<()> {
     let Dated::On(date) = calendar_dates::date_of(day) else {
-        return;
+        return Ok(());
     };
     let mut line = [0u8; 80];
     let end = put_date(&mut line, 0, date);
     let next = put(&mut line, end, b'\n');
-    crate::line::write(line, next);
+    crate::line::write(rt, line, next)
 }
 
-pub(crate) fn easters() {
-    io::write_all(STDOUT_FILENO, b"Orthodox Easter\n");
+pub(crate) fn easters(rt: &HostRuntime) -> io::Result<()> {
+    rt.write_all(b"Orthodox Easter\n")?;
     for year in 2000..=2099 {
-        date_line(calendar_holidays::easter(year));
+        date_line(rt, calendar_holidays::easter(year))?;
+    }
+    Ok(())
+}
+
+fn write_weekday(rt: &HostRuntime, day: u32) -> io::Result<()> {
+    match day % 7 {
+        0 => rt.write_all(b"Saturday"),
+        1 => rt.write_all(b"Sunday"),
+        2 => rt.write_all(b"Monday"),
+        3 => rt.write_all(b"Tuesday"),
+        4 => rt.write_all(b"Wednesday"),
+        5 => rt.write_all(b"Thursday"),
+        _ => rt.write_all(b"Friday"),
     }
 }
 
-fn write_weekday(day: u32) {
-    match day % 7 {
-        0 => io::write_all(STDOUT_FILENO, b"Saturday"),
-        1 => io::write_all(STDOUT_FILENO, b"Sunday"),
-        2 => io::write_all(STDOUT_FILENO, b"Monday"),
-        3 => io::write_all(STDOUT_FILENO, b"Tuesday"),
-        4 => io::write_all(STDOUT_FILENO, b"Wednesday"),
-        5 => io::write_all(STDOUT_FILENO, b"Thursday"),
-        _ => io::write_all(STDOUT_FILENO, b"Friday"),
-    };
-}
-
 // A week ends with its Sunday.
-fn write_gap(day: u32) {
+fn write_gap(rt: &HostRuntime, day: u32) -> io::Result<()> {
     if day % 7 == 1 {
-        io::write_all(STDOUT_FILENO, b"\n");
+        rt.write_all(b"\n")
     } else {
-        io::write_all(STDOUT_FILENO, b"\t");
+        rt.write_all(b"\t")
     }
 }
 
@@ -119,34 +118,35 @@ fn put_month(line: &mut [u8; 80], at: usize, month: u32) -> usize {
 }
 
 // A day as `07-Jan`.
-fn write_day(day: u32) {
+fn write_day(rt: &HostRuntime, day: u32) -> io::Result<()> {
     let Dated::On(date) = calendar_dates::date_of(day) else {
-        return;
+        return Ok(());
     };
     let mut line = [0u8; 80];
     let mut at = put_two(&mut line, 0, date.day);
     at = put(&mut line, at, b'-');
     at = put_month(&mut line, at, date.month);
-    crate::line::write(line, at);
+    crate::line::write(rt, line, at)
 }
 
 // The names of the days of the week that starts with a day.
-fn write_weekdays(monday: u32)
+fn write_weekdays(rt: &HostRuntime, monday: u32) -> io::Result<()>
     requires { monday < 36525 }
 {
     for day in 0..7 {
-        write_weekday(monday + day);
-        write_gap(monday + day);
+        write_weekday(rt, monday + day)?;
+        write_gap(rt, monday + day)?;
     }
+    Ok(())
 }
 
 // Monday 7 January 2019 is day 6946. The table stops at Saturday 2 February, and its last cell is empty.
-pub(crate) fn table_3() {
-    io::write_all(STDOUT_FILENO, b"003, Table 3\n");
-    write_weekdays(6946);
+pub(crate) fn table_3(rt: &HostRuntime) -> io::Result<()> {
+    rt.write_all(b"003, Table 3\n")?;
+    write_weekdays(rt, 6946)?;
     for day in 6946..=6972 {
-        write_day(day);
-        write_gap(day);
+        write_day(rt, day)?;
+        write_gap(rt, day)?;
     }
-    io::write_all(STDOUT_FILENO, b"\n");
+    rt.write_all(b"\n")
 }

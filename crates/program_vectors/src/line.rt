@@ -1,5 +1,5 @@
 // A line of output, collected in a buffer. What does not fit is left out, which the comparison would show.
-use libc::STDOUT_FILENO;
+use std::io;
 
 // Puts a byte, and gives the next place.
 pub(crate) fn put(line: &mut [u8; 80], at: usize, byte: u8) -> usize {
@@ -24,8 +24,9 @@ pub(crate) fn put_four(line: &mut [u8; 80], at: usize, number: u32) -> usize {
 }
 
 // Writes the line up to a place.
-pub(crate) fn write(line: [u8; 80], end: usize) {
+pub(crate) fn write(rt: &HostRuntime, line: [u8; 80], end: usize) -> io::Result<()> {
     if end <= 80 {
-        io::write_all(STDOUT_FILENO, &line[..end]);
+        rt.write_all(&line[..end])?;
     }
+    Ok(())
 }

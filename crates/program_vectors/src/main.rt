@@ -6,9 +6,11 @@ mod days;
 mod line;
 mod parts;
 
-fn main() {
-    days::groups();
-    days::easters();
-    days::table_3();
-    parts::parts();
+use std::io;
+
+fn main(rt: HostRuntime) -> io::Result<()> {
+    days::groups(&rt)?;
+    days::easters(&rt)?;
+    days::table_3(&rt)?;
+    parts::parts(&rt)
 }

@@ -4,7 +4,7 @@ ghost use Rattle.std.specs.Prelude.{◌≤◌, ◌<◌};
 use crate::days::put_date;
 use crate::line::{put, put_four, put_two};
 use calendar_dates::Dated;
-use libc::STDOUT_FILENO;
+use std::io;
 
 // How many readings a part has, the first and the last: `96 1000 1095`, or `00`.
 fn put_part(line: &mut [u8; 80], at: usize, part: &[u32]) -> usize {
@@ -20,9 +20,15 @@ fn put_part(line: &mut [u8; 80], at: usize, part: &[u32]) -> usize {
 }
 
 // A day and its part: `2019-01-12 96 1000 1095`.
-fn part_line(first: u32, marks: &[u8], readings: &[u32], day: u32) {
+fn part_line(
+    rt: &HostRuntime,
+    first: u32,
+    marks: &[u8],
+    readings: &[u32],
+    day: u32,
+) -> io::Result<()> {
     let Dated::On(date) = calendar_dates::date_of(day) else {
-        return;
+        return Ok(());
     };
     let part = table_days::day_part(first, marks, readings, day);
     let mut line = [0u8; 80];
@@ -30,18 +36,24 @@ fn part_line(first: u32, marks: &[u8], readings: &[u32], day: u32) {
     at = put(&mut line, at, b' ');
     at = put_part(&mut line, at, part);
     at = put(&mut line, at, b'\n');
-    crate::line::write(line, at);
+    crate::line::write(rt, line, at)
 }
 
 // The first day of a table, the second and the last, and the days beside them.
-fn table_lines(first: u32, last: u32, marks: &[u8], readings: &[u32])
+fn table_lines(
+    rt: &HostRuntime,
+    first: u32,
+    last: u32,
+    marks: &[u8],
+    readings: &[u32],
+) -> io::Result<()>
     requires { (0 < first) × (first < 36525) × (last < 36600) }
 {
-    part_line(first, marks, readings, first - 1);
-    part_line(first, marks, readings, first);
-    part_line(first, marks, readings, first + 1);
-    part_line(first, marks, readings, last);
-    part_line(first, marks, readings, last + 1);
+    part_line(rt, first, marks, readings, first - 1)?;
+    part_line(rt, first, marks, readings, first)?;
+    part_line(rt, first, marks, readings, first + 1)?;
+    part_line(rt, first, marks, readings, last)?;
+    part_line(rt, first, marks, readings, last + 1)
 }
 
 // Readings that tell their place.
@@ -54,34 +66,31 @@ fn numbered() -> [u32; 384] {
 }
 
 // A table of three days and the first so many of the readings.
-fn three_days(first: u32, readings: [u32; 384], count: usize)
+fn three_days(rt: &HostRuntime, first: u32, readings: [u32; 384], count: usize) -> io::Result<()>
     requires { (0 < first) × (first < 36525) × (count ≤ 384) }
 {
     let marks = [0, 3, 0];
-    table_lines(first, first + 2, &marks, &readings[..count]);
+    table_lines(rt, first, first + 2, &marks, &readings[..count])
 }
 
 // Tables of no days, of 128 and of 129.
-fn none_and_most() {
+fn none_and_most(rt: &HostRuntime) -> io::Result<()> {
     let marks = [0u8; 129];
     let readings = [7u32; 12384];
-    table_lines(6951, 6953, &marks[..0], &readings[..0]);
-    table_lines(6951, 7078, &marks[..128], &readings[..12288]);
-    table_lines(6951, 7079, &marks, &readings);
+    table_lines(rt, 6951, 6953, &marks[..0], &readings[..0])?;
+    table_lines(rt, 6951, 7078, &marks[..128], &readings[..12288])?;
+    table_lines(rt, 6951, 7079, &marks, &readings)
 }
 
 // Day 6951 is 12 January 2019. The second table ends with the calendar and the third goes past it; the next two have a reading too few and one
 // too many.
-pub(crate) fn parts() {
-    io::write_all(
-        STDOUT_FILENO,
-        b"Readings of a day: how many, the first and the last\n",
-    );
+pub(crate) fn parts(rt: &HostRuntime) -> io::Result<()> {
+    rt.write_all(b"Readings of a day: how many, the first and the last\n")?;
     let readings = numbered();
-    three_days(6951, readings, 288);
-    three_days(36522, readings, 288);
-    three_days(36523, readings, 288);
-    three_days(6951, readings, 287);
-    three_days(6951, readings, 289);
-    none_and_most();
+    three_days(rt, 6951, readings, 288)?;
+    three_days(rt, 36522, readings, 288)?;
+    three_days(rt, 36523, readings, 288)?;
+    three_days(rt, 6951, readings, 287)?;
+    three_days(rt, 6951, readings, 289)?;
+    none_and_most(rt)
 }

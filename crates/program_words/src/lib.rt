@@ -27,15 +27,17 @@ pub struct Line {
 fn is(word: &[u8], text: &[u8]) -> bool
     ensures { result ≡ same word.now text.now }
 {
-    check::same(word, text)
+    word == text
 }
 
+#[tactic(auto, unfolding(crate::specs::Words::is_help))]
 fn is_help(word: &[u8]) -> bool
     ensures { result ≡ is_help word.now }
 {
     is(word, b"-h") | is(word, b"--help")
 }
 
+#[tactic(auto, unfolding(crate::specs::Words::is_version))]
 fn is_version(word: &[u8]) -> bool
     ensures { result ≡ is_version word.now }
 {
@@ -53,6 +55,7 @@ fn is_option(word: &[u8]) -> bool
     }
 }
 
+#[tactic(auto, unfolding(crate::specs::Words::is_end))]
 fn is_end(word: &[u8]) -> bool
     ensures { result ≡ is_end word.now }
 {
@@ -60,6 +63,7 @@ fn is_end(word: &[u8]) -> bool
 }
 
 // What a word that is not `-` asks for, where options are read.
+#[tactic(auto, unfolding(crate::specs::Words::option_by))]
 fn option_by(word: &[u8], place: usize) -> Wanted
     ensures { result ≡ option_by word.now place }
 {
@@ -77,6 +81,7 @@ fn option_by(word: &[u8], place: usize) -> Wanted
 }
 
 // What a word by itself asks for.
+#[tactic(auto, unfolding(crate::specs::Words::asked_by))]
 fn asked(ended: bool, word: &[u8], place: usize) -> Wanted
     ensures { result ≡ asked_by ended word.now place }
 {
@@ -90,6 +95,7 @@ fn asked(ended: bool, word: &[u8], place: usize) -> Wanted
 }
 
 // What is wanted where the word at a place asks for more beside a file that was named: one file is listed.
+#[tactic(auto, unfolding(crate::specs::Words::besides))]
 fn beside(before: Wanted, more: Wanted, place: usize) -> Wanted
     ensures { result ≡ besides before more place }
 {
@@ -105,6 +111,7 @@ fn beside(before: Wanted, more: Wanted, place: usize) -> Wanted
 }
 
 // What is wanted where the word at a place asks for more. The first word that asks for no file settles it.
+#[tactic(auto, unfolding(crate::specs::Words::joined))]
 fn join(before: Wanted, more: Wanted, place: usize) -> Wanted
     ensures { result ≡ joined before more place }
 {
@@ -120,6 +127,7 @@ fn join(before: Wanted, more: Wanted, place: usize) -> Wanted
 }
 
 // The line with the word that stands at a place.
+#[tactic(auto, unfolding(crate::specs::Words::with_word))]
 pub fn with_word(line: Line, word: &[u8], place: usize) -> Line
     ensures { result ≡ with_word line word.now place }
 {
