@@ -1,11 +1,9 @@
 -- What the program prints of what it read.
-use Rattle.std.specs.Prelude.{ℕ, ◌+◌, ◌<◌, ◌≡◌, List, [], ◌++◌, length}
-use Rattle.listing_lines.specs.Listing.{listing, longest}
+use Rattle.std.specs.Prelude.{ℕ, ◌≤◌, ◌<◌, ◌≡◌, List, [], ◌++◌, length, take}
+use Rattle.listing_lines.specs.Listing.{listing}
 
--- so many bytes are read, one more than the longest file has
-unfoldable pub most : ℕ
-most = longest + 1
-
--- the text is the listing of every input of which these bytes were read: nothing follows them, unless they are as many as are read
-abbrev pub Prints : List ℕ → List ℕ → Type 0
-Prints bytes text = (more : List ℕ) → (length bytes < most → more ≡ []) → text ≡ listing (bytes ++ more)
+-- the first `r` bytes of the text are the listing of every input of which the first `count` bytes were read: nothing follows these, unless they
+-- fill the buffer
+pub record Prints (bytes : List ℕ) (count r : ℕ) (text : List ℕ) : Type 0 where
+  pub within : r ≤ length text
+  pub listed : (more : List ℕ) → (count < length bytes → more ≡ []) → take r text ≡ listing (take count bytes ++ more)

@@ -1,31 +1,91 @@
 // Reads the start of a file, or of standard input.
-ghost use Rattle.std.specs.Prelude.{◌≡◌, take, IfOk, IfSome};
-ghost use Rattle.program_list.specs.Prints.{most};
+ghost use Rattle.std.specs.Prelude.{◌≤◌, length, IfOk};
+ghost use Rattle.program_list.specs.Reading.{Within};
 
-use std::alloc::Global;
+use crate::{named, say};
+use program_words::Wanted;
 use std::fs::File;
-use std::io::Read;
+use std::io::{IsTerminal, Read};
 use std::rt::Files;
 use std::{io, str};
-
-// One byte more than the longest file that is as laid down: what comes after it changes no listing.
-const MOST: u64 = 50_537;
 
 // The system's EILSEQ: bytes that are no text. std opens a file by a name in UTF-8 alone.
 const NO_TEXT: i32 = 84;
 
-// The first bytes of the input, which are all of them where there are fewer than that.
-pub(crate) fn start_of<R: Read + Drop>(alloc: Global, input: R) -> io::Result<Vec<u8>>
-    ensures { IfOk result (λ v. IfSome (R.remaining input) (λ xs. v.items ≡ take most xs)) }
-{
-    let mut bytes = Vec::new(alloc);
-    input.take(MOST).read_to_end(&mut bytes)?;
-    Ok(bytes)
+// How many bytes were read, to the end or to the buffer's; or opening or reading failed, and that is said.
+#[derive(Clone, Copy)]
+pub(crate) enum Got {
+    Bytes(usize),
+    Failed,
 }
 
-pub(crate) fn open<R: Files>(rt: &R, name: &[u8]) -> io::Result<R::File> {
+// Fills the bytes from their start, as far as the input goes: how many were read.
+fn fill<R: Read>(input: &mut R, bytes: &mut [u8]) -> io::Result<usize>
+    ensures { IfOk result (λ count. count ≤ length bytes.new) }
+{
+    let mut done = 0;
+    while done < bytes.len() {
+        let more = input.read(&mut bytes[done..])?;
+        if more == 0 {
+            break;
+        }
+        done += more;
+    }
+    Ok(done)
+}
+
+// The same; where it fails, says so of the name.
+#[tactic(auto, unfolding(crate::specs::Reading::count_of))]
+fn fill_from<R: Read>(rt: &HostRuntime, input: &mut R, name: &[u8], bytes: &mut [u8]) -> Got
+    ensures { Within result bytes.new }
+{
+    match fill(input, bytes) {
+        Ok(count) => Got::Bytes(count),
+        Err(error) => {
+            say::failed(rt, name, error);
+            Got::Failed
+        }
+    }
+}
+
+fn read_input(rt: &HostRuntime, bytes: &mut [u8]) -> Got
+    ensures { Within result bytes.new }
+{
+    let mut input = rt.stdin();
+    if input.is_terminal() {
+        say::hint(rt);
+    }
+    fill_from(rt, &mut input, b"standard input", bytes)
+}
+
+fn open<R: Files>(rt: &R, name: &[u8]) -> io::Result<R::File> {
     match str::from_utf8(name) {
         Ok(name) => File::open(rt, name),
         Err(_) => Err(io::Error::from_raw_os_error(NO_TEXT)),
+    }
+}
+
+// Reads the file that the word at a place names, which is put into the room.
+#[tactic(auto, unfolding(crate::specs::Reading::count_of))]
+fn read_file(rt: &HostRuntime, place: usize, room: &mut [u8], bytes: &mut [u8]) -> Got
+    ensures { Within result bytes.new }
+{
+    let name = named(rt, place, room);
+    match open(rt, name) {
+        Ok(mut file) => fill_from(rt, &mut file, name, bytes),
+        Err(error) => {
+            say::failed(rt, name, error);
+            Got::Failed
+        }
+    }
+}
+
+// Reads the file that is wanted, or standard input.
+pub(crate) fn read(rt: &HostRuntime, wanted: Wanted, room: &mut [u8], bytes: &mut [u8]) -> Got
+    ensures { Within result bytes.new }
+{
+    match wanted {
+        Wanted::File(place) => read_file(rt, place, room, bytes),
+        _ => read_input(rt, bytes),
     }
 }

@@ -1,0 +1,9 @@
+-- What was read is within the bytes.
+use Rattle.std.specs.Prelude.{◌-◌, ◌≤◌, ◌≡◌, length}
+use Rattle.program_list.proofs.reading.fill.Given as goal
+
+abbrev pub invariant-loop-done : goal.invariant-loop-done
+invariant-loop-done g l = (l.done ≤ length l.bytes) × (length l.bytes ≡ length l.initial.bytes)
+
+abbrev pub decreases-loop-done : goal.decreases-loop-done
+decreases-loop-done g l = length l.initial.bytes - l.done
