@@ -77,7 +77,7 @@ module _ (h : History Day) (good : GoodDays h) where
         let parts : parts_of r * S r.event days t ≤ 12 * S r.event days t = mul-le-mul_right (S r.event days t) (parts_most (is_average r)) in
         rw (is, numerator_is (parts_of r) (S r.event days t) n own usual) (omega (arith, sum_most t, parts, most))
 
-    -- that of a window has N-as-A at most 600,000,000
+    -- that of a window has N·A at most 600,000,000
     line_good : all good_reading line ≡ true
     unfolding method_of method_by
     line_good =

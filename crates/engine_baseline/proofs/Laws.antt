@@ -8,7 +8,7 @@ use Rattle.method.specs.Adjustment.{S, adjustment, parts_of, unfloored, floored,
 use Rattle.engine_numerators.proofs.Signed.{numerator_is}
 use Rattle.base_lists.specs.Lists.{places}
 
--- a numerator over 12N is max(0, initial + adjustment), that is max(0, S/N + (N-as-A - B)/(12N)): cut-off subtraction floors it at zero. Over the number
+-- a numerator over 12N is max(0, initial + adjustment), that is max(0, S/N + (N·A - B)/(12N)): cut-off subtraction floors it at zero. Over the number
 -- averaged it is S: then there are no twelve parts, and n, a and b are 0
 pub numerators_are : (r : Request) (n : ℕ) (chosen : List (ℕ × Day)) (a b : ℕ)
     → map floored (baseline_at r chosen (adjustment n a b)).numerators

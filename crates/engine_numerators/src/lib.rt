@@ -51,7 +51,7 @@ fn sum_windows(readings: &[u32], at: [u32; 5], count: usize, quarters: u32, end:
     total
 }
 
-// The adjustment's numerator, N.A - B, of A and the chosen days.
+// The adjustment's numerator, N·A - B, of A and the chosen days.
 fn adjustment(
     readings: &[u32],
     at: [u32; 5],

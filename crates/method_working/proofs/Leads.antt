@@ -134,7 +134,7 @@ module _ (group : ℕ → Group) (h : History Day) (r : Request) (room : ℕ) (a
   abbrev its : List (ℕ × Day)
   its = chosen (method_of group r) h
 
-  -- N-as-A - B, of the chosen days
+  -- N·A - B, of the chosen days
   abbrev adj : ℤ
   adj = adjustment (length its) (A (along r h) (ends r h)) (B r.event its (ends r h))
 

@@ -40,11 +40,11 @@ day_of_rank r sheet k = r.event - (leading (λ back. not (eqb (sheet.rank back) 
 unfoldable pub days_taken : Request → Sheet → List ℕ
 days_taken r sheet = map (day_of_rank r sheet) (places sheet.taken (sheet.passed + 1))
 
--- N-as-A - B, or nothing by Average X of Y
+-- N·A - B, or nothing by Average X of Y
 unfoldable pub adjustment_shown : Request → Sheet → ℤ
 adjustment_shown r sheet = cond (is_average r) (pos 0) (adjustment sheet.taken sheet.own sheet.usual)
 
--- 12·S(t) + N-as-A - B, or S(t) by Average X of Y
+-- 12·S(t) + N·A - B, or S(t) by Average X of Y
 unfoldable pub numerator_shown : Request → Sheet → ℕ → ℤ
 numerator_shown r sheet t = unfloored (parts_of r) (sheet.sum t) (adjustment_shown r sheet)
 
