@@ -3,31 +3,21 @@
 #![tactic(auto)]
 
 ghost use Rattle.std.specs.Prelude.{◌≡◌};
-ghost use Rattle.method.specs.Verdict.{refused};
-ghost use Rattle.engine_answer.specs.Answer.{answer_of};
 ghost use Rattle.engine_answer.specs.Steps.{told_of};
 
 use method::Refusal;
 
-// Answered, or refused.
-#[derive(Clone, Copy)]
-pub enum Given {
-    Answered,
-    Refused(Refusal),
-}
-
 // The chosen days in rank order, the first `count` of the five, and the reach.
-#[derive(Clone, Copy)]
+#[derive(Clone, Copy, Debug, PartialEq, Eq)]
 pub struct Chosen {
     pub days: [u32; 5],
     pub count: u32,
     pub reach: u32,
 }
 
-// What a call answers. Where it is refused, every field but `given` is nought.
-#[derive(Clone, Copy)]
+// What a call answers where it is not refused.
+#[derive(Clone, Copy, Debug, PartialEq, Eq)]
 pub struct Answer {
-    pub given: Given,
     pub chosen: Chosen,
     // what every numerator is over: 12N, or the number averaged
     pub denominator: u32,
@@ -35,24 +25,8 @@ pub struct Answer {
     pub adjustment: i64,
 }
 
-// Refused: every other field is nought.
-pub fn refuse(refusal: Refusal) -> Answer
-    ensures { result ≡ answer_of (refused refusal) }
-{
-    Answer {
-        given: Given::Refused(refusal),
-        chosen: Chosen {
-            days: [0; 5],
-            count: 0,
-            reach: 0,
-        },
-        denominator: 0,
-        adjustment: 0,
-    }
-}
-
 // A refusal's number, and the numbers that it carries, the first `count` of two; nought past them.
-#[derive(Clone, Copy)]
+#[derive(Clone, Copy, Debug, PartialEq, Eq)]
 pub struct Told {
     pub number: u32,
     pub carried: [u32; 2],

@@ -41,11 +41,10 @@ use Rattle.engine_numerators.proofs.Signed.{mag_difference}
 use Rattle.engine_numerators.proofs.Windows.{small, part_all, ruler_most, windows_most}
 use Rattle.engine_numerators.proofs.Standing.{S_placed, B_placed}
 use Rattle.engine_answer.specs.declared.Chosen.{Chosen}
-use Rattle.engine_refusals.specs.declared.Tested.TheVariants.{Passed, Failed}
+use Rattle.std.specs.Prelude.{Ok, Err}
 use Rattle.engine_refusals.specs.Steps.{tested}
 use Rattle.engine_refusals.proofs.FirstRefusal.{GoodRequest, good_request_lem, request_passed, first_failed, first_passed}
 use Rattle.engine_answer.specs.declared.Answer.{Answer}
-use Rattle.engine_answer.specs.declared.Given.TheVariants.{Answered}
 use Rattle.engine_answer.specs.Answer.{answer_of, Answers}
 use Rattle.engine_baseline.specs.Engine.{with_days, in_words, over_rooms}
 use Rattle.engine_baseline.specs.Steps.{start_of, Fit, Ready, reply_of}
@@ -71,20 +70,20 @@ module _ (moves : List ℕ) (r : Request) (rooms : Directory) (readings : List �
   unfolding over_rooms
   over_bad bad = words_refused r shown (by_bad moves shown r room bad)
 
-  pub over_refused : good_moves moves ≡ true → {w : Refusal} → Failed w ≡ tested (request_refusals shown r room)
+  pub over_refused : good_moves moves ≡ true → {w : Refusal} → tested (request_refusals shown r room) ≡ Err w
       → over_rooms moves r rooms readings room ≡ refused w
   unfolding over_rooms methodology
   over_refused good {w} e =
-      words_refused r shown (by_good moves shown r room good ∙ first_failed (request_refusals shown r room) w worked (sym e))
+      words_refused r shown (by_good moves shown r room good ∙ first_failed (request_refusals shown r room) w worked e)
 
-  module _ (e : Passed ≡ tested (request_refusals shown r room)) where
+  module _ (e : tested (request_refusals shown r room) ≡ Ok tt) where
     pub fit : Fit r shown room
-    fit = let f = request_passed shown r room (sym e) in record { request = f.request; holds = f.holds; enough = f.enough }
+    fit = let f = request_passed shown r room e in record { request = f.request; holds = f.holds; enough = f.enough }
 
     pub over_passed : good_moves moves ≡ true → in_words r shown worked ≡ over_rooms moves r rooms readings room
     unfolding over_rooms methodology
     over_passed good =
-        ap (in_words r shown) (sym (by_good moves shown r room good ∙ first_passed (request_refusals shown r room) worked (sym e)))
+        ap (in_words r shown) (sym (by_good moves shown r room good ∙ first_passed (request_refusals shown r room) worked e))
 
 -- ---- chosen days
 module _ (r : Request) (rooms : Directory) (readings : List ℕ) (room : ℕ) (chosen : Chosen) (k : Ready r room chosen) where
@@ -195,17 +194,16 @@ module _ (r : Request) (rooms : Directory) (readings : List ℕ) (room : ℕ) (c
     numbers_long = length_over (λ q. in_word adj (quarter_sum wide readings at (from + q))) (r.e - r.s) 0
 
     answers : {answer : Answer} {ys out : List ℕ} {over : ℕ} {given : ℤ} → ys ≡ numbers adj → over ≡ parts_of r * chosen.count → given ≡ adj
-        → answer ≡ record { given = Answered; chosen = chosen; denominator = over; adjustment = given }
-        → Answers (in_words r h (reply_of r h chosen)) answer out (ys ++ drop (r.e - r.s) out)
+        → answer ≡ record { chosen = chosen; denominator = over; adjustment = given }
+        → Answers (in_words r h (reply_of r h chosen)) (Ok answer) out (ys ++ drop (r.e - r.s) out)
     unfolding answer_of written
     answers {answer} {ys} {out} w o g e =
         record {
-          answer = e ∙ rw reply_is (λ i. record {
-            given = Answered;
+          answer = ap Ok e ∙ rw reply_is (λ i. Ok (record {
             chosen = record { days = k.five i; count = sym days_long i; reach = chosen.reach };
             denominator = o i;
             adjustment = g i;
-          });
+          }));
           output = rw (reply_is, numbers_long) (ap (λ l. l ++ drop (r.e - r.s) out) w);
         }
 
@@ -225,8 +223,8 @@ module _ (r : Request) (rooms : Directory) (readings : List ℕ) (room : ℕ) (c
 
     pub averages : {n : ℕ} {ys : List ℕ} {answer : Answer} (out : List ℕ) → n ≡ r.e - r.s
         → ys ≡ map (λ q. quarter_sum placed.quarters readings (chosen_at placed) (placed.start + q) % 2 ^ 32) (places n 0)
-        → answer ≡ record { given = Answered; chosen = chosen; denominator = chosen.count; adjustment = pos 0 }
-        → Answers (in_words r h (reply_of r h chosen)) answer out (ys ++ drop (r.e - r.s) out)
+        → answer ≡ record { chosen = chosen; denominator = chosen.count; adjustment = pos 0 }
+        → Answers (in_words r h (reply_of r h chosen)) (Ok answer) out (ys ++ drop (r.e - r.s) out)
     averages out l s e = answers unadjusted (sums_are l s) (rw average (omega arith)) refl e
 
   -- ---- High X of Y: yesterday's and today's readings, and the ruler
@@ -305,6 +303,6 @@ module _ (r : Request) (rooms : Directory) (readings : List ℕ) (room : ℕ) (c
           written_is e = w.output ∙ rw (e, given_is, es, placed_is end, high)
 
           pub adjusted_answers : {answer : Answer} {out : List ℕ} → length' ≡ r.e - r.s
-              → answer ≡ record { given = Answered; chosen = chosen; denominator = 12 * chosen.count; adjustment = given }
-              → Answers (in_words r h (reply_of r h chosen)) answer out (ys ++ drop (r.e - r.s) out)
+              → answer ≡ record { chosen = chosen; denominator = 12 * chosen.count; adjustment = given }
+              → Answers (in_words r h (reply_of r h chosen)) (Ok answer) out (ys ++ drop (r.e - r.s) out)
           adjusted_answers l e = answers adjusts (written_is l) (rw high) (w.adjusted ∙ given_is) e

@@ -17,7 +17,10 @@ use Rattle.base_lists.proofs.Maps.{map-take}
 use Rattle.base_lists.proofs.Parts.{take_within}
 use Rattle.calendar_groups.specs.declared.Group.{Group}
 use Rattle.base_lists.proofs.Keep.{all-keep}
+use Rattle.std.specs.Prelude.{Result, Ok, Err}
 use Rattle.method.specs.declared.Request.{Request}
+use Rattle.method.specs.declared.Refusal.{Refusal}
+use Rattle.method.specs.declared.Refusal.TheVariants.{MarginTooShort, TooFew}
 use Rattle.method.specs.Table.{Day, History}
 use Rattle.method.specs.Relevant.{relevant}
 use Rattle.method.specs.Method.{Method, days_of, whole_reach, seen, eligibles, spares, window, chosen, reach, is_short}
@@ -38,11 +41,10 @@ use Rattle.engine_rules.specs.declared.SpareOrder.{SpareOrder}
 use Rattle.engine_rules.specs.declared.SpareOrder.TheVariants.{Highest, Latest}
 use Rattle.engine_rules.specs.declared.Rules.{Rules as Numbers}
 use Rattle.engine_look_back.specs.declared.Found.{Found}
-use Rattle.engine_choice.specs.declared.Choosing.TheVariants.{Short, Few, Days}
-use Rattle.engine_choice.specs.declared.Choice.{Choice}
 use Rattle.engine_choice.specs.declared.Row.{Row}
+use Rattle.engine_answer.specs.declared.Chosen.{Chosen}
 use Rattle.engine_answer.specs.Answer.{in_five}
-use Rattle.engine_choice.specs.Steps.{choice_of, no_days}
+use Rattle.engine_choice.specs.Steps.{choice_of}
 use Rattle.engine_rules.specs.Steps.{Follows, Sound, in_order}
 use Rattle.engine_choice.specs.Steps.{days_in, picked, fillers, filled_of, among_few}
 use Rattle.engine_look_back.specs.Steps.{rooms_of, rooms_before, nearest, held_days, up_to, eligible_of, spare_of, row_of, spare_row, spares_of, Looked}
@@ -71,25 +73,6 @@ known_fill : (o : SpareOrder) (k n : ℕ) → k ≤ 10 → min k (spares_of o n)
 known_fill Highest k n h = refl
 known_fill Latest k n h = omega arith
 
--- The two ways out of a window
-
-module _ (event : ℕ) (numbers : Numbers) (row : List ℕ) (size reach : ℕ) where
-  pub picked_none : get_or numbers.taken size 0 ≡ 0 → no_days (Few size reach) ≡ picked event numbers row size reach
-  unfolding picked
-  picked_none e = rw (eq-eqb (get_or numbers.taken size 0) 0 e)
-
-  pub picked_some : (get_or numbers.taken size 0 ≡ 0 → ⊥)
-      → record {
-        choosing = Days;
-        chosen = record {
-          days = in_five (days_in event row (get_or numbers.passed size 0) (get_or numbers.taken size 0));
-          count = get_or numbers.taken size 0;
-          reach = reach;
-        };
-      } ≡ picked event numbers row size reach
-  unfolding picked
-  picked_some e = rw (ne_eqb (get_or numbers.taken size 0) 0 e)
-
 -- ten places hold a window that the eligible days do not fill
 pub filled_few : {numbers : Numbers} (found : Found) {row : Row} → Sound numbers → found.count < numbers.most → row ≡ filled_of numbers found → row.size ≤ 10
 filled_few {numbers} found sound less e = rw e (omega (arith, sound.ten, sound.fills))
@@ -97,11 +80,11 @@ filled_few {numbers} found sound less e = rw e (omega (arith, sound.ten, sound.f
 -- The two ways out where the eligible days do not fill the window
 
 module _ (r : Request) (numbers : Numbers) (found : Found) (before reach : ℕ) where
-  pub short_of_days : before < reach → no_days (Short reach) ≡ among_few r numbers found before reach
+  short_of_days : before < reach → Err (MarginTooShort reach) ≡ among_few r numbers found before reach
   unfolding among_few
   short_of_days h = rw (lt-ltb before reach h)
 
-  pub enough_days : reach ≤ before
+  enough_days : reach ≤ before
       → picked r.event numbers (filled_of numbers found).row (filled_of numbers found).size reach ≡ among_few r numbers found before reach
   unfolding among_few
   enough_days h = rw (le-ltb before reach h)
@@ -109,15 +92,15 @@ module _ (r : Request) (numbers : Numbers) (found : Found) (before reach : ℕ) 
 -- The same of the definition
 
 module _ {A O : Type 0} (m : Method A O) (h : History A) where
-  choice_short : is_short m h ≡ true → choice_of m h ≡ no_days (Short (whole_reach m))
+  choice_short : is_short m h ≡ true → choice_of m h ≡ Err (MarginTooShort (whole_reach m))
   unfolding choice_of
   choice_short e = rw e
 
   -- the choice from a window
-  abbrev of_window : List ℕ → ℕ → Choice
+  abbrev of_window : List ℕ → ℕ → Result Chosen Refusal
   of_window days count =
-      cond (eqb (m.taken (length (window m h))) 0) (no_days (Few (length (window m h)) (reach m h)))
-      (record { choosing = Days; chosen = record { days = in_five days; count = count; reach = reach m h } })
+      cond (eqb (m.taken (length (window m h))) 0) (Err (TooFew (length (window m h)) (reach m h)))
+      (Ok (record { days = in_five days; count = count; reach = reach m h }))
 
   choice_window : is_short m h ≡ false → choice_of m h ≡ of_window (days_of (chosen m h)) (length (chosen m h))
   unfolding choice_of

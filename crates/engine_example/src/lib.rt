@@ -11,7 +11,7 @@ ghost use Rattle.engine_example.specs.Apart.{apart};
 
 use engine_answer::Answer;
 use engine_rooms::Directory;
-use method::Request;
+use method::{Refusal, Request};
 
 // Where two days stand that lie apart: the event day's readings first, and after a gap those of the day before.
 fn rooms_apart(request: Request, before: u8, today: u8, gap: u16, readings: &[u32]) -> Directory
@@ -48,7 +48,7 @@ pub fn baseline_apart(
     gap: u16,
     readings: &[u32],
     out: &mut [u32],
-) -> Answer
+) -> Result<Answer, Refusal>
     ensures { Answers (in_words request (history (apart request.event before today gap readings.now)) (by_list moves.now (history (apart request.event before today gap readings.now)) request (length out.old))) result out.old out.new }
 {
     let rooms = rooms_apart(request, before, today, gap, readings);

@@ -7,7 +7,7 @@ ghost use Rattle.table_days.specs.Lent.{table_of};
 ghost use Rattle.table_engine.specs.Steps.{over_table};
 
 use engine_answer::Answer;
-use method::Request;
+use method::{Refusal, Request};
 
 // The engine over the rooms of a lent table, whatever its marks and readings: the first of the refusals 14 and 4 to 10 that applies, or the
 // answer, with the numerators in the first places of the output. Refusals 1 to 3 are left to the caller.
@@ -18,7 +18,7 @@ pub fn over_table(
     moves: &[u32],
     request: Request,
     out: &mut [u32],
-) -> Answer
+) -> Result<Answer, Refusal>
     ensures { Answers (over_table moves.now (table_of first marks.now readings.now) request (length out.old)) result out.old out.new }
 {
     let rooms = table_directory::directory(first, marks, request.event);

@@ -13,8 +13,9 @@ returns-then-end-eq0 c =
     let yesterday = rw c.size.ensures at c.readings_at-yesterday.ensures.list in
     let today = rw c.size-2.ensures at c.readings_at-today.ensures.list in
     let room = length a.out.now in
-    refuses a.out.now c.refuse.ensures
+    refuses _ _ _ a.out.now
     (no_window a.request a.rooms a.readings.now room a.chosen c.requires.0 c.requires.1 yesterday today c.adjustment_end-end.ensures c.if-end-eq0.true)
+    refl
 
 pub overflow_sub-length : goal.overflow_sub-length
 overflow_sub-length c =

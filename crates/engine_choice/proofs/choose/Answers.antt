@@ -19,7 +19,7 @@ returns-then-found-rules c =
     let a = c.args in
     c.choose_among_few.ensures
     ∙ request_few (group_of a.moves.now) a.request a.rooms a.readings.now c.look-found.result c.group_of-group.ensures
-    (follows _ a.request c.rules_of-rules.ensures) c.look-found.ensures c.minus-before.ensures c.if-found-rules.true
+    (follows _ a.request c.rules_of-rules.ensures) c.look-found.ensures c.saturating_sub-before.ensures c.if-found-rules.true
 
 pub returns-else-found-rules : goal.returns-else-found-rules
 returns-else-found-rules c =

@@ -1,7 +1,7 @@
 -- `table_days::has` meets its contract.
 use mathlib.Core.Path.{refl, sym, ◌∙◌}
 use Rattle.table_days.specs.Lent.{table_of}
-use Rattle.table_days.proofs.Extracts.{has_day_lem, has_none}
+use Rattle.table_days.proofs.Extracts.{has_day_lem}
 use Rattle.table_days.proofs.has.Goals as goal
 
 pub returns-then-is_extract : goal.returns-then-is_extract
@@ -9,9 +9,4 @@ returns-then-is_extract c =
     let a = c.args in
     c.is_held.ensures a.readings.now ∙
     has_day_lem (table_of a.first a.marks.now a.readings.now) a.day
-    (sym (c.is_extract.ensures a.readings.now refl) ∙ c.if-is_extract.true)
-
-pub returns-else-is_extract : goal.returns-else-is_extract
-returns-else-is_extract c =
-    let a = c.args in
-    has_none (table_of a.first a.marks.now a.readings.now) a.day (sym (c.is_extract.ensures a.readings.now refl) ∙ c.if-is_extract.false)
+    (sym (c.is_extract.ensures.extract a.readings.now refl) ∙ c.if-is_extract.true)
