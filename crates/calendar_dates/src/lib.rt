@@ -75,7 +75,7 @@ fn days_of_months(year: u32, count: u32) -> u32
 pub fn place_of(day: u32) -> Place
     ensures { result ≡ place_of day }
 {
-    let fourfold = 4 * (day as u64);
+    let fourfold = 4 * u64::from(day);
     let year = FIRST_YEAR + (fourfold / 1461) as u32;
     Place {
         year,
