@@ -10,36 +10,37 @@ use lib.Seq.{get_or-drop}
 use Rattle.base_lists.proofs.Bools.{lt-or-le}
 use Rattle.method.specs.declared.Request.{Request}
 use Rattle.file_record.specs.declared.Shape.{Shape}
-use Rattle.file_record.specs.declared.Read.TheVariants.{File, Refused}
-use Rattle.file_record.specs.declared.EventAt.TheVariants.{Event as AnEvent, NoEvent, Refused as RefusedEvent}
 use Rattle.file_record.specs.Reader.{number_at, ev_length, shape_base, day_start, event_start, shape_in, read_file, event_of, request_of, request_at, event_at_place}
 use Rattle.file_record.specs.Steps.{event_within}
 use Rattle.file_record.specs.Laws.{Accepted}
 use Rattle.file_record.proofs.Numbers.{number_drop}
 use Rattle.file_record.proofs.Starts.{base_is}
 use Rattle.file_record.proofs.Files.{shape_fits, event_start_is}
+use Rattle.std.specs.Prelude.{Ok, Err}
+use Rattle.method.specs.declared.Refusal.TheVariants.{NoEvent}
+use Rattle.method.specs.declared.Refusal.{Refusal}
 
-pub event_refused : (file : List ℕ) (place : ℕ) {at : ℕ} → read_file file ≡ Refused at → RefusedEvent at ≡ event_at_place (read_file file) file place
+pub event_refused : (file : List ℕ) (place : ℕ) {refusal : Refusal} → read_file file ≡ Err refusal → Err refusal ≡ event_at_place (read_file file) file place
 event_refused file place r = rw r
 
 -- in a file of a known shape
 module _ (shape : Shape) (file : List ℕ) (place : ℕ) where
-  pub within_past : shape.events ≤ place → NoEvent ≡ event_within shape file place
+  pub within_past : shape.events ≤ place → Err NoEvent ≡ event_within shape file place
   unfolding event_within
   within_past h = rw (le-ltb place shape.events h)
 
   module _ {start : ℕ} (s : start ≡ day_start (shape_base shape) shape.first shape.days) (h : place < shape.events) where
-    pub within_cut : length file < start + ev_length * place + ev_length → NoEvent ≡ event_within shape file place
+    pub within_cut : length file < start + ev_length * place + ev_length → Err NoEvent ≡ event_within shape file place
     unfolding event_within
     within_cut k = rw (lt-ltb place shape.events h, ← s, lt-leb (start + ev_length * place + ev_length) (length file) k)
 
     pub within_there : start + ev_length * place + ev_length ≤ length file → {request : Request}
-        → request ≡ request_of shape.participation (event_of (drop (start + ev_length * place) file)) → AnEvent request ≡ event_within shape file place
+        → request ≡ request_of shape.participation (event_of (drop (start + ev_length * place) file)) → Ok request ≡ event_within shape file place
     unfolding event_within
     within_there k e = rw (lt-ltb place shape.events h, ← s, le-leb (start + ev_length * place + ev_length) (length file) k, e)
 
 -- the shape that a file has
-pub within_is : (file : List ℕ) (place : ℕ) {shape : Shape} → read_file file ≡ File shape
+pub within_is : (file : List ℕ) (place : ℕ) {shape : Shape} → read_file file ≡ Ok shape
     → event_within shape file place ≡ event_at_place (read_file file) file place
 unfolding event_within request_at shape_in
 within_is file place {shape} r = ⊎_elim there (λ none. rw (r, le-ltb place shape.events none)) (lt-or-le place shape.events)

@@ -9,7 +9,6 @@ use lib.ListN.{length, drop, length-drop}
 use lib.Dec.{eqb}
 use Rattle.base_lists.specs.Ascii.{ascii}
 use Rattle.file_record.specs.declared.Shape.{Shape}
-use Rattle.file_record.specs.declared.Read.TheVariants.{File, Refused}
 use Rattle.file_record.specs.Reader.{number_at, opens_with, is_record, is_pf, pf_length, is_mv, mv_length, is_dy, is_ev, is_dy_of, dy_length, dy_day, ev_length, moves_from, days_from, events_from}
 use Rattle.file_record.specs.Reader.{moves_in, move_start, file_base, first_in, days_in, day_start, event_start, events_in, good_end, shape_in, read_file}
 use Rattle.file_record.specs.Laws.{Accepted}
@@ -17,6 +16,8 @@ use Rattle.file_record.proofs.Numbers.{number_drop}
 use Rattle.file_record.proofs.Starts.{base_is}
 use Rattle.file_record.proofs.Records.{whole_record, move_whole, day_cut, named_day}
 use Rattle.file_record.proofs.Runs.{run_most, fits}
+use Rattle.std.specs.Prelude.{Ok, Err}
+use Rattle.method.specs.declared.Refusal.TheVariants.{BadFile}
 
 -- the DY start within a file that opens with a PF
 pub base_within : (file : List ℕ) → is_pf file ≡ true → file_base file ≤ length file
@@ -66,11 +67,11 @@ unfolding file_base
 base_from file m g = rw (g, m) refl
 
 -- refused at 0: an empty or cut file, and a foreign one
-pub file_cut : (file : List ℕ) → length file < pf_length → Refused 0 ≡ read_file file
+pub file_cut : (file : List ℕ) → length file < pf_length → Err (BadFile 0) ≡ read_file file
 unfolding read_file is_pf is_record
 file_cut file h = rw (lt-leb pf_length (length file) h)
 
-pub file_foreign : (file : List ℕ) → pf_length ≤ length file → opens_with (ascii "PF") file ≡ false → Refused 0 ≡ read_file file
+pub file_foreign : (file : List ℕ) → pf_length ≤ length file → opens_with (ascii "PF") file ≡ false → Err (BadFile 0) ≡ read_file file
 unfolding read_file is_pf is_record
 file_foreign file h t = rw (le-leb pf_length (length file) h, t)
 
@@ -97,23 +98,23 @@ module _ (file : List ℕ) {moves base first days start events : ℕ} (m : moves
   -- the records end where the file does
   pub file_good : {participation portfolio : ℕ} → pf_length ≤ length file → opens_with (ascii "PF") file ≡ true → start + ev_length * events ≡ length file
       → participation ≡ number_at 2 2 file → portfolio ≡ number_at 4 4 file
-      → File (record { participation = participation; portfolio = portfolio; moves = moves; first = first; days = days; events = events }) ≡ read_file file
+      → Ok (record { participation = participation; portfolio = portfolio; moves = moves; first = first; days = days; events = events }) ≡ read_file file
   unfolding read_file is_pf is_record shape_in
   file_good h t e p n =
       rw (le-leb pf_length (length file) h, t, eq-eqb (good_end file) (length file) (sym end_is ∙ e), p, n, m, f, ← days_are, ← events_are)
 
   pub file_bad : pf_length ≤ length file → opens_with (ascii "PF") file ≡ true → (start + ev_length * events ≡ length file → ⊥)
-      → Refused (start + ev_length * events) ≡ read_file file
+      → Err (BadFile (start + ev_length * events)) ≡ read_file file
   unfolding read_file is_pf is_record
   file_bad h t e =
       rw (le-leb pf_length (length file) h, t, ne_eqb (good_end file) (length file) (λ same. e (end_is ∙ same)), end_is)
 
 -- what an accepted file has
-pub shape_fits : (file : List ℕ) (shape : Shape) → read_file file ≡ File shape → Accepted file shape
+pub shape_fits : (file : List ℕ) (shape : Shape) → read_file file ≡ Ok shape → Accepted file shape
 unfolding read_file shape_in good_end moves_in moves_from days_in days_from events_in events_from
 shape_fits file shape t = go (is_pf file) (eqb (good_end file) (length file)) refl refl t
   where
-    go : (p q : Bool) → is_pf file ≡ p → eqb (good_end file) (length file) ≡ q → cond p (cond q (File (shape_in file)) (Refused (good_end file))) (Refused 0) ≡ File shape
+    go : (p q : Bool) → is_pf file ≡ p → eqb (good_end file) (length file) ≡ q → cond p (cond q (Ok (shape_in file)) (Err (BadFile (good_end file)))) (Err (BadFile 0)) ≡ Ok shape
         → Accepted file shape
     go true true e g r =
         let same : shape ≡ shape_in file = cc in
@@ -129,7 +130,7 @@ shape_fits file shape t = go (is_pf file) (eqb (good_end file) (length file)) re
     go true false e g r = let z : ◌≡◌ {A = ℕ} 0 1 = cc in absurd (omega arith)
     go false q e g r = let z : ◌≡◌ {A = ℕ} 0 1 = cc in absurd (omega arith)
 
-pub end_is_length : (file : List ℕ) (shape : Shape) → read_file file ≡ File shape → event_start file (events_in file) ≡ length file
+pub end_is_length : (file : List ℕ) (shape : Shape) → read_file file ≡ Ok shape → event_start file (events_in file) ≡ length file
 unfolding shape_in
 end_is_length file shape r =
     let q : Accepted file shape = shape_fits file shape r in

@@ -6,11 +6,11 @@ use native.Mathlib.Omega.{arith}
 use lib.ListN.{length, drop, length-append}
 use Rattle.method.specs.Table.{offset}
 use Rattle.file_record.specs.declared.Shape.{Shape}
-use Rattle.file_record.specs.declared.Read.TheVariants.{File}
 use Rattle.file_record.specs.Reader.{mv_length, move_numbers, list_in, dy_length, shape_base, marks_from, numbers, readings_from, shape_in, table_in, read_file}
 use Rattle.file_record.specs.Steps.{list_within, table_within}
 use Rattle.file_record.proofs.Starts.{base_is}
 use Rattle.file_record.proofs.Files.{shape_fits}
+use Rattle.std.specs.Prelude.{Ok}
 
 pub numbers-length : (count : ℕ) (left : List ℕ) → length (numbers count left) ≡ count
 unfolding numbers
@@ -33,11 +33,11 @@ readings_length zero d left = refl
 readings_length (suc h) d left = rw (length-append, numbers-length, readings_length h)
 
 -- what an accepted file holds, by its shape
-pub list_within_lem : (file : List ℕ) {shape : Shape} → read_file file ≡ File shape → list_within shape file ≡ list_in file
+pub list_within_lem : (file : List ℕ) {shape : Shape} → read_file file ≡ Ok shape → list_within shape file ≡ list_in file
 unfolding list_within list_in shape_in
 list_within_lem file {shape} r = rw (shape_fits file shape r).is_shape refl
 
-pub table_within_lem : (file : List ℕ) {shape : Shape} → read_file file ≡ File shape → table_within shape file ≡ table_in file
+pub table_within_lem : (file : List ℕ) {shape : Shape} → read_file file ≡ Ok shape → table_within shape file ≡ table_in file
 unfolding table_within table_in shape_in
 table_within_lem file {shape} r = rw (base_is file (shape_fits file shape r).is_shape, (shape_fits file shape r).is_shape)
 
