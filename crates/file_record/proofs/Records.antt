@@ -1,35 +1,18 @@
 -- One law for each way in which the code tests a record.
-use Prim.Native.Nat.{ℕ, ◌+◌, ◌-◌, ◌^◌, ◌<◌, ◌≤◌}
+use Prim.Native.Nat.{ℕ, ◌+◌, ◌^◌, ◌<◌, ◌≤◌}
 use mathlib.Core.Path.{◌≡◌, refl, sym, ◌∙◌}
 use mathlib.Core.Bool.{true, false, ◌&&◌, and-true, and-false, and_assoc}
 use mathlib.Core.List.{List}
 use mathlib.Core.Logic.{⊎_elim}
 use native.Mathlib.Omega.{arith}
-use native.Mathlib.Nat.{add-zero}
-use borrow.Author.Tests.{le-leb, lt-leb, leb-true, ltb-true, eq-eqb, eqb-true}
-use lib.ListN.{length, drop, get_or, length-drop}
+use borrow.Author.Tests.{lt-leb, leb-true, ltb-true, eq-eqb, eqb-true}
+use lib.ListN.{length, drop, get_or}
 use lib.Seq.{get_or-drop}
 use lib.Dec.{eqb, leb, ltb}
 use Rattle.base_lists.proofs.Bools.{both, bool_cases}
 use Rattle.base_lists.specs.Ascii.{ascii}
 use Rattle.file_record.specs.Layout.{Event, fits_day, fits_event}
 use Rattle.file_record.specs.Reader.{opens_with, number_at, is_record, is_mv, mv_length, is_dy, is_ev, is_dy_of, dy_length, dy_day, ev_length}
-use Rattle.file_record.proofs.Numbers.{number_drop}
-
-pub opens_at : (file mark : List ℕ) (at : ℕ)
-    → (eqb (get_or file at 0) (get_or mark 0 0) && eqb (get_or file (at + 1) 0) (get_or mark 1 0)) ≡ opens_with mark (drop at file)
-unfolding opens_with
-opens_at file mark at = rw (get_or-drop at file 0 0, get_or-drop at file 1 0, add-zero at)
-
--- a record that is whole and has its mark
-module _ (file mark : List ℕ) (at size : ℕ) where
-  pub record_cut : length file - at < size → false ≡ is_record size mark (drop at file)
-  unfolding is_record
-  record_cut h = rw (length-drop at file, lt-leb size (length file - at) h)
-
-  pub record_marked : size ≤ length file - at → opens_with mark (drop at file) ≡ is_record size mark (drop at file)
-  unfolding is_record
-  record_marked h = rw (length-drop at file, le-leb size (length file - at) h) refl
 
 pub whole_record : (size : ℕ) (mark left : List ℕ) → is_record size mark left ≡ true → size ≤ length left
 unfolding is_record
@@ -65,6 +48,10 @@ day_record day left = ⊎_elim named other (bool_cases (eqb (dy_day left) day))
         ≡ (is_record (dy_length day) (ascii "DY") left && (eqb (get_or left 5 0) 0 && eqb (dy_day left) day))
     other t = rw (t, and-false, and-false, and-false)
 
+pub day_at : (file : List ℕ) (at day : ℕ)
+    → is_dy_of day (drop at file) ≡ (is_record (dy_length day) (ascii "DY") (drop at file) && (eqb (get_or file (at + 5) 0) 0 && eqb (dy_day (drop at file)) day))
+day_at file at day = day_record day (drop at file) ∙ (rw (get_or-drop at file 5 0) refl)
+
 pub day_whole : (day : ℕ) (left : List ℕ) → is_dy_of day left ≡ true → dy_length day ≤ length left
 day_whole day left t =
     whole_record (dy_length day) (ascii "DY") left
@@ -81,14 +68,6 @@ day_named day left t = eqb-true (dy_day left) day (both (is_dy left) (eqb (dy_da
 pub named_day : (left : List ℕ) → is_dy_of (dy_day left) left ≡ is_dy left
 unfolding is_dy_of
 named_day left = rw (eq-eqb (dy_day left) (dy_day left) refl, and-true)
-
--- the zero byte and the day of a DY at a place of the file
-pub day_at : (file : List ℕ) (at day : ℕ) → is_record (dy_length day) (ascii "DY") (drop at file) ≡ true
-    → (eqb (get_or file (at + 5) 0) 0 && eqb (number_at 2 (at + 2) file) day) ≡ is_dy_of day (drop at file)
-day_at file at day t = rw (day_record day (drop at file), t, number_drop 2 at 2 file, get_or-drop at file 5 0)
-
-pub day_other : (left : List ℕ) (day : ℕ) → is_record (dy_length day) (ascii "DY") left ≡ false → false ≡ is_dy_of day left
-day_other left day t = rw (day_record day left, t)
 
 pub day_not : (left : List ℕ) (day : ℕ) → is_dy left ≡ false → false ≡ is_dy_of day left
 unfolding is_dy_of
