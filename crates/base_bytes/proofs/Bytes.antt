@@ -1,12 +1,13 @@
 -- Numbers put as bytes: the four of a number, and one number after the other.
-use Prim.Native.Nat.{ℕ, ◌+◌, ◌-◌, ◌*◌, ◌/◌, ◌≤◌, ◌<◌}
+use Prim.Native.Nat.{ℕ, ◌+◌, ◌-◌, ◌*◌, ◌/◌, ◌%◌, ◌≤◌, ◌<◌}
 use mathlib.Core.Path.{◌≡◌, refl, ap, ◌∙◌}
 use mathlib.Core.List.{List, [], ◌∷◌, ◌++◌}
 use native.Mathlib.Omega.{arith}
 use native.Mathlib.Numerals.{add-one}
-use lib.ListN.{length, get_or, drop, set, drop_of_length-le}
+use lib.ListN.{length, get_or, take, drop, set, drop_of_length-le}
 use lib.Seq.{drop-cons}
 use borrow.Rule.Slice.PartMut.{put_mid}
+use Rattle.std.specs.Int.{w32, to_le_bytes}
 use Rattle.base_bytes.specs.PutFirst.{put_first}
 use Rattle.base_bytes.proofs.Told.{tells_none, tells_whole}
 use Rattle.base_bytes.proofs.Filling.{Filling, filling_part, filled}
@@ -24,6 +25,18 @@ four_set (p ∷ []) a b c d h = absurd (omega arith)
 four_set (p ∷ q ∷ []) a b c d h = absurd (omega arith)
 four_set (p ∷ q ∷ r ∷ []) a b c d h = absurd (omega arith)
 four_set (p ∷ q ∷ r ∷ s ∷ l) a b c d h = refl
+
+-- what std makes of a number
+pub le_two : (n : ℕ) → take 2 (to_le_bytes w32 n) ≡ bytes 2 n
+unfolding bytes
+le_two n = refl
+
+pub le_four : (n : ℕ) → to_le_bytes w32 n ≡ bytes 4 n
+unfolding bytes
+le_four n =
+    let third : n / 65536 ≡ n / 256 / 256 = omega arith in
+    let fourth : n / 16777216 ≡ n / 256 / 256 / 256 = omega arith in
+    rw (third, fourth) refl
 
 four_bytes : (n : ℕ) → length (bytes 4 n) ≡ 4
 unfolding bytes

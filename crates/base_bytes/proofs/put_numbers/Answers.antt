@@ -1,5 +1,6 @@
+use mathlib.Core.Path.{◌∙◌}
 use native.Mathlib.Omega.{arith}
-use Rattle.base_bytes.proofs.Bytes.{number_put, numbers_put, numbers_kept}
+use Rattle.base_bytes.proofs.Bytes.{le_four, number_put, numbers_put, numbers_kept}
 use Rattle.base_bytes.proofs.put_numbers.Goals as goal
 
 pub returns-then-out-numbers : goal.returns-then-out-numbers
@@ -9,7 +10,7 @@ pub loop-i-preserved : goal.loop-i-preserved
 loop-i-preserved c =
     let l = c.loop-i in
     let a = c.args in
-    (omega arith, number_put a.numbers.now l.i l.invariant.1 (omega arith) (omega arith) c.put_number.ensures)
+    (omega arith, number_put a.numbers.now l.i l.invariant.1 (omega arith) (omega arith) (c.copy_from_slice.ensures.after ∙ c.to_le_bytes.ensures ∙ le_four _))
 
 pub returns : goal.returns
 returns c =
