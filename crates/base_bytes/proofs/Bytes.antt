@@ -8,6 +8,8 @@ use lib.ListN.{length, get_or, take, drop, set, drop_of_length-le}
 use lib.Seq.{drop-cons}
 use borrow.Rule.Slice.PartMut.{put_mid}
 use Rattle.std.specs.Int.{w32, to_le_bytes}
+use Rattle.std.specs.List.{flat_map}
+use Rattle.byteorder.specs.Endian.{little_bytes}
 use Rattle.base_bytes.specs.PutFirst.{put_first}
 use Rattle.base_bytes.proofs.Told.{tells_none, tells_whole}
 use Rattle.base_bytes.proofs.Filling.{Filling, filling_part, filled}
@@ -38,32 +40,19 @@ le_four n =
     let fourth : n / 16777216 ≡ n / 256 / 256 / 256 = omega arith in
     rw (third, fourth) refl
 
-four_bytes : (n : ℕ) → length (bytes 4 n) ≡ 4
-unfolding bytes
-four_bytes n = refl
-
-module _ {before whole now : List ℕ} (numbers : List ℕ) (i : ℕ) (q : Filling before whole now (reading_bytes (drop i numbers)) (4 * i)) where
-  left_is : i < length numbers → reading_bytes (drop i numbers) ≡ bytes 4 (get_or numbers i 0) ++ reading_bytes (drop (i + 1) numbers)
-  unfolding reading_bytes
-  left_is h = rw (drop-cons numbers i 0 h, add-one)
-
-  -- one more number is put
-  pub number_put : {part : List ℕ} → i < length numbers → 4 * i + 4 ≤ length now → part ≡ bytes 4 (get_or numbers i 0)
-      → Filling before whole (put_mid (4 * i) (4 * i + 4 - 4 * i) now part) (reading_bytes (drop (i + 1) numbers)) (4 * (i + 1))
-  number_put {part} h room p =
-      let next : 4 * (i + 1) ≡ 4 * i + 4 = omega arith in
-      let size : length part ≡ 4 * i + 4 - 4 * i = ap length p ∙ four_bytes (get_or numbers i 0) ∙ omega arith in
-      rw next (filling_part q part (reading_bytes (drop (i + 1) numbers)) (4 * i + 4) (omega arith) room size (rw p (left_is h)))
+-- and `byteorder` of numbers
+numbers_are : (xs : List ℕ) → flat_map (little_bytes 4) xs ≡ reading_bytes xs
+unfolding reading_bytes
+numbers_are [] = refl
+numbers_are (x ∷ xs) =
+    ap (λ (l : List ℕ). l ++ flat_map (little_bytes 4) xs) (le_four x) ∙ ap (λ (l : List ℕ). bytes 4 x ++ l) (numbers_are xs)
 
 -- all are put
-pub numbers_put : {before now : List ℕ} (numbers : List ℕ) (i : ℕ) → Filling before (reading_bytes numbers) now (reading_bytes (drop i numbers)) (4 * i)
-    → i ≤ length numbers → length numbers ≤ i → length numbers ≤ length before / 4 → now ≡ put_first (reading_bytes numbers) before
-unfolding reading_bytes
-numbers_put {before} numbers i q h g room =
+pub numbers_put : (numbers before : List ℕ) {part : List ℕ} → part ≡ flat_map (little_bytes 4) numbers → length numbers ≤ length before / 4
+    → put_mid 0 (4 * length numbers) before part ≡ put_first (reading_bytes numbers) before
+numbers_put numbers before {part} p room =
     let long = reading_length numbers in
-    let all : length (reading_bytes numbers) ≡ 4 * i = omega arith in
-    let fits : length (reading_bytes numbers) ≤ length before = omega arith in
-    tells_whole (reading_bytes numbers) before fits (rw all (filled q (rw (drop_of_length-le numbers g))))
+    tells_whole (reading_bytes numbers) before (omega arith) (rw (p ∙ numbers_are numbers, long) refl)
 
 -- they do not fit
 pub numbers_kept : (numbers before : List ℕ) → length before / 4 < length numbers → before ≡ put_first (reading_bytes numbers) before
