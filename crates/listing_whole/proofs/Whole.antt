@@ -11,7 +11,7 @@ use borrow.Author.Tests.{le-leb, lt-leb}
 use borrow.Rule.Slice.PartMut.{mid_of, put_mid, mid_len}
 use Rattle.base_lists.proofs.Unique.{unique}
 use Rattle.base_text.specs.TextSteps.{put, Puts}
-use Rattle.base_text.proofs.Text.{put_whole}
+use Rattle.base_text.proofs.Putting.{put_whole}
 use Rattle.base_bytes.specs.PutFirst.{put_first}
 use Rattle.base_bytes.proofs.Told.{tells_none}
 use Rattle.file_record.specs.declared.Shape.{Shape}
