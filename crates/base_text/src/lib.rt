@@ -2,9 +2,9 @@
 // that something did not fit, and nothing is written there. How far that place can be is said too.
 #![tactic(auto)]
 
-ghost use Rattle.std.specs.Prelude.{◌≡◌, ◌≤◌, ◌+◌, length};
+ghost use Rattle.std.specs.Prelude.{◌≤◌, ◌+◌, length};
 ghost use Rattle.base_digits.specs.Digits.{dec, decimal};
-ghost use Rattle.base_text.specs.TextSteps.{Puts, PutsBoth};
+ghost use Rattle.base_text.specs.TextSteps.{Puts, PutsBoth, Keeps};
 
 use itoa::Buffer;
 
@@ -18,7 +18,7 @@ pub struct Text<'a> {
 impl Text<'_> {
     // The bytes as they are.
     pub fn put_bytes(&mut self, bytes: &[u8])
-        ensures same { self.new.out.ghost_name ≡ self.old.out.ghost_name }
+        ensures keeps { Keeps self.old self.new }
         ensures puts { Puts self.old.out.now self.old.at bytes.now self.new.at self.new.out.now }
         ensures most { self.new.at ≤ self.old.at + length bytes.now }
     {
@@ -34,7 +34,7 @@ impl Text<'_> {
 
     // A number in decimal digits.
     pub fn put_number(&mut self, n: u32)
-        ensures same { self.new.out.ghost_name ≡ self.old.out.ghost_name }
+        ensures keeps { Keeps self.old self.new }
         ensures puts { Puts self.old.out.now self.old.at (dec n) self.new.at self.new.out.now }
         ensures most { self.new.at ≤ self.old.at + 10 }
     {
@@ -43,7 +43,7 @@ impl Text<'_> {
 
     // A number in decimal digits, with a minus sign where it is negative.
     pub fn put_signed(&mut self, z: i64)
-        ensures same { self.new.out.ghost_name ≡ self.old.out.ghost_name }
+        ensures keeps { Keeps self.old self.new }
         ensures puts { Puts self.old.out.now self.old.at (decimal z) self.new.at self.new.out.now }
         ensures most { self.new.at ≤ self.old.at + 20 }
     {
@@ -52,7 +52,7 @@ impl Text<'_> {
 
     // A label and a number in decimal digits, both or neither.
     pub fn put_field(&mut self, label: &[u8], n: u32)
-        ensures same { self.new.out.ghost_name ≡ self.old.out.ghost_name }
+        ensures keeps { Keeps self.old self.new }
         ensures puts { PutsBoth self.old.out.now self.old.at label.now (dec n) self.new.at self.new.out.now }
         ensures most { self.new.at ≤ self.old.at + length label.now + 10 }
     {

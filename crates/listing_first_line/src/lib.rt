@@ -1,7 +1,8 @@
 // The first line of a listing. 01: "Header: number, P, F, h." and "A refused file prints only `file refused OFFSET`."
 #![tactic(auto)]
 
-ghost use Rattle.std.specs.Prelude.{◌≡◌, ◌+◌, ◌≤◌, length};
+ghost use Rattle.std.specs.Prelude.{◌+◌, ◌≤◌, length};
+ghost use Rattle.base_text.specs.TextSteps.{Keeps};
 ghost use Rattle.listing_lines.specs.Lines.{line_text};
 ghost use Rattle.listing_lines.specs.Listing.{header_line, refused_line};
 ghost use Rattle.listing_lines.specs.WriteSteps.{opening_line};
@@ -16,7 +17,7 @@ pub const OPENING_ROOM: usize = 74;
 
 fn put_header(text: &mut Text<'_>, file: Shape)
     requires { text.old.at + opening_room ≤ length text.old.out.now }
-    ensures same { text.new.out.ghost_name ≡ text.old.out.ghost_name }
+    ensures keeps { Keeps text.old text.new }
     ensures writes { Writes text.old.out.now text.old.at (line_text (header_line file)) text.new.at text.new.out.now }
     ensures most { text.new.at ≤ text.old.at + opening_room }
 {
@@ -29,7 +30,7 @@ fn put_header(text: &mut Text<'_>, file: Shape)
 
 fn put_opening(text: &mut Text<'_>, read: Read)
     requires { text.old.at + opening_room ≤ length text.old.out.now }
-    ensures same { text.new.out.ghost_name ≡ text.old.out.ghost_name }
+    ensures keeps { Keeps text.old text.new }
     ensures writes { Writes text.old.out.now text.old.at (line_text (opening_line read)) text.new.at text.new.out.now }
     ensures most { text.new.at ≤ text.old.at + opening_room }
 {
