@@ -6,12 +6,12 @@ use Rattle.listing_lines.proofs.Writing.{both_placed, then_put, named}
 use Rattle.listing_first_line.proofs.Header.{refused_is}
 use Rattle.listing_first_line.proofs.put_opening.Goals as goal
 
-pub returns-in-File-clause-writes : goal.returns-in-File-clause-writes
+pub returns-in-Ok-clause-writes : goal.returns-in-Ok-clause-writes
 unfolding opening_line
-returns-in-File-clause-writes c = rw c.in-File.is c.put_header.ensures.writes
+returns-in-Ok-clause-writes c = rw c.in-Ok.is c.put_header.ensures.writes
 
-pub returns-in-Refused-clause-writes : goal.returns-in-Refused-clause-writes
+pub returns-in-Err-clause-writes : goal.returns-in-Err-clause-writes
 unfolding opening_line
-returns-in-Refused-clause-writes c =
-    let first = both_placed (dec c.in-Refused.offset) c.put_field.ensures.puts (omega arith) in
-    rw c.in-Refused.is (named (refused_is c.in-Refused.offset) (then_put first c.put_bytes.ensures.puts (omega arith)))
+returns-in-Err-clause-writes c =
+    let first = both_placed (dec c.offset_of.result) c.put_field.ensures.puts (omega arith) in
+    rw (c.in-Err.is, ← c.offset_of.ensures) (named (refused_is c.offset_of.result) (then_put first c.put_bytes.ensures.puts (omega arith)))
