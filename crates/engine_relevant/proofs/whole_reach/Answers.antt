@@ -9,7 +9,7 @@ use Rattle.engine_relevant.proofs.whole_reach.Goals as goal
 pub loop-back-init : goal.loop-back-init
 loop-back-init c =
     let a = c.args in
-    (omega (arith, c.least-back.ensures), reach_start (group_of a.moves.now) a.request ∙ ap (reach_within (group_of a.moves.now) a.request) (sym c.least-back.ensures))
+    (omega (arith, c.min-back.ensures), reach_start (group_of a.moves.now) a.request ∙ ap (reach_within (group_of a.moves.now) a.request) (sym c.min-back.ensures))
 
 pub returns-then-relevant : goal.returns-then-relevant
 returns-then-relevant c =
