@@ -16,22 +16,13 @@ use Rattle.file_record.specs.Reader.{number_at, dy_length, shape_base, day_start
 use Rattle.file_record.specs.Steps.{table_within, span_within}
 use Rattle.file_record.proofs.Numbers.{number_drop}
 use Rattle.file_record.proofs.Starts.{day_start_within}
-use Rattle.file_record.proofs.Lengths.{numbers-length, marks_within, table_within_lem}
+use Rattle.file_record.proofs.Lengths.{numbers-length, numbers_at, marks_within, table_within_lem}
 use Rattle.file_record.proofs.Spans.{span, span_marks_length, span_longer}
 use Rattle.file_record.proofs.Files.{shape_fits}
 use Rattle.file_days.specs.Steps.{holds_day}
 use Rattle.file_days.specs.HeldDay.{mark_of, reading_of, mark_in, reading_in}
 use Rattle.std.specs.Prelude.{Some, None, Ok, Err}
 use Rattle.method.specs.declared.Refusal.{Refusal}
-
--- the numbers of four bytes that stand one after the other
-numbers_at : (count q : ℕ) (left : List ℕ) → q < count → get_or (numbers count left) q 0 ≡ number_at 4 (4 * q) left
-unfolding numbers
-numbers_at zero q left h = absurd (omega arith)
-numbers_at (suc count) zero left h = refl
-numbers_at (suc count) (suc q) left h =
-    let far : 4 * suc q ≡ 4 + 4 * q = omega arith in
-    rw far (numbers_at count q (drop 4 left) (omega arith) ∙ number_drop 4 4 (4 * q) left)
 
 -- what a record says of its day
 abbrev recorded : ℕ → List ℕ → Day

@@ -7,7 +7,4 @@ use Rattle.file_loading.proofs.Loading.{Passing}
 use Rattle.file_loading.proofs.pass_days.Given as goal
 
 abbrev pub invariant-loop-k : goal.invariant-loop-k
-invariant-loop-k l = Passing l.shape l.span l.file l.k × (length l.day ≡ most_quarters)
-
-abbrev pub decreases-loop-k : goal.decreases-loop-k
-decreases-loop-k l = l.span.end - l.k
+invariant-loop-k l = Passing l.fn.shape l.fn.span l.file l.k × (length l.day ≡ most_quarters)
