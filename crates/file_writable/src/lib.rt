@@ -17,39 +17,34 @@ const TWO_BYTES: u32 = 65536;
 const ONE_BYTE: u32 = 256;
 
 // Whether refusal 1 lets so many days and readings pass.
+#[tactic(auto, unfolding(file_record::specs::Writer::matching))]
 pub fn is_matching(first: u32, days: usize, readings: usize) -> bool
     ensures { result ≡ matching first days readings }
 {
-    if (MOST_DAYS as usize) < days {
-        return false;
-    }
-    readings == day_ruler::offset(first, days as u32)
+    days <= MOST_DAYS as usize && readings == day_ruler::offset(first, days as u32)
 }
 
 // Whether the numbers of an event fit their bytes.
+#[tactic(auto, unfolding(file_record::specs::Layout::fits_event))]
 fn event_fits(day: u32, s: u32, e: u32, n: u32, method: u32) -> bool
     ensures { result ≡ fits_event (record { day = day; s = s; e = e; n = n; method = method }) }
 {
-    ((((day < TWO_BYTES) & (s < ONE_BYTE)) & (e < ONE_BYTE)) & (n < ONE_BYTE)) & (method < ONE_BYTE)
+    day < TWO_BYTES && s < ONE_BYTE && e < ONE_BYTE && n < ONE_BYTE && method < ONE_BYTE
 }
 
 // Whether those of every event do.
 fn all_fit(events: &[u32]) -> bool
     ensures { result ≡ all fits_event (events_of events.now) }
 {
-    let count = events.len() / EVENT_NUMBERS;
-    let mut i = 0;
-    while i < count {
+    for i in 0..events.len() / EVENT_NUMBERS {
         let at = EVENT_NUMBERS * i;
-        if event_fits(
+        if !event_fits(
             events[at],
             events[at + 1],
             events[at + 2],
             events[at + 3],
             events[at + 4],
         ) {
-            i += 1;
-        } else {
             return false;
         }
     }
@@ -60,33 +55,33 @@ fn all_fit(events: &[u32]) -> bool
 fn moves_fit(moves: &[u32]) -> bool
     ensures { result ≡ all fits_day moves.now }
 {
-    let mut fit = true;
-    for i in 0..moves.len() {
-        fit = fit & (moves[i] < TWO_BYTES);
-    }
-    fit
+    moves.iter().all(|&day| day < TWO_BYTES)
 }
 
 // Whether so many numbers are whole moves or events, `each` numbers for one, and at most `most` of them.
+#[tactic(auto, unfolding(file_record::specs::Writer::few_of))]
 fn few_of(each: usize, most: usize, numbers: usize) -> bool
     requires { 0 < each }
     ensures { result ≡ few_of each most numbers }
 {
-    (numbers % each == 0) & (numbers / each <= most)
+    numbers % each == 0 && numbers / each <= most
 }
 
 // Whether P and the days fit their bytes.
+#[tactic(auto, unfolding(file_record::specs::Writer::days_in_bounds))]
 fn in_bounds(participation: u32, first: u32, days: usize) -> bool
     ensures { result ≡ days_in_bounds participation first days }
 {
     if (TWO_BYTES as usize) < days {
         return false;
     }
-    let end = (first as usize) + days;
-    ((participation < TWO_BYTES) & (end <= TWO_BYTES as usize)) & ((0 < days) | (first == 0))
+    participation < TWO_BYTES
+        && first as usize + days <= TWO_BYTES as usize
+        && (0 < days || first == 0)
 }
 
 // Whether refusal 13 lets P, so many days from the first on, these moves and these events pass.
+#[tactic(auto, unfolding(file_record::specs::Writer::sayable))]
 pub fn is_sayable(
     participation: u32,
     first: u32,
@@ -96,13 +91,9 @@ pub fn is_sayable(
 ) -> bool
     ensures { result ≡ sayable participation first days moves.now events.now }
 {
-    let in_bounds = in_bounds(participation, first, days);
-    let few_moves = few_of(2, MOST_MOVES as usize, moves.len());
-    let few_events = few_of(EVENT_NUMBERS, MOST_EVENTS as usize, events.len());
-    if (in_bounds & few_moves) & few_events {
-        if moves_fit(moves) {
-            return all_fit(events);
-        }
-    }
-    false
+    in_bounds(participation, first, days)
+        && few_of(2, MOST_MOVES as usize, moves.len())
+        && moves_fit(moves)
+        && few_of(EVENT_NUMBERS, MOST_EVENTS as usize, events.len())
+        && all_fit(events)
 }

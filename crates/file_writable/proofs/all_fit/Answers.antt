@@ -7,13 +7,13 @@ pub loop-i-preserved : goal.loop-i-preserved
 loop-i-preserved c =
     let l = c.loop-i in
     let a = c.args in
-    (omega arith, one_fits a.events.now l.i l.invariant.1 (omega arith) (sym c.event_fits.ensures ∙ c.if-event_fits.true))
+    (omega arith, one_fits a.events.now l.i l.invariant.1 (omega arith) (sym c.event_fits.ensures ∙ c.if-not-event_fits.false))
 
-pub returns-else-event_fits : goal.returns-else-event_fits
-returns-else-event_fits c =
+pub returns-then-not-event_fits : goal.returns-then-not-event_fits
+returns-then-not-event_fits c =
     let l = c.loop-i in
     let a = c.args in
-    one_does_not a.events.now l.i l.invariant.1 (omega arith) (sym c.event_fits.ensures ∙ c.if-event_fits.false)
+    one_does_not a.events.now l.i l.invariant.1 (omega arith) (sym c.event_fits.ensures ∙ c.if-not-event_fits.true)
 
 pub returns : goal.returns
 returns c =

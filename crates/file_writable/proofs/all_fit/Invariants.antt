@@ -9,6 +9,3 @@ use Rattle.file_writable.proofs.all_fit.Given as goal
 
 abbrev pub invariant-loop-i : goal.invariant-loop-i
 invariant-loop-i l = (l.i ≤ length l.events / 5) × (all fits_event (events_of (drop (5 * l.i) l.events)) ≡ all fits_event (events_of l.events))
-
-abbrev pub decreases-loop-i : goal.decreases-loop-i
-decreases-loop-i l = length l.events / 5 - l.i
