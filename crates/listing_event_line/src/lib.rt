@@ -9,6 +9,7 @@ ghost use Rattle.base_text.specs.TextSteps.{Keeps};
 ghost use Rattle.listing_lines.specs.Lines.{newline, spaced, line_text};
 ghost use Rattle.listing_lines.specs.Listing.{numbers, event_line, refusal_line};
 ghost use Rattle.listing_lines.specs.WriteSteps.{Writes, PutsWithin};
+ghost use Rattle.listing_event_line.specs.Carried.{there};
 ghost use Rattle.listing_event_line.specs.Room.{event_room, refusal_room};
 
 use base_text::Text;
@@ -78,6 +79,18 @@ fn put_answered(
     put_close(text, chosen.reach, denominator, adjustment);
 }
 
+// A number that a refusal carries, after a space, where there is one.
+fn put_carried(text: &mut Text<'_>, carried: Option<u32>)
+    requires { text.old.at + 11 ≤ length text.old.out.now }
+    ensures keeps { Keeps text.old text.new }
+    ensures writes { Writes text.old.out.now text.old.at (spaced (map dec (there carried))) text.new.at text.new.out.now }
+    ensures most { text.new.at ≤ text.old.at + 11 }
+{
+    if let Some(number) = carried {
+        text.put_field(b" ", number);
+    }
+}
+
 // The line of an event that is refused.
 fn put_refused(text: &mut Text<'_>, request: Request, refusal: Refusal)
     requires { text.old.at + refusal_room ≤ length text.old.out.now }
@@ -85,10 +98,11 @@ fn put_refused(text: &mut Text<'_>, request: Request, refusal: Refusal)
     ensures writes { Writes text.old.out.now text.old.at (line_text (refusal_line request refusal)) text.new.at text.new.out.now }
     ensures most { text.new.at ≤ text.old.at + refusal_room }
 {
-    let told = engine_answer::tell(refusal);
+    let [first, second] = refusal.carried();
     put_three(text, request);
-    text.put_field(b" refused ", told.number);
-    put_numbers(text, &told.carried[..told.count]);
+    text.put_field(b" refused ", refusal.number());
+    put_carried(text, first);
+    put_carried(text, second);
     text.put_bytes(b"\n");
 }
 
