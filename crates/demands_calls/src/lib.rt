@@ -71,6 +71,7 @@ pub fn entry_of_file(file: &[u8], place: usize, out: &mut [u8]) -> u32
 }
 
 // What C is told of that request, by name.
+#[tactic(auto, using(demands::proofs::Entries::table_tells))]
 pub fn told_over_table(
     first: u32,
     marks: &[u8],
@@ -102,6 +103,7 @@ pub fn told_over_table(
 }
 
 // What C is told of that event, by name.
+#[tactic(auto, using(demands::proofs::Entries::file_tells))]
 pub fn told_of_file(file: &[u8], place: usize, name: u32) -> i64
     ensures { Tells (of_file file.now place) name result }
 {

@@ -13,7 +13,7 @@ use Rattle.file_record.specs.Writer.{Lent, Writes}
 use Rattle.listing_whole.specs.declared.Listed.{Listed}
 use Rattle.listing_whole.specs.Lists.{Lists}
 use Rattle.host_numbers.specs.Numbers.{written_told, listed_told}
-use Rattle.host_entries.specs.Host.{TableCall, FileCall, WriteCall, ListingCall}
+use Rattle.host_entries.specs.Host.{or_nothing, TableCall, FileCall, WriteCall, ListingCall}
 
 module _ {reply : Reply} {answer : Answer} {r : ℕ} {out out' : List ℕ} (n : r ≡ number_of answer.given) where
   pub file_call : AnswersInBytes reply answer out out' → FileCall reply r out out'
@@ -23,12 +23,12 @@ module _ {reply : Reply} {answer : Answer} {r : ℕ} {out out' : List ℕ} (n : 
   table_call q = record { result = n ∙ ap (λ (a : Answer). number_of a.given) q.answer; output = q.output }
 
 -- what the answer of a call tells
-module _ {reply : Reply} {answer : Answer} {out out' : List ℕ} (name : ℕ) {x : ℤ} (t : x ≡ told_by answer name) where
-  pub file_told : AnswersInBytes reply answer out out' → x ≡ told_by (answer_of reply) name
-  file_told q = t ∙ ap (λ (a : Answer). told_by a name) q.answer
+module _ {reply : Reply} {answer : Answer} {out out' : List ℕ} (name : ℕ) {x : ℤ} (t : x ≡ or_nothing (told_by answer name)) where
+  pub file_told : AnswersInBytes reply answer out out' → x ≡ or_nothing (told_by (answer_of reply) name)
+  file_told q = t ∙ ap (λ (a : Answer). or_nothing (told_by a name)) q.answer
 
-  pub table_told : Answers reply answer out out' → x ≡ told_by (answer_of reply) name
-  table_told q = t ∙ ap (λ (a : Answer). told_by a name) q.answer
+  pub table_told : Answers reply answer out out' → x ≡ or_nothing (told_by (answer_of reply) name)
+  table_told q = t ∙ ap (λ (a : Answer). or_nothing (told_by a name)) q.answer
 
 -- what is told of a file that was to be written
 pub write_call : {w : Lent} {out out' : List ℕ} {r : Written} {x : ℤ} → x ≡ written_told r → Writes w out r out' → WriteCall w x out out'

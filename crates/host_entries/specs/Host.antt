@@ -1,5 +1,5 @@
 -- What the C entries that are lent an output give back, and leave in it.
-use Rattle.std.specs.Prelude.{ℕ, ◌*◌, ◌≡◌, List, length, ℤ}
+use Rattle.std.specs.Prelude.{ℕ, ◌*◌, ◌≡◌, List, length, ℤ, negsuc, Option, unwrap_or}
 use Rattle.base_bytes.specs.PutFirst.{put_first}
 use Rattle.method.specs.declared.Request.{Request}
 use Rattle.method.specs.Table.{most_quarters}
@@ -12,6 +12,10 @@ use Rattle.listing_lines.specs.Listing.{listing}
 use Rattle.listing_whole.specs.Lists.{listed_in}
 use Rattle.host_answer.specs.Telling.{number_of}
 use Rattle.host_numbers.specs.Numbers.{written_told, listed_told}
+
+-- a number for C: HP_NOTHING, which is -2^63, where nothing is told
+abbrev pub or_nothing : Option ℤ → ℤ
+or_nothing told = unwrap_or told (negsuc 9223372036854775807)
 
 -- room for the numerators of any event, four bytes each
 abbrev pub most_bytes : ℕ

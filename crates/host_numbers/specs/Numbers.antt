@@ -1,6 +1,6 @@
 -- A result as one number, which a caller written in C gets by include/honeyplank.h: of the part of a day, of a day
 -- of a file, of a file that was to be written, of a listing.
-use Rattle.std.specs.Prelude.{ℤ, pos, negsuc, neg_ℤ}
+use Rattle.std.specs.Prelude.{ℤ, pos, negsuc, neg_ℤ, Option, None}
 use Rattle.method.specs.Verdict.{number}
 use Rattle.table_days.specs.declared.Place.{Place}
 use Rattle.table_days.specs.declared.Place.TheVariants.{Nowhere, From}
@@ -10,17 +10,17 @@ use Rattle.file_days.specs.declared.Found.{Found}
 use Rattle.file_days.specs.declared.Found.TheVariants.{Number, NotThere}
 use Rattle.listing_whole.specs.declared.Listed.{Listed}
 use Rattle.listing_whole.specs.declared.Listed.TheVariants.{Length, DoesNotFit}
-use Rattle.host_answer.specs.Names.{untold}
+use Rattle.host_answer.specs.Names.{told}
 
 -- the place of a day's first reading
-abbrev pub place_told : Place → ℤ
-place_told Nowhere = untold
-place_told (From at) = pos at
+abbrev pub place_told : Place → Option ℤ
+place_told Nowhere = None
+place_told (From at) = told at
 
 -- a number of a day of a file
-abbrev pub found_told : Found → ℤ
-found_told (Number x) = pos x
-found_told NotThere = untold
+abbrev pub found_told : Found → Option ℤ
+found_told (Number x) = told x
+found_told NotThere = None
 
 -- the length of a file that was written; else minus the number of the refusal
 abbrev pub written_told : Written → ℤ

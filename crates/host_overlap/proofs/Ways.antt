@@ -1,17 +1,14 @@
 -- The refusals of an event whatever days are held, and what is told of it: one law for each way out of the code.
-use Prim.Native.Nat.{ℕ, ◌-◌, ◌≤◌, ◌<◌, ◌^◌}
+use Prim.Native.Nat.{ℕ, ◌-◌, ◌≤◌}
 use mathlib.Core.Path.{◌≡◌, refl, sym, ap, ◌∙◌}
 use mathlib.Core.Bool.{Bool, true, false, not, cond, ◌||◌}
-use mathlib.Core.List.{List, [], ◌∷◌, map}
+use mathlib.Core.List.{List, [], ◌∷◌}
 use native.Mathlib.Omega.{arith}
-use borrow.Author.Tests.{lt-ltb, le-ltb}
+use borrow.Author.Tests.{le-ltb}
 use lib.Dec.{ltb}
 use lib.IntN.{ℤ}
-use mir.Syntax.{w64}
-use mir.Val.{to_z}
-use mir.ValLaws.{to_z_pos}
-use Rattle.base_lists.specs.Lists.{any, places}
-use Rattle.base_lists.proofs.Bools.{clash}
+use Rattle.std.specs.Prelude.{Option, Some, None}
+use Rattle.base_lists.specs.Lists.{any}
 use Rattle.calendar_groups.specs.Holidays.{good_moves}
 use Rattle.method.specs.declared.Request.{Request}
 use Rattle.method.specs.declared.Refusal.{Refusal}
@@ -28,17 +25,17 @@ use Rattle.engine_refusals.proofs.FirstRefusal.{passed_next, good_request_lem}
 use Rattle.file_record.specs.declared.Shape.{Shape}
 use Rattle.file_record.specs.declared.Read.TheVariants.{File, Refused}
 use Rattle.file_record.specs.declared.EventAt.{EventAt}
-use Rattle.file_record.specs.declared.EventAt.TheVariants.{Event, NoEvent as NoneThere, Refused as RefusedEvent}
-use Rattle.file_record.specs.Reader.{list_in, request_at, read_file}
+use Rattle.file_record.specs.declared.EventAt.TheVariants.{Event}
+use Rattle.file_record.specs.Reader.{list_in, read_file}
 use Rattle.file_record.specs.Steps.{table_within, event_within}
 use Rattle.file_record.proofs.Events.{within_is}
 use Rattle.file_record.proofs.Lengths.{table_within_lem}
 use Rattle.file_days.specs.Steps.{holds_day}
 use Rattle.file_days.proofs.Days.{holding_is}
-use Rattle.host_answer.specs.Names.{untold, by_name, refusal_row, row_from, row_after}
+use Rattle.host_answer.specs.Names.{by_name, refusal_row, row_from, row_after}
 use Rattle.host_answer.proofs.Refused.{row_passed, row_failed}
-use Rattle.host_overlap.specs.Overlap.{overlap_tests, enough_days, numbers_of, overlap_numbers, row_at, overlap_row, is_asked, needed_days, least_told, cut_from}
-use Rattle.host_overlap.specs.Steps.{no_day, Needs, day_told}
+use Rattle.host_overlap.specs.Overlap.{overlap_tests, enough_days, numbers_of, overlap_numbers, row_at, overlap_row, is_asked, cut_from}
+use Rattle.host_overlap.specs.Steps.{needed}
 
 -- refusals tested one after the other: whether one applies, and what is told after them
 abbrev test : Bool × Refusal → Bool
@@ -89,55 +86,32 @@ module _ (moves : List ℕ) (r : Request) where
   unfolding whole_reach method_of method_by
   enough_event = omega arith
 
-  pub needs_none : (w : Refusal) → tested (overlap_tests moves r) ≡ Failed w → Needs moves r no_day
-  needs_none w e = record { some = λ a. absurd (clash a (unasked w e)); none = λ n. refl }
+  pub needs_none : (w : Refusal) → tested (overlap_tests moves r) ≡ Failed w → None ≡ needed moves r
+  unfolding needed
+  needs_none w e = rw (unasked w e)
 
-  pub needs_some : {day far : ℕ} → tested (overlap_tests moves r) ≡ Passed → far ≡ enough_days moves r → day ≡ r.event - far → day < no_day → Needs moves r day
-  needs_some e f d h = record { some = λ a. (rw (← f) d, h); none = λ n. absurd (clash (asked e) n) }
+  pub needs_some : {day far : ℕ} → tested (overlap_tests moves r) ≡ Passed → far ≡ enough_days moves r → day ≡ r.event - far → Some day ≡ needed moves r
+  unfolding needed
+  needs_some e f d = rw (asked e) (ap Some (rw (← f) d))
 
   -- what is told of it, refused and not
   module _ (name : ℕ) (there : Bool) (before : ℕ) where
-    abbrev told : ℤ
-    told = by_name (row_after (overlap_tests moves r) (row_from 41 (numbers_of there before (enough_days moves r) r.event))) name
+    abbrev row : Option ℤ
+    row = by_name (row_after (overlap_tests moves r) (row_from 41 (numbers_of there before (enough_days moves r) r.event))) name
 
-    pub told_refused : (w : Refusal) {x : ℤ} → tested (overlap_tests moves r) ≡ Failed w → x ≡ by_name (refusal_row w) name → x ≡ told
+    pub told_refused : (w : Refusal) {x : Option ℤ} → tested (overlap_tests moves r) ≡ Failed w → x ≡ by_name (refusal_row w) name → x ≡ row
     told_refused w e h = rw (row_failed (overlap_tests moves r) w (row_from 41 (numbers_of there before (enough_days moves r) r.event)) e) h
 
-    pub told_numbers : {t : Bool} {b far : ℕ} {x : ℤ} → tested (overlap_tests moves r) ≡ Passed → t ≡ there → b ≡ before → far ≡ enough_days moves r
-        → x ≡ by_name (row_from 41 (numbers_of t b far r.event)) name → x ≡ told
+    pub told_numbers : {t : Bool} {b far : ℕ} {x : Option ℤ} → tested (overlap_tests moves r) ≡ Passed → t ≡ there → b ≡ before → far ≡ enough_days moves r
+        → x ≡ by_name (row_from 41 (numbers_of t b far r.event)) name → x ≡ row
     told_numbers e t b f h =
         rw (row_passed (overlap_tests moves r) (row_from 41 (numbers_of there before (enough_days moves r) r.event)) e) (rw (t, b, f) at h)
 
--- the event at a place of a file that is there
-module _ (file : List ℕ) (place : ℕ) {shape : Shape} (r : read_file file ≡ File shape) (h : place < shape.events) {found : EventAt} (f : found ≡ event_within shape file place) where
-  event_in : event_within shape file place ≡ Event (request_at file place)
-  event_in = within_is file place r ∙ rw (r, lt-ltb place shape.events h) refl
-
-  pub needs_there : (moves : List ℕ) (q : Request) {day : ℕ} → found ≡ Event q → Needs moves q day → Needs moves (request_at file place) day
-  needs_there moves q {day} e n = let same : q ≡ request_at file place = cc (event_in) in rw same at n
-
-  pub never_none : {X : Type 0} → found ≡ NoneThere → X
-  never_none e = let z : ◌≡◌ {A = ℕ} 0 1 = cc (event_in) in absurd (omega arith)
-
-  pub never_refused : {X : Type 0} (at : ℕ) → found ≡ RefusedEvent at → X
-  never_refused at e = let z : ◌≡◌ {A = ℕ} 0 1 = cc (event_in) in absurd (omega arith)
-
--- the day that is told of a file
-pub day_there : (d : ℕ) → d < no_day → to_z w64 d ≡ day_told d
-day_there d h = let low : d < 2 ^ 63 = omega arith in rw (lt-ltb d no_day h) (to_z_pos w64 d low)
-
-pub day_none : (d : ℕ) → no_day ≤ d → untold ≡ day_told d
-day_none d h = rw (le-ltb d no_day h)
-
-pub cut_is : (file : List ℕ) {shape : Shape} {moves : List ℕ} (day : ℕ) → read_file file ≡ File shape → moves ≡ list_in file
-    → day_told day ≡ least_told (needed_days moves (map (request_at file) (places shape.events 0))) → day_told day ≡ cut_from (read_file file) file
-cut_is file day r m e = rw (r, ← m) e
-
-pub cut_refused : (file : List ℕ) {at : ℕ} → read_file file ≡ Refused at → untold ≡ cut_from (read_file file) file
+pub cut_refused : (file : List ℕ) {at : ℕ} → read_file file ≡ Refused at → None ≡ cut_from (read_file file) file
 cut_refused file r = rw r
 
 -- what is told of the event at a place
-module _ (file : List ℕ) (place name : ℕ) {x : ℤ} where
+module _ (file : List ℕ) (place name : ℕ) {x : Option ℤ} where
   pub of_refused : {at : ℕ} → read_file file ≡ Refused at → x ≡ by_name (refusal_row (BadFile at)) name → x ≡ by_name (overlap_row file place) name
   unfolding overlap_row
   of_refused r e = rw r e

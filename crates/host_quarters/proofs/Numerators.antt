@@ -6,12 +6,13 @@ use mathlib.Core.Logic.{⊎_elim}
 use native.Mathlib.Omega.{arith}
 use borrow.Author.Tests.{lt-ltb, le-ltb, eq-eqb, ne_eqb}
 use lib.IntN.{pos, sub_ℕ, ◌+ℤ◌, ◌-ℤ◌}
+use Rattle.std.specs.Prelude.{Some, None}
 use Rattle.base_lists.proofs.Bools.{lt-or-le}
 use Rattle.method.specs.declared.Request.{Request}
 use Rattle.method.specs.Table.{Day, History}
 use Rattle.method.specs.Adjustment.{ruler, adjustment_end, A, B}
 use Rattle.engine_baseline.specs.Engine.{with_days}
-use Rattle.host_answer.specs.Names.{untold}
+use Rattle.host_answer.specs.Names.{told}
 use Rattle.host_quarters.specs.Steps.{numerator_of}
 
 -- a number more on the one side of a difference
@@ -44,16 +45,16 @@ module _ (r : Request) (h : History Day) (days : List ℕ) (count sum : ℕ) whe
   abbrev line : List ℕ
   line = ruler (h.day (r.event - 1)) (h.day r.event)
 
-  pub by_average : r.method ≡ 1 → pos sum ≡ numerator_of r h days count sum
+  pub by_average : r.method ≡ 1 → told sum ≡ numerator_of r h days count sum
   unfolding numerator_of
   by_average e = rw (eq-eqb r.method 1 e)
 
   module _ (high : r.method ≡ 1 → ⊥) {end : ℕ} (is : end ≡ adjustment_end r line) where
-    pub without_window : end ≡ 0 → untold ≡ numerator_of r h days count sum
+    pub without_window : end ≡ 0 → None ≡ numerator_of r h days count sum
     unfolding numerator_of
     without_window e = rw (ne_eqb r.method 1 high, ← is, eq-eqb end 0 e)
 
     pub with_window : (end ≡ 0 → ⊥) → {own usual : ℕ} → own ≡ A line end → usual ≡ B r.event (with_days h days) end
-        → pos (12 * sum + count * own) -ℤ pos usual ≡ numerator_of r h days count sum
+        → Some (pos (12 * sum + count * own) -ℤ pos usual) ≡ numerator_of r h days count sum
     unfolding numerator_of
-    with_window n {own} {usual} o u = rw (ne_eqb r.method 1 high, ← is, ne_eqb end 0 n, ← o, ← u) (sum_less (12 * sum) (count * own) usual)
+    with_window n {own} {usual} o u = rw (ne_eqb r.method 1 high, ← is, ne_eqb end 0 n, ← o, ← u) (ap Some (sum_less (12 * sum) (count * own) usual))

@@ -2,53 +2,47 @@
 // any quarter, any place of the row.
 #![tactic(auto)]
 
-ghost use Rattle.std.specs.Prelude.{◌≡◌, false, ◌≤◌, take};
+ghost use Rattle.std.specs.Prelude.{◌≡◌, ◌≤◌, ◌<◌, ◌^◌, take};
 ghost use Rattle.calendar_groups.specs.Holidays.{group as group_of};
 ghost use Rattle.engine_rooms.specs.Rooms.{room_history};
-ghost use Rattle.host_answer.specs.Names.{by_name};
+ghost use Rattle.host_answer.specs.Names.{told, by_name};
 ghost use Rattle.host_working.specs.Told.{adjustment_numbers, quarter_numbers};
 ghost use Rattle.host_quarters.specs.Steps.{Picks, numerator_of};
 
+use engine_answer::Chosen;
 use engine_choice::Choosing;
 use engine_rooms::Directory;
+use host_answer::told;
 use method::Request;
 
-// The days that are chosen, the first `count` of five, where any are.
-#[derive(Clone, Copy)]
-pub struct Picked {
-    pub chooses: bool,
-    pub days: [u32; 5],
-    pub count: u32,
-}
+// The places of the row of an adjustment window, and of that of a quarter.
+const END: u32 = 0;
 
-fn none_picked() -> Picked
-    ensures { result.chooses ≡ false }
+const OWN: u32 = 1;
+
+const USUAL: u32 = 2;
+
+const SUM: u32 = 0;
+
+const NUMERATOR: u32 = 1;
+
+// A sum that is told.
+fn told_sum(sum: u64) -> Option<i64>
+    requires { sum < 2 ^ 63 }
+    ensures { result ≡ told sum }
 {
-    Picked {
-        chooses: false,
-        days: [0; 5],
-        count: 0,
-    }
+    Some(sum as i64)
 }
 
-// Whether days are chosen, and which.
-fn pick(moves: &[u32], request: Request, rooms: Directory, readings: &[u32]) -> Picked
+// The days that are chosen, where any are.
+fn pick(moves: &[u32], request: Request, rooms: Directory, readings: &[u32]) -> Option<Chosen>
     ensures { Picks (group_of moves.now) request (room_history request rooms readings.now) result }
 {
     let choice = engine_choice::choose(moves, request, rooms, readings);
-    let choosing = choice.choosing;
-    match choosing {
-        Choosing::Short(_) => none_picked(),
-        Choosing::Few { size: _, reach: _ } => none_picked(),
-        Choosing::Days => {
-            let chosen = choice.chosen;
-            let days = chosen.days;
-            Picked {
-                chooses: true,
-                days,
-                count: chosen.count,
-            }
-        }
+    match choice.choosing {
+        Choosing::Short(_) => None,
+        Choosing::Few { size: _, reach: _ } => None,
+        Choosing::Days => Some(choice.chosen),
     }
 }
 
@@ -59,34 +53,25 @@ pub fn tell_adjustment(
     rooms: Directory,
     readings: &[u32],
     place: u32,
-) -> i64
+) -> Option<i64>
     ensures { result ≡ by_name (adjustment_numbers (group_of moves.now) request (room_history request rooms readings.now)) place }
 {
-    let picked = pick(moves, request, rooms, readings);
-    if picked.chooses {
-        if request.method == method::AVERAGE_X_OF_Y {
-            return host_answer::NOTHING;
+    let chosen = pick(moves, request, rooms, readings)?;
+    if request.method == method::AVERAGE_X_OF_Y {
+        return None;
+    }
+    let end = engine_quarters::adjustment_end(request, rooms, readings);
+    if end == 0 {
+        return None;
+    }
+    match place {
+        END => told(end),
+        OWN => told_sum(engine_quarters::own_sum(request, rooms, readings, end)),
+        USUAL => {
+            let days = chosen.days;
+            told_sum(engine_quarters::usual_sum(request, rooms, readings, days, chosen.count, end))
         }
-        let end = engine_quarters::adjustment_end(request, rooms, readings);
-        if end == 0 {
-            return host_answer::NOTHING;
-        }
-        let days = picked.days;
-        match place {
-            0 => end as i64,
-            1 => engine_quarters::own_sum(request, rooms, readings, end) as i64,
-            2 => engine_quarters::usual_sum(
-                request,
-                rooms,
-                readings,
-                days,
-                picked.count,
-                end,
-            ) as i64,
-            _ => host_answer::NOTHING,
-        }
-    } else {
-        host_answer::NOTHING
+        _ => None,
     }
 }
 
@@ -95,23 +80,23 @@ fn tell_numerator(
     request: Request,
     rooms: Directory,
     readings: &[u32],
-    days: [u32; 5],
-    count: u32,
+    chosen: Chosen,
     sum: u64,
-) -> i64
-    requires { (count ≤ 5) × (sum ≤ 21474836475) }
-    ensures { result ≡ numerator_of request (room_history request rooms readings.now) (take count days) count sum }
+) -> Option<i64>
+    requires { (chosen.count ≤ 5) × (sum ≤ 21474836475) }
+    ensures { result ≡ numerator_of request (room_history request rooms readings.now) (take chosen.count chosen.days) chosen.count sum }
 {
     if request.method == method::AVERAGE_X_OF_Y {
-        return sum as i64;
+        return told_sum(sum);
     }
     let end = engine_quarters::adjustment_end(request, rooms, readings);
     if end == 0 {
-        return host_answer::NOTHING;
+        return None;
     }
+    let days = chosen.days;
     let own = engine_quarters::own_sum(request, rooms, readings, end);
-    let usual = engine_quarters::usual_sum(request, rooms, readings, days, count, end);
-    (12 * sum + (count as u64) * own) as i64 - usual as i64
+    let usual = engine_quarters::usual_sum(request, rooms, readings, days, chosen.count, end);
+    Some((12 * sum + (chosen.count as u64) * own) as i64 - usual as i64)
 }
 
 // Of a ruler quarter: S(t), and of an event's quarter the numerator before the floor.
@@ -122,22 +107,23 @@ pub fn tell_quarter(
     readings: &[u32],
     t: u32,
     place: u32,
-) -> i64
+) -> Option<i64>
     ensures { result ≡ by_name (quarter_numbers (group_of moves.now) request (room_history request rooms readings.now) t) place }
 {
-    let picked = pick(moves, request, rooms, readings);
-    if picked.chooses {
-        let days = picked.days;
-        let sum = engine_quarters::quarter_sum(request, rooms, readings, days, picked.count, t);
-        if place == 0 {
-            if t < day_ruler::end(request.event) {
-                return sum as i64;
-            }
-            return host_answer::NOTHING;
-        }
-        if (place == 1) & ((request.s <= t) & (t < request.e)) {
-            return tell_numerator(request, rooms, readings, days, picked.count, sum);
-        }
+    let chosen = pick(moves, request, rooms, readings)?;
+    let days = chosen.days;
+    let sum = engine_quarters::quarter_sum(request, rooms, readings, days, chosen.count, t);
+    match place {
+        SUM => if t < day_ruler::end(request.event) {
+            told_sum(sum)
+        } else {
+            None
+        },
+        NUMERATOR => if request.s <= t && t < request.e {
+            tell_numerator(request, rooms, readings, chosen, sum)
+        } else {
+            None
+        },
+        _ => None,
     }
-    host_answer::NOTHING
 }

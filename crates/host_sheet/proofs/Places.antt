@@ -3,6 +3,7 @@ use Prim.Native.Nat.{ℕ}
 use mathlib.Core.Path.{◌≡◌, sym, ap, ◌∙◌}
 use mathlib.Core.List.{List}
 use lib.IntN.{ℤ}
+use Rattle.std.specs.Prelude.{Option}
 use Rattle.file_record.specs.declared.Read.{Read}
 use Rattle.file_record.specs.declared.Read.TheVariants.{File, Refused}
 use Rattle.file_record.specs.declared.EventAt.{EventAt}
@@ -14,7 +15,7 @@ use Rattle.file_record.proofs.Events.{within_is}
 use Rattle.host_answer.specs.Names.{by_name}
 use Rattle.host_sheet.specs.Sheets.{sheet_at, file_sheet}
 
-module _ (file : List ℕ) (place at name : ℕ) {x : ℤ} where
+module _ (file : List ℕ) (place at name : ℕ) {x : Option ℤ} where
   found : {found : EventAt} → event_at_place (read_file file) file place ≡ found → x ≡ by_name (sheet_at found (list_in file) (table_in file) at) name
       → x ≡ by_name (file_sheet file place at) name
   unfolding file_sheet

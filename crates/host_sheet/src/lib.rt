@@ -10,10 +10,11 @@ ghost use Rattle.host_sheet.specs.Sheets.{file_sheet};
 
 use calendar_groups::MOST_MOVES;
 use file_record::{EventAt, Read, Shape, Span};
+use host_answer::tell_refusal;
 use method::{QUARTERS, Refusal, Request};
 
 // Of an event over a file of this shape, of which the moves and the whole table are loaded.
-fn tell_event(file: &[u8], shape: Shape, request: Request, at: u32, name: u32) -> i64
+fn tell_event(file: &[u8], shape: Shape, request: Request, at: u32, name: u32) -> Option<i64>
     requires { read_file file.now ≡ File shape }
     ensures { result ≡ by_name (table_sheet (list_in file.now) (table_in file.now) request at) name }
 {
@@ -41,14 +42,14 @@ fn tell_event(file: &[u8], shape: Shape, request: Request, at: u32, name: u32) -
 }
 
 // The number of a name, of the event at a place of the file, counted from 0.
-pub fn tell_sheet(file: &[u8], place: usize, at: u32, name: u32) -> i64
+pub fn tell_sheet(file: &[u8], place: usize, at: u32, name: u32) -> Option<i64>
     ensures { result ≡ by_name (file_sheet file.now place at) name }
 {
     match file_reading::read_file(file) {
-        Read::Refused(start) => host_answer::tell_refusal(Refusal::BadFile(start), name),
+        Read::Refused(start) => tell_refusal(Refusal::BadFile(start), name),
         Read::File(shape) => match file_events::event_within(file, shape, place) {
-            EventAt::Refused(start) => host_answer::tell_refusal(Refusal::BadFile(start), name),
-            EventAt::NoEvent => host_answer::tell_refusal(Refusal::NoEvent, name),
+            EventAt::Refused(start) => tell_refusal(Refusal::BadFile(start), name),
+            EventAt::NoEvent => tell_refusal(Refusal::NoEvent, name),
             EventAt::Event(request) => tell_event(file, shape, request, at, name),
         },
     }

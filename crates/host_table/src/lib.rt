@@ -10,9 +10,11 @@ ghost use Rattle.host_answer.specs.Names.{by_name};
 ghost use Rattle.host_table.specs.OverTable.{table_sheet};
 
 use engine_refusals::Tested;
+use host_answer::tell_refusal;
 use method::{QUARTERS, Refusal, Request};
 
 // Refusals 1 to 3 do not apply: 14 and 4 to 7, or the working over the table's rooms.
+#[tactic(auto, using(crate::proofs::Tests::list_told))]
 fn tell_extract(
     first: u32,
     marks: &[u8],
@@ -21,22 +23,22 @@ fn tell_extract(
     request: Request,
     at: u32,
     name: u32,
-) -> i64
+) -> Option<i64>
     requires { tested (table_refusals (table_of first marks.now readings.now)) ≡ Passed }
     ensures { result ≡ by_name (table_sheet moves.now (table_of first marks.now readings.now) request at) name }
 {
-    if calendar_groups::is_good_list(moves) {
-        let rooms = table_directory::directory(first, marks, request.event);
-        match engine_refusals::of_request(request, rooms, QUARTERS) {
-            Tested::Failed(refusal) => host_answer::tell_refusal(refusal, name),
-            Tested::Passed => host_rooms::tell_working(moves, request, rooms, readings, at, name),
-        }
-    } else {
-        host_answer::tell_refusal(Refusal::BadMoves, name)
+    if !calendar_groups::is_good_list(moves) {
+        return tell_refusal(Refusal::BadMoves, name);
+    }
+    let rooms = table_directory::directory(first, marks, request.event);
+    match engine_refusals::of_request(request, rooms, QUARTERS) {
+        Tested::Failed(refusal) => tell_refusal(refusal, name),
+        Tested::Passed => host_rooms::tell_working(moves, request, rooms, readings, at, name),
     }
 }
 
 // The number of a name: of the first refusal that applies, or of the working.
+#[tactic(auto, using(crate::proofs::Tests::table_told))]
 pub fn tell_table(
     first: u32,
     marks: &[u8],
@@ -45,11 +47,11 @@ pub fn tell_table(
     request: Request,
     at: u32,
     name: u32,
-) -> i64
+) -> Option<i64>
     ensures { result ≡ by_name (table_sheet moves.now (table_of first marks.now readings.now) request at) name }
 {
     match table_refusals::of_table(first, marks, readings) {
-        Tested::Failed(refusal) => host_answer::tell_refusal(refusal, name),
+        Tested::Failed(refusal) => tell_refusal(refusal, name),
         Tested::Passed => tell_extract(first, marks, readings, moves, request, at, name),
     }
 }

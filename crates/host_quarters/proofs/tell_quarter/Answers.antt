@@ -1,50 +1,45 @@
 -- `host_quarters::tell_quarter` meets its contract, way by way.
-use Prim.Native.Nat.{◌<◌, ◌^◌}
-use mathlib.Core.Path.{sym, ◌∙◌}
+use mathlib.Core.Path.{◌∙◌}
 use native.Mathlib.Omega.{arith}
-use lib.ListN.{take}
-use mir.Syntax.{w64}
-use mir.ValLaws.{to_z_pos}
+use Rattle.std.proofs.Common.{rules}
 use Rattle.calendar_groups.specs.Holidays.{group}
 use Rattle.engine_rooms.specs.Rooms.{room_history}
 use Rattle.engine_choice.proofs.Requested.{chosen_five}
-use Rattle.host_answer.proofs.Telling.{back}
-use Rattle.host_quarters.proofs.Ways.{quarter_none, sum_told, past_ruler, numerator_told, outside_event}
+use Rattle.host_quarters.proofs.Picking.{some_picked, none_picked}
+use Rattle.host_quarters.proofs.Ways.{quarter_none, sum_told, past_ruler, numerator_told, outside_event, past_quarter}
 use Rattle.host_quarters.proofs.tell_quarter.Goals as goal
+use Rattle.host_quarters.proofs.tell_quarter.Goals.{else-request-t-via-then-request-t+else-t-request, else-request-t-via-else-request-t}
+
+pub returns-in_err-chosen : goal.returns-in_err-chosen
+returns-in_err-chosen c = c.from_residual.ensures ∙ quarter_none _ _ _ (none_picked c.pick.ensures c.in_err-chosen.was) c.args.t c.args.place
 
 pub returns-then-t-end : goal.returns-then-t-end
 returns-then-t-end c =
-    let a = c.args in
-    let small : c.quarter_sum-sum.result < 2 ^ 63 = omega (arith, c.quarter_sum-sum.ensures.1) in
-    to_z_pos w64 c.quarter_sum-sum.result small
-    ∙ sum_told (group a.moves.now) a.request (room_history a.request a.rooms a.readings.now) (sym c.pick-picked.ensures.some ∙ c.if-picked.true) a.t c.if-place-eq0.true c.end.ensures c.if-t-end.true c.quarter_sum-sum.ensures.0
-    (c.pick-picked.ensures.days c.if-picked.true)
+    c.told_sum.ensures
+    ∙ sum_told _ _ _ (some_picked c.pick.ensures c.in_ok-chosen.was) c.args.t c.in-0.is c.end.ensures c.if-t-end.true c.quarter_sum-sum.ensures.0
+    (c.pick.ensures.days _ c.in_ok-chosen.was)
 
-pub returns-then-place-eq0 : goal.returns-then-place-eq0
-returns-then-place-eq0 c =
-    let a = c.args in
-    past_ruler (group a.moves.now) a.request (room_history a.request a.rooms a.readings.now) (sym c.pick-picked.ensures.some ∙ c.if-picked.true) a.t c.if-place-eq0.true c.end.ensures c.if-t-end.false
+pub returns-else-t-end : goal.returns-else-t-end
+returns-else-t-end c =
+    past_ruler _ _ _ (some_picked c.pick.ensures c.in_ok-chosen.was) c.args.t c.in-0.is c.end.ensures c.if-t-end.false
 
 pub tell_numerator-requires : goal.tell_numerator-requires
 tell_numerator-requires c =
-    let a = c.args in (
-      omega (arith, c.pick-picked.ensures.count c.if-picked.true, chosen_five (group a.moves.now) a.request (room_history a.request a.rooms a.readings.now)),
-      c.quarter_sum-sum.ensures.1,
-    )
+    (omega (arith, c.pick.ensures.count _ c.in_ok-chosen.was, chosen_five (group c.args.moves.now) c.args.request (room_history c.args.request c.args.rooms c.args.readings.now)), c.quarter_sum-sum.ensures.1)
 
-pub returns-then-place-request : goal.returns-then-place-request
-returns-then-place-request c =
-    let a = c.args in
-    back c.tell_numerator.result c.tell_numerator.type_inv c.tell_numerator.ensures
-    ∙ numerator_told (group a.moves.now) a.request (room_history a.request a.rooms a.readings.now) (sym c.pick-picked.ensures.some ∙ c.if-picked.true) a.t (take c.pick-picked.result.count c.pick-picked.result.days) c.quarter_sum-sum.ensures.0
-    (c.pick-picked.ensures.days c.if-picked.true) (c.pick-picked.ensures.count c.if-picked.true) a.place c.if-place-request.true
+pub returns-then-t-request : goal.returns-then-t-request
+returns-then-t-request c =
+    c.tell_numerator.ensures
+    ∙ numerator_told _ _ _ (some_picked c.pick.ensures c.in_ok-chosen.was) c.args.t _ c.quarter_sum-sum.ensures.0 (c.pick.ensures.days _ c.in_ok-chosen.was)
+    (c.pick.ensures.count _ c.in_ok-chosen.was) c.in-1.is c.if-request-t.true c.if-t-request.true
 
-pub returns-else-place-request : goal.returns-else-place-request
-returns-else-place-request c =
-    let a = c.args in
-    outside_event (group a.moves.now) a.request (room_history a.request a.rooms a.readings.now) (sym c.pick-picked.ensures.some ∙ c.if-picked.true) a.t c.if-place-eq0.false c.if-place-request.false
+pub returns-else-request-t : goal.returns-else-request-t
+returns-else-request-t c =
+    let nothing = outside_event _ _ _ (some_picked c.pick.ensures c.in_ok-chosen.was) c.args.t c.in-1.is in
+    elim c.else-request-t.branch [
+      | else-request-t-via-then-request-t+else-t-request w ↦ nothing (λ s. w.if-t-request.false)
+      | else-request-t-via-else-request-t w ↦ nothing (λ s. absurd (omega (arith, w.if-request-t.false)))
+    ]
 
-pub returns-else-picked : goal.returns-else-picked
-returns-else-picked c =
-    let a = c.args in
-    quarter_none (group a.moves.now) a.request (room_history a.request a.rooms a.readings.now) (sym c.pick-picked.ensures.some ∙ c.if-picked.false) a.t a.place
+pub returns-in_default : goal.returns-in_default
+returns-in_default c = past_quarter _ _ _ (some_picked c.pick.ensures c.in_ok-chosen.was) _ c.args.place (λ e. search rules) (λ e. search rules)

@@ -11,7 +11,6 @@ use Rattle.file_loading.proofs.Loading.{place_whole, fits_own}
 use Rattle.file_loading.proofs.Buffers.{WithinBuffers, within_buffers}
 use Rattle.file_moves.proofs.Moves.{list_few, list_first}
 use Rattle.listing_whole.proofs.Holding.{holds, table_in_lem}
-use Rattle.host_answer.proofs.Telling.{back}
 use Rattle.host_sheet.proofs.tell_event.Goals as goal
 
 pub slice_bounds-marks-end : goal.slice_bounds-marks-end
@@ -64,4 +63,4 @@ returns c =
     (omega (arith, count, offset_most a.shape.first a.shape.days 128 few)) in
     within_buffers a.shape all a.file.now _ _ c.load_within.ensures.held_marks c.load_within.ensures.held_readings (c.load_within.ensures.said ∙ fits) (c.offset-count.ensures ∙ sym count)) in
     let q = holds c.requires (its) (list_first c.args.file.now c.requires _ (omega arith) c.load_list.ensures.said c.load_list.ensures.held) in
-    rw (table_in_lem q, q.its_moves) at (back c.tell_table.result c.tell_table.type_inv c.tell_table.ensures)
+    rw (table_in_lem q, q.its_moves) at c.tell_table.ensures
