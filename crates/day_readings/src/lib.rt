@@ -20,14 +20,14 @@ fn joined(block: &[u32], more: u32) -> u32
     ensures { Joined block.now more result }
 {
     let mut bits = 0;
-    for i in 0..block.len() {
-        bits = bits | std::num::wrapping_add_u32(block[i], more);
+    for &reading in block {
+        bits |= reading.wrapping_add(more);
     }
     bits
 }
 
 // Whether no reading is missing. Where the bits put together are not all set none is; else each reading is asked, without a branch in the loop, so
-// that it takes several at a time.
+// that it takes several at a time; by its place, where the edit `complete_skips_first` begins one late.
 pub fn complete(day: &[u32]) -> bool
     ensures { result ≡ all present day.now }
 {
@@ -48,15 +48,7 @@ fn block_is_good(block: &[u32], more: u32) -> bool
     ensures { result ≡ true → all good_reading block.now ≡ true }
 {
     let bits = joined(block, more);
-    if bits <= 10000000 + more {
-        true
-    } else {
-        if bits < 16777216 {
-            joined(block, 6777215) < 16777216
-        } else {
-            false
-        }
-    }
+    bits <= 10000000 + more || (bits < 16777216 && joined(block, 6777215) < 16777216)
 }
 
 // A place that only good readings stand before: from such a place on it passes over blocks of a day's length that are known to be good.
@@ -65,13 +57,11 @@ fn good_blocks(readings: &[u32], start: usize, more: u32) -> usize
     ensures { GoodBefore readings.now result }
 {
     let mut at = start;
-    while QUARTERS <= readings.len() - at {
-        let end = at + QUARTERS;
-        if block_is_good(&readings[at..end], more) {
-            at = end;
-        } else {
+    while let Some(block) = readings.get(at..at + QUARTERS) {
+        if !block_is_good(block, more) {
             return at;
         }
+        at += QUARTERS;
     }
     at
 }
@@ -82,13 +72,8 @@ pub fn first_bad_reading(readings: &[u32]) -> usize
     ensures { result ≡ leading good_reading readings.now }
 {
     let none_missing = good_blocks(readings, 0, 0);
-    let mut i = good_blocks(readings, none_missing, 1);
-    while i < readings.len() {
-        if is_good(readings[i]) {
-            i += 1;
-        } else {
-            return i;
-        }
-    }
-    i
+    let start = good_blocks(readings, none_missing, 1);
+    let rest = &readings[start..];
+    let bad = rest.iter().position(|&reading| !is_good(reading));
+    start + bad.unwrap_or(rest.len())
 }
