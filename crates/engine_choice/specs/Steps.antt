@@ -8,7 +8,7 @@ use Rattle.method.specs.Method.{days_of, Method, whole_reach, window, chosen, re
 use Rattle.engine_ranking.specs.Steps.{insert_all}
 use Rattle.engine_rules.specs.declared.Rules.{Rules as Numbers}
 use Rattle.engine_look_back.specs.declared.Found.{Found}
-use Rattle.engine_choice.specs.declared.Row.{Row}
+use Rattle.engine_ranking.specs.declared.Ranking.{Ranking}
 use Rattle.engine_answer.specs.declared.Chosen.{Chosen}
 use Rattle.engine_answer.specs.Answer.{in_five}
 
@@ -37,18 +37,18 @@ picked event numbers row size reach =
 
 -- how many spare days fill a shortage
 abbrev pub fillers : Numbers → Found → ℕ
-fillers numbers found = min (numbers.fill - found.count) found.spares
+fillers numbers found = min (numbers.fill - found.eligible.count) found.spare.count
 
 -- the eligible days found, with the spare days that fill a shortage
-abbrev pub filled_of : Numbers → Found → Row
+abbrev pub filled_of : Numbers → Found → Ranking
 filled_of numbers found =
     record {
-      row = insert_all (take (fillers numbers found) found.spare) found.eligible;
-      size = found.count + fillers numbers found;
+      words = insert_all (take (fillers numbers found) found.spare.words) found.eligible.words;
+      count = found.eligible.count + fillers numbers found;
     }
 
 -- the choice where the eligible days do not fill the window
 unfoldable pub among_few : Request → Numbers → Found → ℕ → ℕ → Result Chosen Refusal
 among_few r numbers found before reach =
     cond (ltb before reach) (Err (MarginTooShort reach))
-    (picked r.event numbers (filled_of numbers found).row (filled_of numbers found).size reach)
+    (picked r.event numbers (filled_of numbers found).words (filled_of numbers found).count reach)

@@ -14,16 +14,10 @@ ghost use Rattle.engine_choice.specs.Steps.{choice_of, word_day, picked, filled_
 use calendar_groups::Group;
 use engine_answer::Chosen;
 use engine_look_back::Found;
+use engine_ranking::Ranking;
 use engine_rooms::Directory;
 use engine_rules::Rules;
 use method::{Refusal, Request};
-
-// The row of a window with its spare days, and how many days they are.
-#[derive(Clone, Copy, Debug, PartialEq, Eq)]
-pub struct Row {
-    pub row: [u64; 10],
-    pub size: u32,
-}
 
 // The day of a word.
 pub fn day_of(event: u32, word: u64) -> u32
@@ -64,14 +58,13 @@ fn pick(event: u32, rules: Rules, row: [u64; 10], size: u32, reach: u32) -> Resu
 }
 
 // The eligible days found, with the spare days that fill a shortage.
-pub fn filled(rules: Rules, found: Found) -> Row
+pub fn filled(rules: Rules, found: Found) -> Ranking
     ensures { result ≡ filled_of rules found }
 {
-    let fillers = rules.fill.saturating_sub(found.count).min(found.spares);
-    Row {
-        row: engine_ranking::insert_all(found.spare, fillers as usize, found.eligible),
-        size: found.count + fillers,
-    }
+    let fillers = rules.fill.saturating_sub(found.eligible.count).min(found.spare.count);
+    let mut window = found.eligible;
+    window.insert_all(&found.spare, fillers as usize);
+    window
 }
 
 // The choice where the eligible days do not fill the window: spare days are put in, and the reach is that of all relevant days.
@@ -83,7 +76,7 @@ fn choose_among_few(
     found: Found,
     before: u32,
 ) -> Result<Chosen, Refusal>
-    requires { Sound rules × (found.count < rules.most) }
+    requires { Sound rules × (found.eligible.count < rules.most) }
     ensures { result ≡ among_few request rules found before (whole_reach (method_of (group_of moves.now) request)) }
 {
     let reach = engine_relevant::whole_reach(moves, request);
@@ -91,7 +84,7 @@ fn choose_among_few(
         return Err(Refusal::MarginTooShort(reach));
     }
     let window = filled(rules, found);
-    pick(request.event, rules, window.row, window.size, reach)
+    pick(request.event, rules, window.words, window.count, reach)
 }
 
 // The choice of days: refusal 8 or 9, or the chosen days and the reach.
@@ -116,9 +109,9 @@ pub fn choose(
         rooms,
         readings,
     );
-    if found.count < rules.most {
+    if found.eligible.count < rules.most {
         choose_among_few(moves, request, rules, found, before)
     } else {
-        pick(event, rules, found.eligible, rules.most, found.oldest)
+        pick(event, rules, found.eligible.words, rules.most, found.oldest)
     }
 }

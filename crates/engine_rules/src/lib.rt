@@ -6,7 +6,7 @@ ghost use Rattle.method.specs.AverageXofY.{seven_days};
 ghost use Rattle.engine_rules.specs.Steps.{first_ranks, middle_ranks, in_high, in_average, in_numbers};
 
 use calendar_groups::Group;
-use method::Request;
+use method::{Method, Request};
 
 // The order in which spare days fill a shortage: the highest first, or the latest.
 #[derive(Clone, Copy, Debug, PartialEq, Eq)]
@@ -86,12 +86,12 @@ fn average_x_of_y(request: Request, group: Group) -> Rules
 }
 
 // The rules of a request on a day of this group.
+#[tactic(auto, using(method::proofs::Asked::asked_average, method::proofs::Asked::asked_high), unfolding(crate::specs::Steps::in_numbers))]
 pub fn rules_of(request: Request, group: Group) -> Rules
     ensures { result ≡ in_numbers group request }
 {
-    if request.method == method::AVERAGE_X_OF_Y {
-        average_x_of_y(request, group)
-    } else {
-        high_x_of_y(group)
+    match request.method() {
+        Method::HighXOfY => high_x_of_y(group),
+        Method::AverageXOfY => average_x_of_y(request, group),
     }
 }

@@ -34,10 +34,10 @@ shown s i =
 module _ (group : ℕ → Group) (r : Request) (rooms : Directory) (readings : List ℕ) {g : Group} {numbers : Numbers} (found : Found)
     (own : g ≡ group r.event) (f : Follows r (rules_of g r) numbers)
     (q : Looked r numbers.spares (up_to numbers.most (held_days group g r rooms readings)) found) where
-  pub shown_full : numbers.most ≤ found.count
-      → row_window r.event numbers found.eligible numbers.most false ≡ window_of (method_of group r) (room_history r rooms readings)
+  pub shown_full : numbers.most ≤ found.eligible.count
+      → row_window r.event numbers found.eligible.words numbers.most false ≡ window_of (method_of group r) (room_history r rooms readings)
   shown_full full = shown (request_shows_full group r rooms readings found own f q full)
 
-  pub shown_few : {before : ℕ} → before ≡ rooms.held - 1 → found.count < numbers.most
+  pub shown_few : {before : ℕ} → before ≡ rooms.held - 1 → found.eligible.count < numbers.most
       → few_window r numbers found before (whole_reach (method_of group r)) ≡ window_of (method_of group r) (room_history r rooms readings)
   shown_few held less = shown (request_shows_few group r rooms readings found own f q held less)
