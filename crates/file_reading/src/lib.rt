@@ -24,13 +24,13 @@ fn day_length(day: u32) -> usize
 }
 
 // Whether a record of `size` bytes stands at a place, whole and with its mark.
-#[tactic(auto, unfolding(file_record::specs::Reader::is_record, file_record::specs::Reader::opens_with))]
+#[tactic(auto, unfolding(file_record::specs::Reader::is_record))]
 fn is_record(file: &[u8], at: usize, size: usize, mark: &[u8; 2]) -> bool
     requires { (2 ≤ size) × (at + size < 2 ^ 40) }
     ensures value { result ≡ is_record size mark.now (drop at file.now) }
     ensures whole { IsTrue result → at + size ≤ length file.now }
 {
-    at + size <= file.len() && (file[at] == mark[0]) & (file[at + 1] == mark[1])
+    at + size <= file.len() && LittleEndian::read_u16(&file[at..]) == u16::from_le_bytes(*mark)
 }
 
 // Whether an MV stands at a place.

@@ -2,6 +2,7 @@
 #![tactic(auto)]
 
 ghost use Rattle.std.specs.Prelude.{◌≡◌, ◌<◌};
+ghost use Rattle.std.specs.List.{list_all};
 ghost use Rattle.base_lists.specs.Lists.{all};
 ghost use Rattle.file_record.specs.Layout.{fits_day, fits_event};
 ghost use Rattle.file_record.specs.Writer.{events_of, matching, days_in_bounds, few_of, sayable};
@@ -53,7 +54,7 @@ fn all_fit(events: &[u32]) -> bool
 
 // Whether every day of a list of moves fits its bytes.
 fn moves_fit(moves: &[u32]) -> bool
-    ensures { result ≡ all fits_day moves.now }
+    ensures { result ≡ list_all fits_day moves.now }
 {
     moves.iter().all(|&day| day < TWO_BYTES)
 }
@@ -81,7 +82,7 @@ fn in_bounds(participation: u32, first: u32, days: usize) -> bool
 }
 
 // Whether refusal 13 lets P, so many days from the first on, these moves and these events pass.
-#[tactic(auto, unfolding(file_record::specs::Writer::sayable))]
+#[tactic(auto, using(crate::proofs::Tests::all_is), unfolding(file_record::specs::Writer::sayable))]
 pub fn is_sayable(
     participation: u32,
     first: u32,
