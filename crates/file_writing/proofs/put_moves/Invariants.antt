@@ -9,6 +9,3 @@ use Rattle.file_writing.proofs.put_moves.Given as goal
 
 abbrev pub invariant-loop-i : goal.invariant-loop-i
 invariant-loop-i l = (l.i ≤ length l.moves / 2) × Filling l.initial.out (mv_records l.moves) l.out (moves_left l.moves l.i) (mv_length * l.i)
-
-abbrev pub decreases-loop-i : goal.decreases-loop-i
-decreases-loop-i l = length l.moves / 2 - l.i
