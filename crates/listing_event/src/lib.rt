@@ -9,22 +9,21 @@ ghost use Rattle.listing_lines.specs.WriteSteps.{Writes, PutsWithin};
 ghost use Rattle.listing_event.specs.Steps.{answer_lines};
 ghost use Rattle.listing_event.specs.Room.{lines_room};
 
-use engine_answer::{Answer, Given};
+use engine_answer::Answer;
 use method::Request;
 
 // The room that the lines are given: those of any event fit.
-const ROOM: usize = listing_event_line::EVENT_ROOM + listing_quarter_lines::QUARTERS_ROOM;
+pub const LINES_ROOM: usize = listing_event_line::EVENT_ROOM + listing_quarter_lines::QUARTERS_ROOM;
 
 // The lines of an answer, with the numerators of the event's quarters.
 fn put_answer(out: &mut [u8], request: Request, answer: Answer, numerators: &[u32]) -> usize
     requires { lines_room ≤ length out.old }
     ensures { Writes out.old 0 (lines_text (answer_lines request answer numerators.now)) result out.new × (result ≤ lines_room) }
 {
-    let chosen = answer.chosen;
     let next = listing_event_line::put_event_line(
         out,
         request,
-        chosen,
+        answer.chosen,
         answer.denominator,
         answer.adjustment,
     );
@@ -42,14 +41,12 @@ pub fn event(
 ) -> usize
     ensures { PutsWithin lines_room out.old 0 (event_text moves.now (table_of first marks.now readings.now) request) result out.new }
 {
-    if out.len() < ROOM {
+    if out.len() < LINES_ROOM {
         return 0;
     }
     let mut numerators = [0u32; method::QUARTERS];
-    let answer = table_baseline::baseline(first, marks, readings, moves, request, &mut numerators);
-    let given = answer.given;
-    match given {
-        Given::Refused(refusal) => listing_event_line::put_refusal(out, request, refusal),
-        Given::Answered => put_answer(out, request, answer, &numerators),
+    match table_baseline::baseline(first, marks, readings, moves, request, &mut numerators) {
+        Ok(answer) => put_answer(out, request, answer, &numerators),
+        Err(refusal) => listing_event_line::put_refusal(out, request, refusal),
     }
 }
