@@ -27,10 +27,9 @@ fn adjusted(
     let event = request.event;
     let yesterday = engine_rooms::readings_at(readings, rooms.at[1], day_ruler::size(event - 1));
     let today = engine_rooms::readings_at(readings, rooms.at[0], day_ruler::size(event));
-    let end = engine_adjustment::adjustment_end(request, yesterday, today);
-    if end == 0 {
+    let Some(end) = engine_adjustment::adjustment_end(request, yesterday, today) else {
         return Err(Refusal::NoAdjustmentWindow(chosen.reach));
-    }
+    };
     let places = engine_places::placed(request, rooms, chosen.days, chosen.count, end);
     let length = (request.e - request.s) as usize;
     let part = &mut out[..length];
@@ -57,8 +56,7 @@ fn average(
     let part = &mut out[..(request.e - request.s) as usize];
     engine_sums::sum_days(
         readings,
-        places.at,
-        places.count as usize,
+        places.starts(),
         places.quarters,
         places.start as usize,
         part,

@@ -15,4 +15,4 @@ returns c =
     let a = c.args in
     let room = length a.out.now in
     averages a.request a.rooms a.readings.now room a.chosen c.requires.0 c.requires.1 c.placed-places.ensures a.out.now
-    (room_long a.request a.rooms a.readings.now room a.chosen c.requires.0 a.out.now refl) c.sum_days.ensures refl
+    (room_long a.request a.rooms a.readings.now room a.chosen c.requires.0 a.out.now refl) (rw c.starts.ensures.list at c.sum_days.ensures) refl
