@@ -7,7 +7,7 @@ ghost use Rattle.engine_adjustment.specs.Steps.{RunBefore, found};
 
 use method::{MISSING, Request};
 
-// The reading at a place of the two-day ruler; 0 past its end.
+// The reading at a place of the two-day ruler; 0 past its end, as the definition has it.
 fn reading_at(place: u32, yesterday: &[u32], today: &[u32]) -> u32
     ensures { result ≡ slice_index (yesterday.now ++ today.now) place }
 {

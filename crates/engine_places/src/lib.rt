@@ -28,7 +28,7 @@ impl Places {
     }
 }
 
-// Where the readings of the day so many days before the event start; 0 past the directory.
+// Where the readings of the day so many days before the event start; 0 past the directory, as the definition has it.
 pub fn start_of(starts: &[u32], back: u32) -> u32
     ensures { result ≡ get_or starts.now back 0 }
 {

@@ -23,7 +23,7 @@ fn part_of<'a>(request: Request, rooms: Directory, readings: &'a [u32], day: u32
     engine_rooms::readings_at(readings, at, size)
 }
 
-// The reading of a day that stands against a ruler quarter.
+// The reading of a day that stands against a ruler quarter; 0 where there is none, as the definition has it.
 fn reading_of(request: Request, rooms: Directory, readings: &[u32], day: u32, t: u32) -> u32
     ensures { result ≡ get_or ((room_history request rooms readings.now).day day).readings (against request.event t) 0 }
 {
@@ -33,6 +33,7 @@ fn reading_of(request: Request, rooms: Directory, readings: &[u32], day: u32, t:
 }
 
 // S(t) of a ruler quarter: the sum, over the chosen days, of the reading that stands against it. Of more than five days it is of five.
+// An array and not a slice: what the contract says of its size rests on five.
 pub fn quarter_sum(
     request: Request,
     rooms: Directory,

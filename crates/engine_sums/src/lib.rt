@@ -6,7 +6,7 @@ ghost use Rattle.std.specs.Prelude.{◌≡◌, ◌+◌, ◌%◌, ◌^◌, map, l
 ghost use Rattle.base_lists.specs.Lists.{places};
 ghost use Rattle.engine_sums.specs.QuarterSteps.{quarter_sum};
 
-// The readings of a part are added to the sums, quarter by quarter.
+// The readings of a part are added to the sums, quarter by quarter. By index: of a zip over the sums nothing is known of what was written.
 fn add_part(sums: &mut [u32], part: &[u32])
     requires { length part.now ≡ length sums.old }
     ensures { sums.new ≡ map (λ q. (slice_index sums.old q + slice_index part.now q) % 2 ^ 32) (places (length sums.old) 0) }
