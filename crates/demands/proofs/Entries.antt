@@ -8,6 +8,7 @@ use lib.ListN.{length, replicate}
 use lib.Dec.{ltb, eqb}
 use lib.IntN.{ℤ, pos}
 use borrow.Author.Tests.{eq-eqb}
+use Rattle.std.specs.Prelude.{Result}
 use Rattle.base_lists.specs.Lists.{all}
 use Rattle.base_lists.proofs.Unique.{unique}
 use Rattle.calendar_groups.specs.Holidays.{group}
@@ -158,7 +159,7 @@ module _ (c : Call) where
       record {
         same = λ a out after d differs.
             let is = gets_answer c a out after (reply_of c out) d.first.one in
-            e ∙ ap (λ (x : Answer). or_nothing (told_by x name)) (sym (is ∙ ap answer_of (same_reply out (λ k. differs (ap result is ∙ result_is (reply_of c out) ∙ k)))));
+            e ∙ ap (λ (x : Result Answer Refusal). or_nothing (told_by x name)) (sym (is ∙ ap answer_of (same_reply out (λ k. differs (ap result is ∙ result_is (reply_of c out) ∙ k)))));
         never_seven = λ z k. never (told_number roomy (sym (rw z at e) ∙ k));
       }
 
@@ -172,7 +173,7 @@ unfolding roomy
 file_tells file place name e = tells (of_file file place) name (e ∙ ap (λ (x : Reply). or_nothing (told_by (answer_of x) name)) (file_rows_lem file place most_bytes))
 
 -- ---- one result: no two differing results meet a contract
-pub demands_unique : (c : Call) {a a' : Answer} {out after after' : List ℕ} → Demands c a out after → Demands c a' out after'
+pub demands_unique : (c : Call) {a a' : Result Answer Refusal} {out after after' : List ℕ} → Demands c a out after → Demands c a' out after'
     → (a ≡ a') × (after ≡ after')
 demands_unique (over_table list t r) p q = answers_unique p.first.one q.first.one
 demands_unique (of_file file place) p q = answers_in_bytes_unique p.first.one q.first.one
@@ -185,7 +186,7 @@ entry_unique c p q =
 
 -- a call with room for any event, whose answer is not 7
 pub record Roomy (c : Call) : Type 0 where
-  pub answer : Answer
+  pub answer : Result Answer Refusal
   pub out : List ℕ
   pub after : List ℕ
   pub meets : Demands c answer out after

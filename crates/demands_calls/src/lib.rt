@@ -9,7 +9,7 @@ ghost use Rattle.demands.specs.Demands.{Demands};
 ghost use Rattle.demands.specs.Entries.{EntryDemands, Tells};
 
 use engine_answer::Answer;
-use method::Request;
+use method::{Refusal, Request};
 
 // A request by a list of moves over a lent table.
 pub fn over_table(
@@ -19,14 +19,14 @@ pub fn over_table(
     moves: &[u32],
     request: Request,
     out: &mut [u32],
-) -> Answer
+) -> Result<Answer, Refusal>
     ensures { Demands (over_table moves.now (table_of first marks.now readings.now) request) result out.old out.new }
 {
     table_baseline::baseline(first, marks, readings, moves, request, out)
 }
 
 // The event at a place of a record file.
-pub fn of_file(file: &[u8], place: usize, out: &mut [u8]) -> Answer
+pub fn of_file(file: &[u8], place: usize, out: &mut [u8]) -> Result<Answer, Refusal>
     ensures { Demands (of_file file.now place) result out.old out.new }
 {
     file_baseline::file_baseline(file, place, out)
