@@ -7,7 +7,7 @@ ghost use Rattle.engine_answer.specs.Steps.{told_of};
 
 use method::Refusal;
 
-// The chosen days in rank order, the first `count` of the five, and the reach.
+// The chosen days in rank order, the first `count` of the five, and the reach. Five places and a count: 01's "array of five day numbers", with no heap.
 #[derive(Clone, Copy, Debug, PartialEq, Eq)]
 pub struct Chosen {
     pub days: [u32; 5],
