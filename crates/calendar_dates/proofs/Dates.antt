@@ -113,16 +113,16 @@ module _ (t : Date) {month : Bool} (m : month ≡ (in_calendar t.year && (leb 1 
   no_month e = rw (sym m ∙ e) refl
 
   module _ (real : month ≡ true) {whole before : ℕ} (w : whole ≡ sum_of (take t.month (months t.year))) (b : before ≡ sum_of (take (t.month - 1) (months t.year))) where
-    length : get_or (months t.year) (t.month - 1) 0 ≡ whole - before
-    length = rw (w, b) (month_length t.year t.month (leb-true 1 t.month (both (leb 1 t.month) (leb t.month 12) (both (in_calendar t.year) (leb 1 t.month && leb t.month 12) (sym m ∙ real)).1).0))
+    day_count : get_or (months t.year) (t.month - 1) 0 ≡ whole - before
+    day_count = rw (w, b) (month_length t.year t.month (leb-true 1 t.month (both (leb 1 t.month) (leb t.month 12) (both (in_calendar t.year) (leb 1 t.month && leb t.month 12) (sym m ∙ real)).1).0))
 
     pub no_day : (leb 1 t.day && leb t.day (whole - before)) ≡ false → None ≡ numbered t
     unfolding numbered is_date
-    no_day e = rw (sym m ∙ real, length, e) refl
+    no_day e = rw (sym m ∙ real, day_count, e) refl
 
     pub its_day : {new : ℕ} → (leb 1 t.day && leb t.day (whole - before)) ≡ true → new ≡ new_year t.year → Some (new + before + (t.day - 1)) ≡ numbered t
     unfolding numbered is_date day_number
-    its_day e n = rw (sym m ∙ real, length, e, n, b) refl
+    its_day e n = rw (sym m ∙ real, day_count, e, n, b) refl
 
 module _ (t : Date) (n : ℕ) where
   -- a date that has a day number is one

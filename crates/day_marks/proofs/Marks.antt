@@ -61,7 +61,7 @@ first_bad xs fits = let e = go xs 0 fits in rw (zero-add, zero-add) at e
   where
     go : (l : List ℕ) (i : ℕ) → ((k : ℕ) → get_or l k 0 < 256) → unwrap_or (position_from bad i l) (i + length l) ≡ i + leading good_mark l
     go [] i f = refl
-    go (x ∷ l) i f = ⊎_elim (clear (go l (i + 1) (λ k. f (suc k)))) set (bool_cases (eqb (bit_and x 252) 0))
+    go (x ∷ l) i f = ⊎_elim (clear (go l (i + 1) (λ k. f (suc k)))) foul (bool_cases (eqb (bit_and x 252) 0))
       where
         clear : unwrap_or (position_from bad (i + 1) l) (i + 1 + length l) ≡ i + 1 + leading good_mark l → eqb (bit_and x 252) 0 ≡ true
             → unwrap_or (position_from bad i (x ∷ l)) (i + length (x ∷ l)) ≡ i + leading good_mark (x ∷ l)
@@ -70,5 +70,5 @@ first_bad xs fits = let e = go xs 0 fits in rw (zero-add, zero-add) at e
             let two : i + suc (leading good_mark l) ≡ i + 1 + leading good_mark l = omega arith in
             rw (e, clear_mask x (f 0) (eqb-true (bit_and x 252) 0 e), one, two) later
 
-        set : eqb (bit_and x 252) 0 ≡ false → unwrap_or (position_from bad i (x ∷ l)) (i + length (x ∷ l)) ≡ i + leading good_mark (x ∷ l)
-        set e = rw (e, set_mask x (f 0) (eqb-false (bit_and x 252) 0 e)) (omega arith)
+        foul : eqb (bit_and x 252) 0 ≡ false → unwrap_or (position_from bad i (x ∷ l)) (i + length (x ∷ l)) ≡ i + leading good_mark (x ∷ l)
+        foul e = rw (e, set_mask x (f 0) (eqb-false (bit_and x 252) 0 e)) (omega arith)
