@@ -8,7 +8,8 @@ ghost use Rattle.base_sums.specs.Steps.{Summed};
 pub fn sum(xs: &[u32]) -> u64
     ensures { Summed xs.now result }
 {
-    xs.iter().fold(0, |total: u64, &x| total.wrapping_add(u64::from(x)))
+    xs.iter()
+        .fold(0, |total: u64, &x| total.wrapping_add(u64::from(x)))
 }
 
 // The sum of what there is from `start` up to `end`.

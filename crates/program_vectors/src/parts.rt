@@ -1,47 +1,39 @@
 // The part of a day of small tables: of days that are held and not held, and of tables that refusal 1 turns away.
 ghost use Rattle.std.specs.Prelude.{◌≤◌, ◌<◌};
 
-use crate::days::put_date;
-use crate::line::{put, put_four, put_two};
-use calendar_dates::Dated;
+use calendar_dates::Date;
 use std::io;
+use std::io::Print;
 
-// How many readings a part has, the first and the last: `96 1000 1095`, or `00`.
-fn put_part(line: &mut [u8; 80], at: usize, part: &[u32]) -> usize {
-    let count = part.len();
-    let mut next = put_two(line, at, (count % 100) as u32);
-    if 0 < count {
-        next = put(line, next, b' ');
-        next = put_four(line, next, part[0]);
-        next = put(line, next, b' ');
-        next = put_four(line, next, part[count - 1]);
-    }
-    next
-}
-
-// A day and its part: `2019-01-12 96 1000 1095`.
+// A day and its part: how many readings it has, the first and the last, as `2019-01-12 96 1000 1095`, or `2019-01-11 00`.
 fn part_line(
-    rt: &HostRuntime,
+    rt: &impl Print,
     first: u32,
     marks: &[u8],
     readings: &[u32],
     day: u32,
 ) -> io::Result<()> {
-    let Dated::On(date) = calendar_dates::date_of(day) else {
+    let Some(
+        Date {
+            year,
+            month,
+            day: of_month,
+        },
+    ) = Date::of_day(day)
+    else {
         return Ok(());
     };
     let part = table_days::day_part(first, marks, readings, day);
-    let mut line = [0u8; 80];
-    let mut at = put_date(&mut line, 0, date);
-    at = put(&mut line, at, b' ');
-    at = put_part(&mut line, at, part);
-    at = put(&mut line, at, b'\n');
-    crate::line::write(rt, line, at)
+    print!(rt; "{year:04}-{month:02}-{of_month:02} {:02}", part.len())?;
+    if let (Some(start), Some(end)) = (part.first(), part.last()) {
+        print!(rt; " {start:04} {end:04}")?;
+    }
+    println!(rt)
 }
 
 // The first day of a table, the second and the last, and the days beside them.
 fn table_lines(
-    rt: &HostRuntime,
+    rt: &impl Print,
     first: u32,
     last: u32,
     marks: &[u8],
@@ -66,7 +58,7 @@ fn numbered() -> [u32; 384] {
 }
 
 // A table of three days and the first so many of the readings.
-fn three_days(rt: &HostRuntime, first: u32, readings: [u32; 384], count: usize) -> io::Result<()>
+fn three_days(rt: &impl Print, first: u32, readings: [u32; 384], count: usize) -> io::Result<()>
     requires { (0 < first) × (first < 36525) × (count ≤ 384) }
 {
     let marks = [0, 3, 0];
@@ -74,7 +66,7 @@ fn three_days(rt: &HostRuntime, first: u32, readings: [u32; 384], count: usize) 
 }
 
 // Tables of no days, of 128 and of 129.
-fn none_and_most(rt: &HostRuntime) -> io::Result<()> {
+fn none_and_most(rt: &impl Print) -> io::Result<()> {
     let marks = [0u8; 129];
     let readings = [7u32; 12384];
     table_lines(rt, 6951, 6953, &marks[..0], &readings[..0])?;
@@ -84,8 +76,8 @@ fn none_and_most(rt: &HostRuntime) -> io::Result<()> {
 
 // Day 6951 is 12 January 2019. The second table ends with the calendar and the third goes past it; the next two have a reading too few and one
 // too many.
-pub(crate) fn parts(rt: &HostRuntime) -> io::Result<()> {
-    rt.write_all(b"Readings of a day: how many, the first and the last\n")?;
+pub(crate) fn parts(rt: &impl Print) -> io::Result<()> {
+    println!(rt; "Readings of a day: how many, the first and the last")?;
     let readings = numbered();
     three_days(rt, 6951, readings, 288)?;
     three_days(rt, 36522, readings, 288)?;

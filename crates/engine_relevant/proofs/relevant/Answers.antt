@@ -20,6 +20,6 @@ returns c =
     let a = c.args in
     c.in_group.ensures
     ∙ elim c.else-eq.branch [
-        else-eq-via-then-eq+else-from w ↦ no_eve (group_of a.moves.now) a.group a.request a.day c.if-day-request.false c.eq.ensures (λ e. w.if-from.false (omega (arith, e, w.from.ensures, w.from-then-eq.ensures)))
+      | else-eq-via-then-eq+else-from w ↦ no_eve (group_of a.moves.now) a.group a.request a.day c.if-day-request.false c.eq.ensures (λ e. w.if-from.false (omega (arith, e, w.from.ensures, w.from-then-eq.ensures)))
       | else-eq-via-else-eq w ↦ no_weekday (group_of a.moves.now) a.group a.request a.day c.if-day-request.false c.eq.ensures w.if-eq.false
-      ]
+    ]
