@@ -19,11 +19,14 @@ pub enum Judged {
 pub fn event_quarters<'a>(request: Request, part: &'a [u32]) -> &'a [u32]
     ensures { result.now ≡ take (request.e - request.s) (drop (against request.event request.s) part.now) }
 {
-    let first = day_ruler::against(request.event, request.s) as usize;
-    let start = first.min(part.len());
+    let start = day_ruler::against(request.event, request.s) as usize;
     let count = request.e.saturating_sub(request.s) as usize;
     let end = (start + count).min(part.len());
-    &part[start..end]
+    if start < end {
+        &part[start..end]
+    } else {
+        &part[..0]
+    }
 }
 
 // The sum of a day's readings over the event's own quarters, as a number of 64 bits.

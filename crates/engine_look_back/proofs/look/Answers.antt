@@ -1,5 +1,5 @@
 use Prim.Native.Nat.{◌+◌, ◌-◌}
-use mathlib.Core.Path.{◌≡◌, ap, ◌∙◌}
+use mathlib.Core.Path.{◌≡◌, refl, ◌∙◌}
 use native.Mathlib.Omega.{arith}
 use lib.ListN.{get_or}
 use Rattle.calendar_groups.specs.Holidays.{group as group_of}
@@ -12,45 +12,39 @@ use Rattle.engine_look_back.proofs.Looking.{Back, back_start, back_further, back
 use Rattle.engine_look_back.proofs.look.Goals as goal
 use Rattle.engine_look_back.proofs.look.Goals.{After-look_at}
 
-pub loop-back-init : goal.loop-back-init
-loop-back-init c = rw (c.new.ensures, c.new-2.ensures) (back_start _ _ _ _ _ _)
+pub loop-nearer-init : goal.loop-nearer-init
+loop-nearer-init c = rw (c.new.ensures, c.new-2.ensures) (back_start _ _ _ _ _ _)
 
 pub returns-then-found-most : goal.returns-then-found-most
 returns-then-found-most c =
     let held = c.held_before-before.ensures ∙ before_is c.args.request c.args.rooms in
-    rw held at (back_full c.loop-back.invariant c.if-found-most.true)
+    rw held at (back_full c.loop-nearer.invariant c.if-found-most.true)
 
 pub look_at-requires : goal.look_at-requires
 look_at-requires c =
     let a = c.args in
-    let l = c.loop-back in
+    let l = c.loop-nearer in
     let held = c.held_before-before.ensures in
     record {
-      next = back_further l.invariant (omega (arith, l.auto.back)) c.loop-back-test.true (omega (arith, held)) (omega (arith, held));
-      few = rw c.readings_at-part.ensures.list (part_most a.readings.now (get_or a.rooms.at l.back 0) (a.request.event - l.back) c.size-size.ensures);
+      next = back_further l.invariant refl (omega arith) (omega (arith, held)) (omega (arith, held));
+      few = rw c.readings_at-part.ensures.list (part_most a.readings.now (get_or a.rooms.at (l.nearer + 1) 0) (a.request.event - (l.nearer + 1)) c.size-size.ensures);
     }
 
 -- the day is looked at
 looked : (c : After-look_at) → let a = c.args in
-    Back (relevant_to (group_of a.moves.now) a.group a.request) a.request (rooms_of a.request a.rooms a.readings.now) a.most a.spares c.held_before-before.result c.loop-back.back c.look_at.new.found
+    Back (relevant_to (group_of a.moves.now) a.group a.request) a.request (rooms_of a.request a.rooms a.readings.now) a.most a.spares c.held_before-before.result (c.loop-nearer.nearer + 1) c.look_at.new.found
 looked c =
     let a = c.args in
-    let l = c.loop-back in
+    let l = c.loop-nearer in
     let held = c.held_before-before.ensures in
-    let day = room_back a.request a.rooms a.readings.now l.back (omega (arith, held, c.loop-back-test.true)) c.size-size.ensures c.readings_at-part.ensures.list in
-    back_more l.invariant (omega (arith, l.auto.back)) c.loop-back-test.true (omega (arith, held)) c.if-found-most.false (rw day at c.look_at.ensures)
+    let day = room_back a.request a.rooms a.readings.now (l.nearer + 1) (omega (arith, held, c.loop-nearer-test.true)) c.size-size.ensures c.readings_at-part.ensures.list in
+    back_more l.invariant refl (omega arith) (omega (arith, held)) c.if-found-most.false (rw day at c.look_at.ensures)
 
-pub loop-back-preserved : goal.loop-back-preserved
-loop-back-preserved c =
-    let next : c.loop-back.back + 1 - 1 ≡ c.loop-back.back = omega arith in
-    rw next (looked (goal.at.loop-back-preserved c).After-look_at)
-
-pub returns-else-found-most : goal.returns-else-found-most
-returns-else-found-most c =
-    let held = c.held_before-before.ensures ∙ before_is c.args.request c.args.rooms in
-    rw held at (back_end (looked (goal.at.returns-else-found-most c).After-look_at) (omega arith))
+pub loop-nearer-preserved : goal.loop-nearer-preserved
+loop-nearer-preserved c =
+    looked (goal.at.loop-nearer-preserved c).After-look_at
 
 pub returns : goal.returns
 returns c =
     let held = c.held_before-before.ensures ∙ before_is c.args.request c.args.rooms in
-    rw held at (back_end c.loop-back.invariant (omega arith))
+    rw held at (back_end c.loop-nearer.invariant (omega arith))
