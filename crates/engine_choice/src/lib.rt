@@ -61,7 +61,8 @@ fn pick(event: u32, rules: Rules, row: [u64; 10], size: u32, reach: u32) -> Resu
 pub fn filled(rules: Rules, found: Found) -> Ranking
     ensures { result ≡ filled_of rules found }
 {
-    let fillers = rules.fill.saturating_sub(found.eligible.count).min(found.spare.count);
+    let shortage = rules.fill.saturating_sub(found.eligible.count);
+    let fillers = shortage.min(found.spare.count);
     let mut window = found.eligible;
     window.insert_all(&found.spare, fillers as usize);
     window

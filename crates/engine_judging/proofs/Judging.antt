@@ -4,14 +4,11 @@ use mathlib.Core.Path.{◌≡◌, refl, sym, ap, ◌∙◌}
 use mathlib.Core.Bool.{Bool, true, false, cond, not, ◌&&◌}
 use mathlib.Core.List.{List}
 use native.Mathlib.Omega.{arith}
-use lib.ListN.{take, drop}
 use Rattle.std.specs.Prelude.{Option, Some, None}
 use Rattle.base_lists.specs.Lists.{all}
 use Rattle.method.specs.declared.Request.{Request}
 use Rattle.method.specs.Table.{present, event_bit, outage_bit}
-use Rattle.method.specs.Ruler.{against}
 use Rattle.method.specs.Eligible.{complete, eligible, spare, event_sum}
-use Rattle.base_sums.specs.Steps.{Summed}
 use Rattle.engine_judging.specs.declared.Judged.{Judged}
 use Rattle.engine_judging.specs.declared.Judged.TheVariants.{Eligible, Spare}
 use Rattle.engine_judging.specs.Steps.{day_from, word_at, judged_at}

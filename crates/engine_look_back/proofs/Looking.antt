@@ -8,7 +8,7 @@ use native.Mathlib.Omega.{arith}
 use lib.ListN.{length, set, replicate, length-append, length-map}
 use lib.Dec.{leb}
 use borrow.Author.Tests.{leb-true, leb-false}
-use Rattle.std.specs.Prelude.{Option, Some, None}
+use Rattle.std.specs.Prelude.{Some, None}
 use Rattle.base_lists.specs.Lists.{keep, least_of}
 use Rattle.base_lists.proofs.Bools.{bool_cases, clash, and_left, and_right, and_cases}
 use Rattle.base_lists.proofs.Keep.{keep-append, keep_yes, keep_no, least_of_top}

@@ -111,7 +111,16 @@ pub fn look(
         let place = back as usize;
         let size = day_ruler::size(request.event - back);
         let part = engine_rooms::readings_at(readings, rooms.at[place], size);
-        look_at(moves, request, group, spares, back, rooms.marks[place], part, &mut found);
+        look_at(
+            moves,
+            request,
+            group,
+            spares,
+            back,
+            rooms.marks[place],
+            part,
+            &mut found,
+        );
     }
     found
 }

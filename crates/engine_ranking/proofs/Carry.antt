@@ -1,12 +1,12 @@
 -- One pass over a row with a word in the hand. What the row will be stays the same at every step: the places passed, and then the rest with
 -- the word in the hand pushed in.
 use Prim.Native.Nat.{ℕ, suc, ◌+◌, ◌<◌, ◌≤◌, max, min}
-use mathlib.Core.Path.{◌≡◌, ap, sym, ◌∙◌}
+use mathlib.Core.Path.{◌≡◌, sym, ◌∙◌}
 use mathlib.Core.List.{List, ◌∷◌, ◌++◌, append-nil}
 use native.Mathlib.Omega.{arith}
 use native.Mathlib.Numerals.{add-one}
-use lib.ListN.{take, drop, set, get_or, length, length-set, drop_of_length-le}
-use lib.Seq.{take-suc, drop-cons, take-suc-set, drop-set-lt, take_all, append_snoc}
+use lib.ListN.{take, drop, set, get_or, length, drop_of_length-le}
+use lib.Seq.{drop-cons, take-suc-set, drop-set-lt, take_all, append_snoc}
 use Rattle.engine_ranking.specs.Steps.{pushed}
 
 pub keeps_hand : (w x : ℕ) (row : List ℕ) → x < w → pushed w (x ∷ row) ≡ w ∷ pushed x row

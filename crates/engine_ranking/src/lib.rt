@@ -28,7 +28,10 @@ impl Ranking {
     pub fn new() -> Ranking
         ensures { result ≡ no_words }
     {
-        Ranking { words: [0; 10], count: 0 }
+        Ranking {
+            words: [0; 10],
+            count: 0,
+        }
     }
 
     // A word put into its place by rank, the least lost.
@@ -60,6 +63,8 @@ impl Ranking {
         for &other in &others.words[..count.min(10)] {
             push(&mut self.words, other);
         }
-        self.count = self.count.saturating_add(u32::try_from(count).unwrap_or(u32::MAX));
+        self.count = self
+            .count
+            .saturating_add(u32::try_from(count).unwrap_or(u32::MAX));
     }
 }

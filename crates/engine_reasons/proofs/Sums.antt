@@ -1,25 +1,19 @@
 -- The sum of a day over the event's own quarters.
-use Prim.Native.Nat.{ℕ, ◌+◌, ◌-◌, ◌^◌, ◌≤◌, ◌<◌, min}
+use Prim.Native.Nat.{ℕ, ◌-◌, ◌^◌, ◌≤◌, ◌<◌}
 use mathlib.Core.Path.{◌≡◌, ap, ◌∙◌}
 use mathlib.Core.Bool.{true, false}
 use mathlib.Core.List.{List}
 use mathlib.Core.Logic.{⊎_elim}
 use native.Mathlib.Omega.{arith}
-use lib.IntN.{pos}
-use mir.Syntax.{w64}
-use mir.Val.{to_z}
-use mir.ValLaws.{to_z_pos}
-use lib.ListN.{length, take, drop, get_or, length-take, length-drop}
+use lib.ListN.{length, get_or, length-take, length-drop}
 use borrow.Author.Tests.{le-leb, lt-leb}
 use Rattle.std.specs.Prelude.{Option, Some, None}
 use Rattle.base_lists.specs.Lists.{all, sum_of}
 use Rattle.base_lists.proofs.Bools.{lt-or-le}
-use Rattle.base_lists.proofs.Parts.{drop_within, part_within}
 use Rattle.base_sums.specs.Steps.{Summed as SummedTo}
 use Rattle.base_sums.proofs.Exact.{exact}
 use Rattle.method.specs.declared.Request.{Request}
 use Rattle.method.specs.Table.{size, most_quarters, present}
-use Rattle.method.specs.Ruler.{against}
 use Rattle.method.specs.Eligible.{event_sum}
 use Rattle.method_working.specs.Working.{event_quarters, summed}
 use Rattle.engine_rooms.specs.declared.Directory.{Directory}

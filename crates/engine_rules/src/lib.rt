@@ -16,7 +16,7 @@ pub enum SpareOrder {
 }
 
 // The rules of a request as numbers: Y; up to how many days spares fill the window, and in which order; and by the window's size, 0 to 10, the
-// ranks passed over and the days taken.
+// ranks passed over and the days taken. Two tables, and no functions of a size: `rules_of` promises them, whole.
 #[derive(Clone, Copy, Debug, PartialEq, Eq)]
 pub struct Rules {
     pub most: u32,
@@ -58,7 +58,9 @@ fn high_x_of_y(group: Group) -> Rules
 {
     match group {
         Group::Weekday => first_ranks(10, 5, [0, 0, 0, 0, 0, 5, 5, 5, 5, 5, 5]),
-        Group::Saturday | Group::HolidayGroup => first_ranks(3, 2, [0, 0, 2, 2, 2, 2, 2, 2, 2, 2, 2]),
+        Group::Saturday | Group::HolidayGroup => {
+            first_ranks(3, 2, [0, 0, 2, 2, 2, 2, 2, 2, 2, 2, 2])
+        },
     }
 }
 
@@ -81,7 +83,9 @@ fn average_x_of_y(request: Request, group: Group) -> Rules
     let one = after_seven_days(request, 1);
     match group {
         Group::Weekday => middle_ranks(10, 4, [0, 0, two, two, 2, 2, 2, 2, 2, 2, 2]),
-        Group::Saturday | Group::HolidayGroup => middle_ranks(4, 0, [0, one, 2, 2, 2, 2, 2, 2, 2, 2, 2]),
+        Group::Saturday | Group::HolidayGroup => {
+            middle_ranks(4, 0, [0, one, 2, 2, 2, 2, 2, 2, 2, 2, 2])
+        },
     }
 }
 

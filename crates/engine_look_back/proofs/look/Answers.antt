@@ -1,10 +1,9 @@
 use Prim.Native.Nat.{◌+◌, ◌-◌}
-use mathlib.Core.Path.{◌≡◌, refl, ◌∙◌}
+use mathlib.Core.Path.{refl, ◌∙◌}
 use native.Mathlib.Omega.{arith}
 use lib.ListN.{get_or}
 use Rattle.calendar_groups.specs.Holidays.{group as group_of}
 use Rattle.engine_relevant.specs.Steps.{relevant_to}
-use Rattle.engine_judging.specs.Steps.{day_from}
 use Rattle.engine_look_back.specs.Steps.{rooms_of}
 use Rattle.engine_look_back.proofs.Held.{before_is}
 use Rattle.engine_look_back.proofs.Judging.{room_back, part_most}

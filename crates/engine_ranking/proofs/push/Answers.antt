@@ -1,7 +1,5 @@
-use mathlib.Core.Path.{◌∙◌}
 use native.Mathlib.Omega.{arith}
 use borrow.Author.Rules.{rules}
-use lib.ListN.{length-set}
 use Rattle.engine_ranking.proofs.Carry.{next_passed, all_passed}
 use Rattle.engine_ranking.proofs.push.Goals as goal
 

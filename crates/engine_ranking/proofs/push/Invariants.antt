@@ -1,5 +1,4 @@
 -- What the row will be stays the same: the places passed, and then the rest with the word in the hand pushed in.
-use Prim.Native.Nat.{ℕ, ◌+◌}
 use mathlib.Core.Path.{◌≡◌}
 use mathlib.Core.List.{◌++◌}
 use lib.ListN.{take, drop}
