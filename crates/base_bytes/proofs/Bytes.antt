@@ -1,18 +1,15 @@
 -- Numbers put as bytes: the four of a number, and one number after the other.
-use Prim.Native.Nat.{ℕ, ◌+◌, ◌-◌, ◌*◌, ◌/◌, ◌%◌, ◌≤◌, ◌<◌}
+use Prim.Native.Nat.{ℕ, ◌*◌, ◌/◌, ◌≤◌, ◌<◌}
 use mathlib.Core.Path.{◌≡◌, refl, ap, ◌∙◌}
 use mathlib.Core.List.{List, [], ◌∷◌, ◌++◌}
 use native.Mathlib.Omega.{arith}
-use native.Mathlib.Numerals.{add-one}
-use lib.ListN.{length, get_or, take, drop, set, drop_of_length-le}
-use lib.Seq.{drop-cons}
+use lib.ListN.{length, take, drop, set}
 use borrow.Rule.Slice.PartMut.{put_mid}
 use Rattle.std.specs.Int.{w32, to_le_bytes}
 use Rattle.std.specs.List.{flat_map}
 use Rattle.byteorder.specs.Endian.{little_bytes}
 use Rattle.base_bytes.specs.PutFirst.{put_first}
 use Rattle.base_bytes.proofs.Told.{tells_none, tells_whole}
-use Rattle.base_bytes.proofs.Filling.{Filling, filling_part, filled}
 use Rattle.base_bytes.specs.Bytes.{bytes, reading_bytes}
 
 pub reading_length : (xs : List ℕ) → length (reading_bytes xs) ≡ 4 * length xs

@@ -1,7 +1,7 @@
 -- The moves of a file: one law for each way out of asking for one, and the list filled in one after the other.
 use Prim.Native.Nat.{ℕ, zero, suc, ◌+◌, ◌-◌, ◌*◌, ◌<◌, ◌≤◌}
 use mathlib.Core.Path.{◌≡◌, refl, sym, ◌∙◌, ap}
-use mathlib.Core.Bool.{Bool, true, false, and-false}
+use mathlib.Core.Bool.{Bool, true}
 use mathlib.Core.List.{List, [], ◌∷◌, ◌++◌}
 use mathlib.Core.Logic.{⊎_elim}
 use native.Mathlib.Omega.{arith}
@@ -9,7 +9,6 @@ use borrow.Author.Tests.{lt-ltb, le-ltb, le-leb, lt-leb}
 use lib.ListN.{length, take, drop, set, length-set}
 use lib.Seq.{drop-drop, take_at, get_or-take, get_or-drop}
 use native.Mathlib.Nat.{add-suc}
-use lib.Dec.{leb}
 use Rattle.base_lists.proofs.Bools.{lt-or-le}
 use Rattle.base_bytes.proofs.Filling.{Filling, filling_one, filled}
 use Rattle.file_record.specs.declared.Shape.{Shape}

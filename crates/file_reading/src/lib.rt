@@ -66,8 +66,7 @@ fn is_day_of(file: &[u8], at: usize, day: u32) -> bool
     requires { at < 2 ^ 39 }
     ensures { result ≡ is_dy_of day (drop at file.now) }
 {
-    is_record(file, at, day_length(day), b"DY")
-        && (file[at + 5] == 0) & (number(file, at) == day)
+    is_record(file, at, day_length(day), b"DY") && (file[at + 5] == 0) & (number(file, at) == day)
 }
 
 // How many MV stand one after the other behind the PF.

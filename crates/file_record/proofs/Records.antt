@@ -16,7 +16,7 @@ use lib.Dec.{eqb, leb, ltb}
 use Rattle.base_lists.proofs.Bools.{both, bool_cases}
 use Rattle.base_lists.specs.Ascii.{ascii}
 use Rattle.file_record.specs.Layout.{Event, fits_day, fits_event}
-use Rattle.file_record.specs.Reader.{opens_with, number_at, is_record, is_mv, mv_length, is_dy, is_ev, is_dy_of, dy_length, dy_day, ev_length}
+use Rattle.file_record.specs.Reader.{opens_with, is_record, is_mv, mv_length, is_dy, is_ev, is_dy_of, dy_length, dy_day, ev_length}
 
 pub whole_record : (size : ℕ) (mark left : List ℕ) → is_record size mark left ≡ true → size ≤ length left
 unfolding is_record

@@ -1,18 +1,13 @@
 -- The tests of what a file can say: one law for each way out of the code.
-use Prim.Native.Nat.{ℕ, ◌+◌, ◌*◌, ◌/◌, ◌^◌, ◌≤◌, ◌<◌}
+use Prim.Native.Nat.{ℕ, ◌+◌, ◌*◌, ◌/◌, ◌≤◌}
 use mathlib.Core.Path.{◌≡◌, refl, ap, sym, ◌∙◌}
 use Rattle.std.specs.List.{list_all}
-use mathlib.Core.Bool.{Bool, true, false, ◌&&◌, and-false, true≢false}
+use mathlib.Core.Bool.{Bool, true, false, ◌&&◌}
 use mathlib.Core.List.{List, [], ◌∷◌}
-use native.Mathlib.Omega.{arith}
-use borrow.Author.Tests.{le-leb, lt-leb}
 use lib.ListN.{length, drop}
-use lib.Dec.{ltb, eqb}
 use Rattle.base_lists.specs.Lists.{all}
-use Rattle.base_lists.proofs.Bools.{both}
-use Rattle.method.specs.Table.{offset}
-use Rattle.file_record.specs.Layout.{fits_day, fits_event}
-use Rattle.file_record.specs.Writer.{events_of, matching, days_in_bounds, few_of, sayable}
+use Rattle.file_record.specs.Layout.{fits_event}
+use Rattle.file_record.specs.Writer.{events_of}
 use Rattle.file_record.proofs.Writing.{event_at, events_more, events_none}
 
 -- what `all` of std says is what ours does

@@ -1,7 +1,6 @@
 -- `file_days::mark` meets its contract: the file has the shape that was read.
 use Rattle.std.proofs.Common.{rules, ◌≡◌, sym, ◌∙◌}
 use Rattle.std.specs.Prelude.{Ok}
-use Rattle.file_record.specs.Reader.{read_file}
 use Rattle.file_days.proofs.Days.{days_within, mark_is}
 use Rattle.file_days.proofs.mark.Goals as goal
 

@@ -1,10 +1,9 @@
-use Prim.Native.Nat.{ℕ, ◌+◌, ◌-◌, ◌≤◌}
-use mathlib.Core.Path.{◌≡◌, ◌∙◌, ap}
+use Prim.Native.Nat.{ℕ, ◌+◌, ◌≤◌}
+use mathlib.Core.Path.{◌∙◌, ap}
 use native.Mathlib.Omega.{arith}
 use lib.ListN.{length, drop}
 use borrow.Rule.Slice.PartMut.{mid_len}
-use Rattle.method.specs.Table.{size}
-use Rattle.file_record.specs.Reader.{dy_length, numbers}
+use Rattle.file_record.specs.Reader.{numbers}
 use Rattle.file_record.specs.Steps.{span_within}
 use Rattle.base_bytes.proofs.Filling.{filling_none}
 use Rattle.file_loading.proofs.Loading.{start, place_none, inside, day_put, readings_loaded}

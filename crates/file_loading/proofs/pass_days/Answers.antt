@@ -1,11 +1,11 @@
-use Prim.Native.Nat.{ℕ, ◌+◌, ◌-◌, ◌≤◌}
+use Prim.Native.Nat.{ℕ, ◌+◌, ◌-◌}
 use mathlib.Core.Path.{◌≡◌, refl, sym, ◌∙◌, ap}
 use native.Mathlib.Omega.{arith}
 use lib.ListN.{length, take, drop, length-append, length-take, length-drop}
 use Rattle.base_lists.specs.Lists.{leading}
 use Rattle.method.specs.Table.{size, good_reading}
 use Rattle.method.proofs.Tables.{size_most}
-use Rattle.file_record.specs.Reader.{dy_length, numbers}
+use Rattle.file_record.specs.Reader.{numbers}
 use Rattle.file_loading.proofs.Loading.{inside, passing_none, passing_stops, passing_more, passing_end, part_size}
 use Rattle.file_loading.proofs.pass_days.Goals as goal
 

@@ -1,5 +1,4 @@
 -- `file_loading::pass_days` meets its contract. The loop's invariant: the days passed are good, and what is left is all that remains (`Passing`).
-use Prim.Native.Nat.{◌-◌}
 use mathlib.Core.Path.{◌≡◌}
 use lib.ListN.{length}
 use Rattle.method.specs.Table.{most_quarters}

@@ -1,6 +1,6 @@
 -- `file_moves::move_within` meets its contract: one law for each way out.
-use Rattle.std.proofs.Common.{rules, arith, ◌≡◌, ◌∙◌, ◌+◌, ◌-◌, ◌≤◌, ap, take, drop, length, List, ℕ}
-use Rattle.file_record.specs.Reader.{mv_length, move_start}
+use Rattle.std.proofs.Common.{rules, arith, ◌≡◌, ◌∙◌, ◌+◌, ◌-◌, ◌≤◌, ap, take, drop, length}
+use Rattle.file_record.specs.Reader.{mv_length}
 use Rattle.file_moves.specs.Steps.{move_of}
 use Rattle.file_moves.proofs.Moves.{within_past, within_cut, within_there, said_old, said_new}
 use Rattle.file_moves.proofs.move_within.Goals as goal

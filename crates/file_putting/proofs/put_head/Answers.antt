@@ -1,5 +1,5 @@
 -- `file_putting::put_head` meets its contract: its four bytes take the place of the first four.
-use Rattle.std.proofs.Common.{rules, ◌∙◌, ap, take, List, ℕ}
+use Rattle.std.proofs.Common.{rules, ◌∙◌, ap, take}
 use Rattle.file_putting.proofs.Putting.{head_is}
 use Rattle.file_putting.proofs.put_head.Goals as goal
 

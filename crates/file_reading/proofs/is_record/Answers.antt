@@ -1,6 +1,5 @@
 -- `file_reading::is_record` meets its contract: both bytes of the mark are tested as one number.
-use Rattle.std.proofs.Common.{rules, arith, ◌≡◌, ◌∙◌, ap, ℕ}
-use lib.Dec.{eqb}
+use Rattle.std.proofs.Common.{rules, arith}
 use Rattle.file_record.proofs.Records.{marked, record_marked}
 use Rattle.file_reading.proofs.is_record.Goals as goal
 

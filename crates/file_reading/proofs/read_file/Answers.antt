@@ -1,5 +1,5 @@
 -- `file_reading::read_file` meets its contract: one law for each way out.
-use Rattle.std.proofs.Common.{rules, sym, ◌∙◌, ◌≡◌, true, false}
+use Rattle.std.proofs.Common.{rules, ◌∙◌, ◌≡◌, true}
 use Rattle.base_lists.specs.Ascii.{ascii}
 use Rattle.file_record.specs.Reader.{is_record, first_in, pf_length}
 use Rattle.file_record.proofs.Numbers.{read_four}

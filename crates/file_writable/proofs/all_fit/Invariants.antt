@@ -1,5 +1,5 @@
 -- `file_writable::all_fit` meets its contract. The loop's invariant: those that are left fit where all do.
-use Prim.Native.Nat.{◌*◌, ◌-◌, ◌/◌, ◌≤◌}
+use Prim.Native.Nat.{◌*◌, ◌/◌, ◌≤◌}
 use mathlib.Core.Path.{◌≡◌}
 use lib.ListN.{length, drop}
 use Rattle.base_lists.specs.Lists.{all}

@@ -1,6 +1,5 @@
 use native.Mathlib.Omega.{arith}
-use lib.ListN.{length}
-use Rattle.file_writing.proofs.Records.{Bounds, bounds, days_begin, day_put, days_put}
+use Rattle.file_writing.proofs.Records.{bounds, days_begin, day_put, days_put}
 use Rattle.file_writing.proofs.put_days.Goals as goal
 
 pub loop-k-init : goal.loop-k-init

@@ -1,5 +1,5 @@
 -- `file_writing::put_events` meets its contract. The loop's invariant: the events written and those left to write are the whole (`Filling`).
-use Prim.Native.Nat.{◌*◌, ◌-◌, ◌/◌, ◌≤◌}
+use Prim.Native.Nat.{◌*◌, ◌/◌, ◌≤◌}
 use mathlib.Core.Path.{◌≡◌}
 use mathlib.Core.Bool.{true}
 use lib.ListN.{length, drop}

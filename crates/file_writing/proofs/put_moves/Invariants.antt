@@ -1,5 +1,5 @@
 -- `file_writing::put_moves` meets its contract. The loop's invariant: the moves written and those left to write are the whole (`Filling`).
-use Prim.Native.Nat.{◌*◌, ◌-◌, ◌/◌, ◌≤◌}
+use Prim.Native.Nat.{◌*◌, ◌/◌, ◌≤◌}
 use lib.ListN.{length}
 use Rattle.base_bytes.proofs.Filling.{Filling}
 use Rattle.file_record.specs.Layout.{mv_records}
