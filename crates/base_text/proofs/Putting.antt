@@ -104,12 +104,6 @@ module _ {d : List ℕ} {at r : ℕ} {a e : List ℕ} where
       ⊎_elim (λ (o : length d < at). omega (arith, p.next ∙ next_past d at a o))
       (λ (o : at ≤ length d). omega (arith, p.next ∙ next_within d at a o)) (lt-or-le (length d) at)
 
-  -- the place after a text is at most so far on as the text is long
-  pub puts_most : (most : ℕ) → length a ≤ most → Puts d at a r e → r ≤ at + most
-  puts_most most h p =
-      ⊎_elim (λ (o : length d < at). omega (arith, p.next ∙ next_past d at a o))
-      (λ (o : at ≤ length d). omega (arith, p.next ∙ next_within d at a o)) (lt-or-le (length d) at)
-
   -- both or neither is one text
   pub as_one : {b : List ℕ} → PutsBoth d at a b r e → at + length a ≤ length d → Puts d at (a ++ b) r e
   as_one {b} p h = record { next = p.next ∙ next-next d at a b h; holds = p.holds }

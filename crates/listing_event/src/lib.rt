@@ -31,6 +31,7 @@ fn put_answer(out: &mut [u8], request: Request, answer: Answer, numerators: &[u3
 }
 
 // The lines of an event, at the start of the buffer: what the verdict by a list of moves over a table comes to, with room for a day's quarters.
+// The table is lent in its three parts, as callers in C lend it and `table_baseline` takes it.
 pub fn event(
     first: u32,
     marks: &[u8],

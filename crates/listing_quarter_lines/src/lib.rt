@@ -42,7 +42,7 @@ fn put_quarter(text: &mut Text<'_>, denominator: u32, t: u32, numerator: u32)
     text.put_bytes(b"\n");
 }
 
-// The lines of the quarters from `first` on, one for each numerator.
+// The lines of the quarters from `first` on, one for each numerator. The quarter is counted beside them: `enumerate` gives a usize, to be cast to it.
 fn put_lines(text: &mut Text<'_>, denominator: u32, first: u32, numerators: &[u32])
     requires room { text.old.at + line_room * length numerators.now ≤ length text.old.out.now }
     requires quarters { first + length numerators.now < 2 ^ 32 }

@@ -17,7 +17,8 @@ use std::rt::Env;
 // One byte more than the longest file that is as laid down: what comes after it changes no listing.
 const MOST: usize = 50537;
 
-// The listing of the input, of which so many bytes were read, at the start of the text: how long it is.
+// The listing of the input, of which so many bytes were read, at the start of the text: how long it is. It takes the
+// whole buffer and the count, since what may follow those bytes hangs on whether they fill it (`Prints`).
 fn list(bytes: &[u8], count: usize, text: &mut [u8]) -> usize
     requires { (count ≤ length bytes.now) × (longest < length bytes.now) × (most_listing ≤ length text.old) }
     ensures { Prints bytes.now count result text.new }
