@@ -10,7 +10,7 @@ ghost use Rattle.engine_refusals.specs.Steps.{tested};
 ghost use Rattle.file_record.specs.Reader.{list_in, table_in};
 ghost use Rattle.table_bytes.specs.Output.{AnswersInBytes};
 ghost use Rattle.file_baseline.specs.Reply.{file_reply};
-ghost use Rattle.file_baseline.specs.Steps.{LaidDown, Loaded, asked as asked_for};
+ghost use Rattle.file_baseline.specs.Steps.{LaidDown, Loaded, asked as days_asked};
 
 use calendar_groups::MOST_MOVES;
 use engine_answer::Answer;
@@ -24,7 +24,7 @@ const ROOM: usize = QUARTERS * engine_rooms::DAYS + 2;
 // The days that an event can ask for: D and the 45 days before it, as far as the file holds them; none where it does not hold D.
 #[tactic(auto, unfolding(crate::specs::Steps::asked))]
 fn asked(shape: Shape, event: u32) -> Span
-    ensures { result ≡ asked_for shape event }
+    ensures { result ≡ days_asked shape event }
 {
     if shape.first <= event && event - shape.first < shape.days {
         let before = event - shape.first;
@@ -93,7 +93,7 @@ fn loaded_baseline(
     rooms: &[u32],
     out: &mut [u8],
 ) -> Result<Answer, Refusal>
-    requires { Loaded file.now shape span rooms.now × (marks.now ≡ (table_in file.now).marks) × (span ≡ asked_for shape request.event) }
+    requires { Loaded file.now shape span rooms.now × (marks.now ≡ (table_in file.now).marks) × (span ≡ days_asked shape request.event) }
     ensures { AnswersInBytes (verdict (list_in file.now) (table_in file.now) request (length out.old / 4)) result out.old out.new }
 {
     of_file(file, shape, span, marks, rooms)?;
