@@ -74,7 +74,7 @@ fn fits(shape: Shape, span: Span, size: usize, marks: usize, readings: usize) ->
 }
 
 // Puts the marks of a file of this shape, and the readings of a span of its days, into lent buffers, and says whether they fit: they stand first,
-// the rest is kept. Where they do not fit nothing changes.
+// the rest is kept. Where they do not fit nothing changes. A bool, and no Result: `filled_if` takes it, and that nothing changes is no refusal.
 pub fn load_within(
     file: &[u8],
     shape: Shape,

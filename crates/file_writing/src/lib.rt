@@ -14,7 +14,8 @@ use file_starts::{EV_LENGTH, MV_LENGTH, PF_LENGTH};
 use file_writable::EVENT_NUMBERS;
 use method::Refusal;
 
-// The MV of the moves, into as many bytes as they have.
+// The MV of the moves, into as many bytes as they have. The parts are cut by their places, here and below: of those of `chunks_exact_mut` no clause says
+// what they hold afterwards.
 fn put_moves(out: &mut [u8], moves: &[u32])
     requires { length out.old ≡ mv_length * (length moves.now / 2) }
     ensures { out.new ≡ mv_records moves.now }
