@@ -1,5 +1,5 @@
 -- `file_reading::read_file` meets its contract: one law for each way out.
-use Rattle.std.proofs.Common.{rules, ◌∙◌, ◌≡◌, true}
+use Rattle.std.proofs.Common.{rules, ◌∙◌, ◌≡◌, true, ◌-◌, length}
 use Rattle.base_lists.specs.Ascii.{ascii}
 use Rattle.file_record.specs.Reader.{is_record, first_in, pf_length}
 use Rattle.file_record.proofs.Numbers.{read_four}
@@ -30,5 +30,5 @@ returns c =
     let first : c.first_in-first.result ≡ first_in file = first_from file base (search rules) in
     let days = c.count_days-days.ensures.counted ∙ days_counted file _ _ in
     let events = c.count_events-events.ensures.counted ∙ events_counted file _ in
-    let portfolio = c.read_u32.ensures ∙ read_four 4 _ file (search rules) in
+    let portfolio = c.read_u32.ensures ∙ read_four 4 (length file - 4) file (search rules) in
     file_good file moves c.move_start-base.ensures first days c.day_start-start.ensures.start events opens c.if-end-file.false c.number.ensures.value portfolio
