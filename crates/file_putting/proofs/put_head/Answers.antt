@@ -1,7 +1,7 @@
 -- `file_putting::put_head` meets its contract: its four bytes take the place of the first four.
-use Rattle.std.proofs.Common.{rules, ◌∙◌, ap, take}
+use Rattle.std.proofs.Common.{rules}
 use Rattle.file_putting.proofs.Putting.{head_is}
 use Rattle.file_putting.proofs.put_head.Goals as goal
 
 pub returns : goal.returns
-returns c = let a = c.args in head_is a.out.now a.mark.now a.number c.requires (search rules) c.copy_from_slice.ensures.after (c.copy_from_slice-2.ensures.after ∙ ap (take 2) c.to_le_bytes.ensures)
+returns c = let a = c.args in head_is a.out.now a.mark.now a.number c.requires (search rules) c.copy_from_slice.ensures.after (search rules)
