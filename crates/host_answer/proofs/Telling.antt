@@ -7,13 +7,13 @@ use native.Mathlib.Omega.{arith}
 use lib.ListN.{length, get_or, take, replicate, length-map, length-take, length-replicate, length-append, get_or-eq_default, get_or-append, get_or-replicate}
 use lib.Seq.{get_or-take}
 use lib.IntN.{ℤ}
-use Rattle.std.specs.Prelude.{Option, None}
+use Rattle.std.specs.Prelude.{Option, Some, None, Result}
 use Rattle.base_lists.proofs.Bools.{lt-or-le}
 use Rattle.method.specs.declared.Refusal.{Refusal}
-use Rattle.engine_answer.specs.declared.Told.{Told}
-use Rattle.engine_answer.specs.Steps.{told_of}
-use Rattle.engine_answer.proofs.Carried.{tells}
-use Rattle.engine_answer.specs.declared.Given.{Given}
+use Rattle.method.specs.declared.Refusal.TheVariants.{BadFile, NoEvent, BadTable, BadMark, BadReading, BadRequest, NotHeld}
+use Rattle.method.specs.declared.Refusal.TheVariants.{NotYetParticipating, NoRoom, MarginTooShort, TooFew, NoAdjustmentWindow, Unwritable, BadMoves}
+use Rattle.method.specs.Verdict.{carries}
+use Rattle.method.specs.Told.{in_two}
 use Rattle.engine_answer.specs.declared.Answer.{Answer}
 use Rattle.host_answer.specs.Names.{told, by_name, refusal_row, row_from}
 use Rattle.host_answer.specs.Telling.{day_of_rank, answer_row, row_of, told_by}
@@ -40,18 +40,61 @@ module _ (count : ℕ) (numbers : List ℕ) (place : ℕ) where
       at_each (x ∷ l) zero o = refl
       at_each (x ∷ l) (suc i) o = at_each l i (omega arith)
 
--- of a refusal
-module _ (w : Refusal) {t : Told} (e : t ≡ told_of w) where
-  pub refusal_number : (name : ℕ) → name ≡ 0 → told t.number ≡ by_name (refusal_row w) name
-  unfolding by_name refusal_row
-  refusal_number name z = rw z (ap told (tells e).numbered)
+-- the numbers that a refusal carries
+two_at_most : (w : Refusal) → length (carries w) ≤ 2
+two_at_most (BadFile place) = omega arith
+two_at_most NoEvent = omega arith
+two_at_most BadTable = omega arith
+two_at_most (BadMark place) = omega arith
+two_at_most (BadReading place) = omega arith
+two_at_most BadRequest = omega arith
+two_at_most NotHeld = omega arith
+two_at_most NotYetParticipating = omega arith
+two_at_most NoRoom = omega arith
+two_at_most (MarginTooShort days) = omega arith
+two_at_most (TooFew size reach) = omega arith
+two_at_most (NoAdjustmentWindow reach) = omega arith
+two_at_most Unwritable = omega arith
+two_at_most BadMoves = omega arith
 
-  pub refusal_carries : (name : ℕ) {x : Option ℤ} → 0 < name → x ≡ by_name (map told (take t.count t.carried)) (name - 1)
-      → x ≡ by_name (refusal_row w) name
-  unfolding by_name refusal_row
-  refusal_carries name z h =
-      let k : name ≡ suc (name - 1) = omega arith in
-      rw k (rw (tells e).carried at h)
+module _ (w : Refusal) {name : ℕ} where
+  pub nothing_carried : 3 ≤ name → None ≡ by_name (refusal_row w) name
+  nothing_carried h = past (refusal_row w) name (unfold refusal_row in rw (length-map (carries w) told) (omega (arith, two_at_most w)))
+
+  module _ {two : List (Option ℕ)} (e : two ≡ in_two (carries w)) where
+    pub first_carried : {x : ℕ} → name ≡ 1 → get_or two 0 None ≡ Some x → told x ≡ by_name (refusal_row w) name
+    unfolding by_name refusal_row
+    first_carried z f = rw z (go (carries w) (rw e at f))
+      where
+        go : (l : List ℕ) {x : ℕ} → get_or (in_two l) 0 None ≡ Some x → told x ≡ get_or (map told l) 0 None
+        go [] f = cc
+        go (y ∷ l) f = let is : y ≡ _ = cc in ap told (sym is)
+
+    pub second_carried : {x : ℕ} → name ≡ 2 → get_or two 1 None ≡ Some x → told x ≡ by_name (refusal_row w) name
+    unfolding by_name refusal_row
+    second_carried z f = rw z (go (carries w) (rw e at f))
+      where
+        go : (l : List ℕ) {x : ℕ} → get_or (in_two l) 1 None ≡ Some x → told x ≡ get_or (map told l) 1 None
+        go [] f = cc
+        go (y ∷ []) f = cc
+        go (y ∷ z ∷ l) f = let is : z ≡ _ = cc in ap told (sym is)
+
+    pub no_first : name ≡ 1 → get_or two 0 None ≡ None → None ≡ by_name (refusal_row w) name
+    unfolding by_name refusal_row
+    no_first z f = rw z (go (carries w) (rw e at f))
+      where
+        go : (l : List ℕ) → ◌≡◌ {A = Option ℕ} (get_or (in_two l) 0 None) None → ◌≡◌ {A = Option ℤ} None (get_or (map told l) 0 None)
+        go [] f = refl
+        go (y ∷ l) f = cc
+
+    pub no_second : name ≡ 2 → get_or two 1 None ≡ None → None ≡ by_name (refusal_row w) name
+    unfolding by_name refusal_row
+    no_second z f = rw z (go (carries w) (rw e at f))
+      where
+        go : (l : List ℕ) → ◌≡◌ {A = Option ℕ} (get_or (in_two l) 1 None) None → ◌≡◌ {A = Option ℤ} None (get_or (map told l) 1 None)
+        go [] f = refl
+        go (y ∷ []) f = refl
+        go (y ∷ z ∷ l) f = cc
 
 -- of what is not refused: a name that is neither 0 nor one of those from `first` on
 pub no_name : (first : ℕ) (numbers : List (Option ℤ)) (name : ℕ) → 0 < first → 0 < name → (first ≤ name → first + length numbers ≤ name)
@@ -91,6 +134,6 @@ day_told a name h k e =
     e ∙ (rw n at (rank_told_lem a (name - 4) (omega arith)))
 
 -- what is told is of the answer, or of its refusal
-pub by_given : (a : Answer) (name : ℕ) {g : Given} {x : Option ℤ} → a.given ≡ g → x ≡ by_name (row_of g a) name → x ≡ told_by a name
+pub by_answer : (a : Result Answer Refusal) (name : ℕ) {b : Result Answer Refusal} {x : Option ℤ} → a ≡ b → x ≡ by_name (row_of b) name → x ≡ told_by a name
 unfolding told_by
-by_given a name e h = h ∙ ap (λ (g : Given). by_name (row_of g a) name) (sym e)
+by_answer a name e h = h ∙ ap (λ (b : Result Answer Refusal). by_name (row_of b) name) (sym e)

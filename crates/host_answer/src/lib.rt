@@ -5,7 +5,7 @@ ghost use Rattle.std.specs.Prelude.{◌≡◌, map, take};
 ghost use Rattle.host_answer.specs.Names.{told, by_name, refusal_row};
 ghost use Rattle.host_answer.specs.Telling.{number_of, answer_row, told_by};
 
-use engine_answer::{Answer, Given};
+use engine_answer::Answer;
 use method::Refusal;
 
 pub mod names;
@@ -18,13 +18,12 @@ pub fn told(number: u32) -> Option<i64>
 }
 
 // 0 for an answer, else the refusal's number.
-#[tactic(auto, unfolding(engine_answer::specs::Steps::told_of))]
-pub fn number_of(given: Given) -> u32
-    ensures { result ≡ number_of given }
+pub fn number_of(answer: Result<Answer, Refusal>) -> u32
+    ensures { result ≡ number_of answer }
 {
-    match given {
-        Given::Answered => 0,
-        Given::Refused(refusal) => engine_answer::tell(refusal).number,
+    match answer {
+        Ok(_) => 0,
+        Err(refusal) => refusal.number(),
     }
 }
 
@@ -39,16 +38,18 @@ fn number_at(numbers: &[u32], count: usize, place: usize) -> Option<i64>
     told(*numbers.get(place)?)
 }
 
-// Of a refusal: its number under the name 0, and what it carries under 1 and 2.
-#[tactic(auto, using(crate::proofs::Telling::refusal_number, crate::proofs::Telling::refusal_carries))]
+// Of a refusal: its number, and what it carries.
+#[tactic(auto, using(crate::proofs::Telling::first_carried, crate::proofs::Telling::second_carried, crate::proofs::Telling::no_first, crate::proofs::Telling::no_second, crate::proofs::Telling::nothing_carried), unfolding(crate::specs::Names::by_name, crate::specs::Names::refusal_row))]
 pub fn tell_refusal(refusal: Refusal, name: u32) -> Option<i64>
     ensures { result ≡ by_name (refusal_row refusal) name }
 {
-    let tells = engine_answer::tell(refusal);
-    if name == names::RESULT {
-        return told(tells.number);
+    let [first, second] = refusal.carried();
+    match name {
+        names::RESULT => told(refusal.number()),
+        names::CARRIED => told(first?),
+        names::CARRIED_SECOND => told(second?),
+        _ => None,
     }
-    number_at(&tells.carried, tells.count, (name - 1) as usize)
 }
 
 // Of an answer that is not refused.
@@ -73,12 +74,12 @@ fn tell_answered(answer: Answer, name: u32) -> Option<i64>
 }
 
 // What an answer tells by name.
-#[tactic(auto, using(crate::proofs::Telling::by_given))]
-pub fn tell(answer: Answer, name: u32) -> Option<i64>
+#[tactic(auto, using(crate::proofs::Telling::by_answer))]
+pub fn tell(answer: Result<Answer, Refusal>, name: u32) -> Option<i64>
     ensures { result ≡ told_by answer name }
 {
-    match answer.given {
-        Given::Answered => tell_answered(answer, name),
-        Given::Refused(refusal) => tell_refusal(refusal, name),
+    match answer {
+        Ok(answer) => tell_answered(answer, name),
+        Err(refusal) => tell_refusal(refusal, name),
     }
 }

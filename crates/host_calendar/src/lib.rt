@@ -5,7 +5,7 @@ ghost use Rattle.std.specs.Prelude.{◌≡◌};
 ghost use Rattle.host_answer.specs.Names.{by_name};
 ghost use Rattle.host_calendar.specs.Calendar.{group_told, fixed_told, easter_told, calendar_row};
 
-use calendar_dates::Dated;
+use calendar_dates::Date;
 use host_answer::{names, told};
 
 // The group of a day.
@@ -24,11 +24,11 @@ fn tell_group(day: u32) -> Option<i64>
 fn tell_fixed(day: u32) -> Option<i64>
     ensures { result ≡ fixed_told day }
 {
-    match calendar_dates::date_of(day) {
-        Dated::On(date) if calendar_holidays::is_fixed_holiday(day) => Some(
-            host_plain::month_digits(date) as i64,
-        ),
-        _ => None,
+    let date = Date::of_day(day)?;
+    if calendar_holidays::is_fixed_holiday(day) {
+        Some(host_plain::month_digits(date) as i64)
+    } else {
+        None
     }
 }
 

@@ -12,7 +12,7 @@ ghost use Rattle.engine_answer.specs.Answer.{answer_of};
 ghost use Rattle.file_baseline.specs.Reply.{file_reply};
 ghost use Rattle.host_answer.specs.Telling.{told_by};
 ghost use Rattle.host_file.specs.OfFile.{file_told, move_told, event_told};
-ghost use Rattle.host_numbers.specs.Numbers.{place_told, found_told};
+ghost use Rattle.host_numbers.specs.Numbers.{number_told};
 ghost use Rattle.file_days.specs.HeldDay.{mark_in, reading_in};
 ghost use Rattle.host_answer.specs.Names.{by_name};
 ghost use Rattle.host_calendar.specs.Calendar.{calendar_row};
@@ -34,7 +34,7 @@ const MOST_BYTES: usize = 4 * method::QUARTERS;
 pub fn hp_baseline(file: &[u8], place: usize, out: &mut [u8]) -> u32
     ensures { FileCall (file_reply file.now place (length out.old)) result out.old out.new }
 {
-    host_answer::number_of(file_baseline::file_baseline(file, place, out).given)
+    host_answer::number_of(file_baseline::file_baseline(file, place, out))
 }
 
 // What that result tells by name, with room for any event.
@@ -77,7 +77,7 @@ pub fn hp_baseline_table(
 {
     let request = request_of(participation, event, s, e, n, method);
     let answer = table_baseline::baseline(first, marks, readings, moves, request, out);
-    host_answer::number_of(answer.given)
+    host_answer::number_of(answer)
 }
 
 // What that result tells by name, with room for any event.
@@ -104,10 +104,10 @@ pub fn hp_told_table(
 
 // The place of a day's first reading in a table in memory.
 pub fn hp_day_part(first: u32, marks: &[u8], readings: &[u32], day: u32) -> i64
-    ensures { result ≡ or_nothing (place_told (part_place (table_of first marks.now readings.now) day)) }
+    ensures { result ≡ or_nothing (number_told (part_place (table_of first marks.now readings.now) day)) }
 {
     let place = table_days::part_place(first, marks, readings, day);
-    host_numbers::tell_place(place).unwrap_or(NOTHING)
+    host_numbers::tell_number(place).unwrap_or(NOTHING)
 }
 
 // What a record file tells by name: what it holds, or refusal 11.
@@ -154,23 +154,23 @@ pub fn hp_cut_from(file: &[u8]) -> i64
 
 // A reading of a day of a record file.
 pub fn hp_reading(file: &[u8], day: u32, quarter: u32) -> i64
-    ensures { result ≡ or_nothing (found_told (reading_in (read_file file.now) file.now day quarter)) }
+    ensures { result ≡ or_nothing (number_told (reading_in (read_file file.now) file.now day quarter)) }
 {
-    host_numbers::tell_found(file_days::reading(file, day, quarter)).unwrap_or(NOTHING)
+    host_numbers::tell_number(file_days::reading(file, day, quarter)).unwrap_or(NOTHING)
 }
 
 // The mark of a day of a record file.
 pub fn hp_mark(file: &[u8], day: u32) -> i64
-    ensures { result ≡ or_nothing (found_told (mark_in (read_file file.now) file.now day)) }
+    ensures { result ≡ or_nothing (number_told (mark_in (read_file file.now) file.now day)) }
 {
-    host_numbers::tell_found(file_days::mark(file, day)).unwrap_or(NOTHING)
+    host_numbers::tell_number(file_days::mark(file, day)).unwrap_or(NOTHING)
 }
 
 // The listing of a record file: its length, and the text into `out`; minus 7 where it does not fit.
 pub fn hp_listing(file: &[u8], out: &mut [u8]) -> i64
     ensures { ListingCall file.now result out.old out.new }
 {
-    host_numbers::tell_listed(listing_whole::listing(file, out))
+    host_numbers::tell_length(listing_whole::listing(file, out))
 }
 
 // A record file written into `out`: its length, or minus the number of a refusal.
@@ -196,7 +196,7 @@ pub fn hp_write(
         events,
         out,
     );
-    host_numbers::tell_written(written)
+    host_numbers::tell_length(written)
 }
 
 // The day number of a date.

@@ -12,7 +12,7 @@ ghost use Rattle.engine_answer.specs.Answer.{answer_of};
 ghost use Rattle.file_baseline.specs.Reply.{file_reply};
 ghost use Rattle.host_answer.specs.Telling.{told_by};
 ghost use Rattle.host_file.specs.OfFile.{file_told, move_told, event_told};
-ghost use Rattle.host_numbers.specs.Numbers.{place_told, found_told};
+ghost use Rattle.host_numbers.specs.Numbers.{number_told};
 ghost use Rattle.file_days.specs.HeldDay.{mark_in, reading_in};
 ghost use Rattle.host_answer.specs.Names.{by_name};
 ghost use Rattle.host_calendar.specs.Calendar.{calendar_row};
@@ -100,7 +100,7 @@ pub extern "C" fn hp_told_table(
 
 #[unsafe(no_mangle)]
 pub extern "C" fn hp_day_part(first: u32, marks: &[u8], readings: &[u32], day: u32) -> i64
-    ensures { result ≡ or_nothing (place_told (part_place (table_of first marks.now readings.now) day)) }
+    ensures { result ≡ or_nothing (number_told (part_place (table_of first marks.now readings.now) day)) }
 {
     host_entries::hp_day_part(first, marks, readings, day)
 }
@@ -149,14 +149,14 @@ pub extern "C" fn hp_cut_from(file: &[u8]) -> i64
 
 #[unsafe(no_mangle)]
 pub extern "C" fn hp_reading(file: &[u8], day: u32, quarter: u32) -> i64
-    ensures { result ≡ or_nothing (found_told (reading_in (read_file file.now) file.now day quarter)) }
+    ensures { result ≡ or_nothing (number_told (reading_in (read_file file.now) file.now day quarter)) }
 {
     host_entries::hp_reading(file, day, quarter)
 }
 
 #[unsafe(no_mangle)]
 pub extern "C" fn hp_mark(file: &[u8], day: u32) -> i64
-    ensures { result ≡ or_nothing (found_told (mark_in (read_file file.now) file.now day)) }
+    ensures { result ≡ or_nothing (number_told (mark_in (read_file file.now) file.now day)) }
 {
     host_entries::hp_mark(file, day)
 }

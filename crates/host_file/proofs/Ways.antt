@@ -4,30 +4,29 @@ use mathlib.Core.Path.{◌≡◌, refl, sym, ap, ◌∙◌}
 use mathlib.Core.List.{List}
 use lib.ListN.{length}
 use lib.IntN.{ℤ}
-use Rattle.std.specs.Prelude.{Option, None}
+use Rattle.std.specs.Prelude.{Option, None, Result}
 use native.Mathlib.Omega.{arith}
 use mathlib.Core.Logic.{⊎_elim}
 use Rattle.base_lists.proofs.Bools.{lt-or-le}
 use Rattle.host_answer.proofs.Telling.{no_name}
-use Rattle.file_record.specs.declared.Read.{Read}
+use Rattle.method.specs.declared.Refusal.{Refusal}
 use Rattle.file_record.specs.declared.Shape.{Shape}
-use Rattle.file_record.specs.declared.MoveAt.{MoveAt}
-use Rattle.file_record.specs.declared.EventAt.{EventAt}
+use Rattle.file_record.specs.declared.Move.{Move}
 use Rattle.method.specs.declared.Request.{Request}
 use Rattle.host_answer.specs.Names.{by_name, row_from}
 use Rattle.host_file.specs.OfFile.{shape_row, file_row, file_told, move_row, move_told, request_row, event_row, event_told}
 
-pub of_read : {read read' : Read} (name : ℕ) {x : Option ℤ} → read ≡ read' → x ≡ by_name (file_row read') name → x ≡ file_told read name
+pub of_read : {read read' : Result Shape Refusal} (name : ℕ) {x : Option ℤ} → read ≡ read' → x ≡ by_name (file_row read') name → x ≡ file_told read name
 unfolding file_told
-of_read name e h = h ∙ ap (λ (r : Read). by_name (file_row r) name) (sym e)
+of_read name e h = h ∙ ap (λ (r : Result Shape Refusal). by_name (file_row r) name) (sym e)
 
-pub of_move : {at at' : MoveAt} (name : ℕ) {x : Option ℤ} → at ≡ at' → x ≡ by_name (move_row at') name → x ≡ move_told at name
+pub of_move : {at at' : Result (Option Move) Refusal} (name : ℕ) {x : Option ℤ} → at ≡ at' → x ≡ by_name (move_row at') name → x ≡ move_told at name
 unfolding move_told
-of_move name e h = h ∙ ap (λ (a : MoveAt). by_name (move_row a) name) (sym e)
+of_move name e h = h ∙ ap (λ (a : Result (Option Move) Refusal). by_name (move_row a) name) (sym e)
 
-pub of_event : {at at' : EventAt} (name : ℕ) {x : Option ℤ} → at ≡ at' → x ≡ by_name (event_row at') name → x ≡ event_told at name
+pub of_event : {at at' : Result Request Refusal} (name : ℕ) {x : Option ℤ} → at ≡ at' → x ≡ by_name (event_row at') name → x ≡ event_told at name
 unfolding event_told
-of_event name e h = h ∙ ap (λ (a : EventAt). by_name (event_row a) name) (sym e)
+of_event name e h = h ∙ ap (λ (a : Result Request Refusal). by_name (event_row a) name) (sym e)
 
 -- the names that a row does not tell: those before its first, those of a gap before its last, and those past it
 module _ (first : ℕ) (numbers : List (Option ℤ)) (named : 0 < first) (gap count : ℕ) (long : first + length numbers ≡ gap + count + 1)

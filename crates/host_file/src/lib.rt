@@ -1,12 +1,11 @@
 // What a caller written in C is told by include/honeyplank.h of a record file, and of a move and an event in it.
 #![tactic(auto)]
 
-ghost use Rattle.std.specs.Prelude.{◌≡◌};
-ghost use Rattle.file_record.specs.declared.MoveAt.TheVariants.{NoMove};
+ghost use Rattle.std.specs.Prelude.{◌≡◌, None, Ok};
 ghost use Rattle.host_answer.specs.Names.{by_name};
 ghost use Rattle.host_file.specs.OfFile.{shape_row, file_told, days_row, move_told, request_row, event_told};
 
-use file_record::{EventAt, MoveAt, Read, Shape};
+use file_record::{Move, Shape};
 use host_answer::{names, tell_refusal, told};
 use method::{Refusal, Request};
 
@@ -29,24 +28,24 @@ fn tell_shape(shape: Shape, name: u32) -> Option<i64>
 
 // Of what reading a file gave: what it holds, or refusal 11.
 #[tactic(auto, using(crate::proofs::Ways::of_read))]
-pub fn tell_file(read: Read, name: u32) -> Option<i64>
+pub fn tell_file(read: Result<Shape, Refusal>, name: u32) -> Option<i64>
     ensures { result ≡ file_told read name }
 {
     match read {
-        Read::Refused(at) => tell_refusal(Refusal::BadFile(at), name),
-        Read::File(shape) => tell_shape(shape, name),
+        Ok(shape) => tell_shape(shape, name),
+        Err(bad_file) => tell_refusal(bad_file, name),
     }
 }
 
 // Of the two days of a move.
 #[tactic(auto, using(host_answer::proofs::Telling::no_name), unfolding(host_answer::specs::Names::by_name, host_answer::specs::Names::row_from, crate::specs::OfFile::days_row))]
-fn tell_days(old: u32, new: u32, name: u32) -> Option<i64>
-    ensures { result ≡ by_name (days_row old new) name }
+fn tell_days(moved: Move, name: u32) -> Option<i64>
+    ensures { result ≡ by_name (days_row moved.old moved.new) name }
 {
     match name {
         names::RESULT => told(0),
-        names::MOVE_FROM => told(old),
-        names::MOVE_TO => told(new),
+        names::MOVE_FROM => told(moved.old),
+        names::MOVE_TO => told(moved.new),
         _ => None,
     }
 }
@@ -54,7 +53,7 @@ fn tell_days(old: u32, new: u32, name: u32) -> Option<i64>
 // Where there is no move at a place: no number but the result.
 #[tactic(auto, unfolding(host_answer::specs::Names::by_name, crate::specs::OfFile::move_told))]
 fn tell_no_move(name: u32) -> Option<i64>
-    ensures { result ≡ move_told NoMove name }
+    ensures { result ≡ move_told (Ok None) name }
 {
     match name {
         names::RESULT => told(0),
@@ -64,13 +63,13 @@ fn tell_no_move(name: u32) -> Option<i64>
 
 // Of the move at a place: its two days; none; or refusal 11.
 #[tactic(auto, using(crate::proofs::Ways::of_move))]
-pub fn tell_move(at: MoveAt, name: u32) -> Option<i64>
+pub fn tell_move(at: Result<Option<Move>, Refusal>, name: u32) -> Option<i64>
     ensures { result ≡ move_told at name }
 {
     match at {
-        MoveAt::Refused(start) => tell_refusal(Refusal::BadFile(start), name),
-        MoveAt::NoMove => tell_no_move(name),
-        MoveAt::Move { old, new } => tell_days(old, new, name),
+        Ok(Some(moved)) => tell_days(moved, name),
+        Ok(None) => tell_no_move(name),
+        Err(refusal) => tell_refusal(refusal, name),
     }
 }
 
@@ -92,12 +91,11 @@ fn tell_request(request: Request, name: u32) -> Option<i64>
 
 // Of the event at a place: what it asks, or refusal 11 or 12.
 #[tactic(auto, using(crate::proofs::Ways::of_event))]
-pub fn tell_event(at: EventAt, name: u32) -> Option<i64>
+pub fn tell_event(at: Result<Request, Refusal>, name: u32) -> Option<i64>
     ensures { result ≡ event_told at name }
 {
     match at {
-        EventAt::Refused(start) => tell_refusal(Refusal::BadFile(start), name),
-        EventAt::NoEvent => tell_refusal(Refusal::NoEvent, name),
-        EventAt::Event(request) => tell_request(request, name),
+        Ok(request) => tell_request(request, name),
+        Err(refused) => tell_refusal(refused, name),
     }
 }

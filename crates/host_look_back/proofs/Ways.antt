@@ -14,7 +14,6 @@ use Rattle.method.specs.declared.Request.{Request}
 use Rattle.method.specs.Table.{Day, History}
 use Rattle.method_working.specs.declared.Reason.{Reason}
 use Rattle.method_working.specs.Working.{reason, summed}
-use Rattle.engine_reasons.specs.declared.Summed.{Summed}
 use Rattle.engine_reasons.specs.Steps.{sum_found}
 use Rattle.host_answer.specs.Names.{told, by_name}
 use Rattle.host_working.specs.Told.{reason_number, told_of, day_numbers}
@@ -64,7 +63,7 @@ module _ (group : ℕ → Group) (r : Request) (h : History Day) (back place : �
     unfolding by_name day_numbers
     at_reason k w e = rw (k, t) (e ∙ ap (λ (w : Reason). told (reason_number w)) w)
 
-    pub at_sum : {sum : Summed} → place ≡ 3 → sum ≡ sum_found (summed r h back) → x ≡ sum_told sum → x ≡ by_name row place
+    pub at_sum : {sum : Option ℕ} → place ≡ 3 → sum ≡ sum_found (summed r h back) → x ≡ sum_told sum → x ≡ by_name row place
     unfolding by_name day_numbers
     at_sum k s e = rw (k, t) (e ∙ ap sum_told s ∙ sum_is (summed r h back))
 

@@ -1,5 +1,5 @@
 -- What the private functions of telling a day of the look-back give.
-use Rattle.std.specs.Prelude.{ℕ, ◌+◌, ◌-◌, Bool, not, cond, ◌&&◌, ltb, leb, ℤ, Option, Some, None, take}
+use Rattle.std.specs.Prelude.{ℕ, ◌+◌, ◌-◌, Bool, not, cond, ◌&&◌, ltb, leb, ℤ, pos, Option, Some, option_map, take}
 use Rattle.calendar_groups.specs.declared.Group.{Group}
 use Rattle.method.specs.declared.Request.{Request}
 use Rattle.method.specs.Table.{Day, History}
@@ -7,8 +7,6 @@ use Rattle.method.specs.Relevant.{group_number}
 use Rattle.method.specs.Method.{is_short}
 use Rattle.method.specs.Requested.{method_of}
 use Rattle.method_working.specs.Working.{rank_in, rank, is_chosen}
-use Rattle.engine_reasons.specs.declared.Summed.{Summed}
-use Rattle.engine_reasons.specs.declared.Summed.TheVariants.{Sum, Unsummed}
 use Rattle.engine_window.specs.declared.Window.{Window}
 use Rattle.host_answer.specs.Names.{told, told_if}
 use Rattle.host_working.specs.Told.{as_number}
@@ -20,9 +18,8 @@ number_told event back = told_if (leb back event) (told (event - back))
 abbrev pub group_told : (ℕ → Group) → ℕ → ℕ → Option ℤ
 group_told group event back = told_if (leb back event) (told (group_number (group (event - back))))
 
-abbrev pub sum_told : Summed → Option ℤ
-sum_told (Sum x) = Some x
-sum_told Unsummed = None
+abbrev pub sum_told : Option ℕ → Option ℤ
+sum_told sum = option_map pos sum
 
 module _ (group : ℕ → Group) (r : Request) (h : History Day) (back : ℕ) where
   -- its rank, and whether it is chosen, where 8 is not given

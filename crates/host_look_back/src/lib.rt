@@ -2,7 +2,7 @@
 // of the row.
 #![tactic(auto)]
 
-ghost use Rattle.std.specs.Prelude.{◌≡◌, ◌==◌, take};
+ghost use Rattle.std.specs.Prelude.{◌≡◌, ◌==◌, ◌<◌, ◌^◌, take, IfSome};
 ghost use Rattle.std.specs.List.{position};
 ghost use Rattle.calendar_groups.specs.Holidays.{group as group_of};
 ghost use Rattle.method_working.specs.Working.{rank_in};
@@ -11,7 +11,6 @@ ghost use Rattle.host_answer.specs.Names.{by_name};
 ghost use Rattle.host_working.specs.Told.{reason_number, day_numbers};
 ghost use Rattle.host_look_back.specs.Steps.{number_told, group_told, sum_told, rank_told, chosen_told, rank_there, takes};
 
-use engine_reasons::Summed;
 use engine_rooms::Directory;
 use engine_window::Window;
 use host_answer::told;
@@ -63,13 +62,11 @@ fn reason_number(reason: Reason) -> u32
 }
 
 // A sum, where there is one.
-fn tell_sum(sum: Summed) -> Option<i64>
+fn tell_sum(sum: Option<u64>) -> Option<i64>
+    requires { IfSome sum (λ x. x < 2 ^ 63) }
     ensures { result ≡ sum_told sum }
 {
-    match sum {
-        Summed::Sum(known) => Some(known),
-        Summed::Unsummed => None,
-    }
+    Some(sum? as i64)
 }
 
 // Where a day stands among the first `size`, counted from 0.

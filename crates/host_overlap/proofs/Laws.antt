@@ -7,7 +7,7 @@ use mathlib.Core.Logic.{⊎_elim}
 use native.Mathlib.Omega.{arith}
 use lib.Dec.{ltb}
 use lib.IntN.{ℤ}
-use Rattle.std.specs.Prelude.{Option, None}
+use Rattle.std.specs.Prelude.{Option, None, Result, Ok}
 use Rattle.base_lists.specs.Lists.{keep, all, any, member, least_of, places}
 use Rattle.base_lists.proofs.Bools.{clash, bool_cases, lt-or-le}
 use Rattle.base_lists.proofs.Keep.{member_head, member_tail, member_cases, keep_yes, keep_no, least_of_top, least_of-member}
@@ -24,8 +24,6 @@ use Rattle.method_laws.proofs.Short.{whole_enough, reach_whole}
 use Rattle.method_laws.proofs.Replies.{test, other, early_other, none_early, earlier_cases, hidden, margin_is}
 use Rattle.method_laws.proofs.ByList.{by_bad}
 use Rattle.file_record.specs.declared.Shape.{Shape}
-use Rattle.file_record.specs.declared.Read.{Read}
-use Rattle.file_record.specs.declared.Read.TheVariants.{File}
 use Rattle.file_record.specs.Reader.{read_file, list_in, request_at}
 use Rattle.host_answer.specs.Names.{told}
 use Rattle.host_overlap.specs.Overlap.{overlap_tests, needed_from, is_asked, needed_days, least_told, cut_from}
@@ -110,7 +108,7 @@ among moves request place (suc count) first low high a =
         (member_tail day (needed_from moves (request first)) (map (needed_from moves) (keep (is_asked moves) rest)) m))
         (λ n. rw (keep_no (is_asked moves) (request first) rest n) m) (bool_cases (is_asked moves (request first)))
 
-module _ (file : List ℕ) (shape : Shape) (accepted : read_file file ≡ File shape) (place : ℕ) (there : place < shape.events) (t : Table) (room : ℕ) where
+module _ (file : List ℕ) (shape : Shape) (accepted : read_file file ≡ Ok shape) (place : ℕ) (there : place < shape.events) (t : Table) (room : ℕ) where
   abbrev days : List ℕ
   days = needed_days (list_in file) (map (request_at file) (places shape.events 0))
 
@@ -118,7 +116,7 @@ module _ (file : List ℕ) (shape : Shape) (accepted : read_file file ≡ File s
   its a = among (list_in file) (request_at file) place shape.events 0 (omega arith) (omega arith) a
 
   read_is : {x : Option ℤ} → cut_from (read_file file) file ≡ x → least_told days ≡ x
-  read_is e = ap (λ (read : Read). cut_from read file) (sym accepted) ∙ e
+  read_is e = ap (λ (read : Result Shape Refusal). cut_from read file) (sym accepted) ∙ e
 
   by_asking : (is_asked (list_in file) (request_at file place) ≡ true → is_margin (verdict (list_in file) t (request_at file place) room) ≡ false)
       → is_margin (verdict (list_in file) t (request_at file place) room) ≡ false

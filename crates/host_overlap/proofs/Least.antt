@@ -6,13 +6,11 @@ use mathlib.Core.List.{List, [], ◌∷◌, map}
 use native.Mathlib.Numerals.{add-one}
 use native.Mathlib.Omega.{arith}
 use borrow.Author.Tests.{lt-ltb}
-use Rattle.std.specs.Prelude.{Option, Some, None}
+use Rattle.std.specs.Prelude.{Option, Some, None, Ok}
 use Rattle.std.specs.List.{fold, reduce, filter_map, cons_option, range_with_len}
 use Rattle.base_lists.specs.Lists.{keep, least_of, places}
 use Rattle.method.specs.declared.Request.{Request}
 use Rattle.file_record.specs.declared.Shape.{Shape}
-use Rattle.file_record.specs.declared.Read.TheVariants.{File}
-use Rattle.file_record.specs.declared.EventAt.TheVariants.{Event}
 use Rattle.file_record.specs.Reader.{read_file, list_in, request_at}
 use Rattle.file_record.specs.Steps.{event_within}
 use Rattle.file_record.proofs.Events.{within_is}
@@ -44,8 +42,8 @@ least_none [] e = refl
 least_none (x ∷ days) e = absurd (let z : ◌≡◌ {A = ℕ} 0 1 = cc in omega arith)
 
 -- ---- the days of a file's events
-module _ (file : List ℕ) {shape : Shape} (r : read_file file ≡ File shape) where
-  event_in : (place : ℕ) → place < shape.events → event_within shape file place ≡ Event (request_at file place)
+module _ (file : List ℕ) {shape : Shape} (r : read_file file ≡ Ok shape) where
+  event_in : (place : ℕ) → place < shape.events → event_within shape file place ≡ Ok (request_at file place)
   event_in place h = within_is file place r ∙ rw (r, lt-ltb place shape.events h) refl
 
   module _ (moves : List ℕ) where

@@ -2,9 +2,8 @@
 // be cut.
 #![tactic(auto)]
 
-ghost use Rattle.std.specs.Prelude.{◌≡◌, ◌-◌, ◌≤◌, min};
+ghost use Rattle.std.specs.Prelude.{◌≡◌, ◌-◌, ◌≤◌, min, Ok};
 ghost use Rattle.std.specs.List.{reduce, filter_map, range_with_len};
-ghost use Rattle.file_record.specs.declared.Read.TheVariants.{File};
 ghost use Rattle.file_record.specs.Reader.{read_file};
 ghost use Rattle.file_record.specs.Steps.{event_within};
 ghost use Rattle.file_days.specs.Steps.{holds_day};
@@ -14,14 +13,13 @@ ghost use Rattle.host_overlap.specs.Overlap.{overlap_tests, enough_days, numbers
 ghost use Rattle.host_overlap.specs.Steps.{needed, needed_there};
 
 use calendar_groups::MOST_MOVES;
-use engine_refusals::Tested;
 use engine_rooms::{DAYS, Directory};
-use file_record::{EventAt, Read, Shape};
+use file_record::Shape;
 use host_answer::{names, tell_refusal, told};
 use method::{QUARTERS, Refusal, Request};
 
 // 14, 4 and 6 of a request: what it is refused for where its own day is held and there is room for any event.
-fn of_event(moves: &[u32], request: Request) -> Tested
+fn of_event(moves: &[u32], request: Request) -> Result<(), Refusal>
     ensures { result ≡ tested (overlap_tests moves.now request) }
 {
     if calendar_groups::is_good_list(moves) {
@@ -32,7 +30,7 @@ fn of_event(moves: &[u32], request: Request) -> Tested
         };
         engine_refusals::of_request(request, own, QUARTERS)
     } else {
-        Tested::Failed(Refusal::BadMoves)
+        Err(Refusal::BadMoves)
     }
 }
 
@@ -62,8 +60,8 @@ fn tell_event(shape: Shape, moves: &[u32], request: Request, name: u32) -> Optio
     ensures { result ≡ by_name (row_after (overlap_tests moves.now request) (row_from 41 (numbers_of (holds_day shape request.event) (request.event - shape.first) (enough_days moves.now request) request.event))) name }
 {
     match of_event(moves, request) {
-        Tested::Failed(refusal) => tell_refusal(refusal, name),
-        Tested::Passed => {
+        Err(refusal) => tell_refusal(refusal, name),
+        Ok(()) => {
             let event = request.event;
             let there = file_days::holds(shape, event);
             let far = engine_relevant::whole_reach(moves, request);
@@ -74,18 +72,17 @@ fn tell_event(shape: Shape, moves: &[u32], request: Request, name: u32) -> Optio
 
 // Of the event at a place of a file of this shape, with its list of moves.
 fn tell_at(file: &[u8], shape: Shape, place: usize, name: u32) -> Option<i64>
-    requires { read_file file.now ≡ File shape }
+    requires { read_file file.now ≡ Ok shape }
     ensures { result ≡ by_name (overlap_row file.now place) name }
 {
     match file_events::event_within(file, shape, place) {
-        EventAt::Refused(at) => tell_refusal(Refusal::BadFile(at), name),
-        EventAt::NoEvent => tell_refusal(Refusal::NoEvent, name),
-        EventAt::Event(request) => {
+        Ok(request) => {
             let mut moves = [0u32; 2 * MOST_MOVES];
             file_moves::load_list(file, shape, &mut moves);
             let numbers = 2 * (shape.moves as usize);
             tell_event(shape, &moves[..numbers], request, name)
         }
+        Err(refusal) => tell_refusal(refusal, name),
     }
 }
 
@@ -95,8 +92,8 @@ pub fn tell_overlap(file: &[u8], place: usize, name: u32) -> Option<i64>
     ensures { result ≡ by_name (overlap_row file.now place) name }
 {
     match file_reading::read_file(file) {
-        Read::Refused(at) => tell_refusal(Refusal::BadFile(at), name),
-        Read::File(shape) => tell_at(file, shape, place, name),
+        Ok(shape) => tell_at(file, shape, place, name),
+        Err(refusal) => tell_refusal(refusal, name),
     }
 }
 
@@ -106,11 +103,11 @@ fn needed_from(moves: &[u32], request: Request) -> Option<u32>
     ensures { result ≡ needed moves.now request }
 {
     match of_event(moves, request) {
-        Tested::Failed(_) => None,
-        Tested::Passed => {
+        Ok(()) => {
             let far = engine_relevant::whole_reach(moves, request);
             Some(request.event.saturating_sub(far))
         }
+        Err(_) => None,
     }
 }
 
@@ -120,9 +117,8 @@ fn needed_at(file: &[u8], shape: Shape, moves: &[u32], place: usize) -> Option<u
     ensures { result ≡ needed_there moves.now (event_within shape file.now place) }
 {
     match file_events::event_within(file, shape, place) {
-        EventAt::Event(request) => needed_from(moves, request),
-        EventAt::NoEvent => None,
-        EventAt::Refused(_) => None,
+        Ok(request) => needed_from(moves, request),
+        Err(_no_event) => None,
     }
 }
 
@@ -138,7 +134,7 @@ fn least_needed(file: &[u8], shape: Shape, moves: &[u32]) -> Option<u32>
 
 // The first day to cut the days of a file of this shape from.
 fn cut_within(file: &[u8], shape: Shape) -> Option<i64>
-    requires { read_file file.now ≡ File shape }
+    requires { read_file file.now ≡ Ok shape }
     ensures { result ≡ cut_from (read_file file.now) file.now }
 {
     let mut moves = [0u32; 2 * MOST_MOVES];
@@ -153,7 +149,7 @@ pub fn cut_from(file: &[u8]) -> Option<i64>
     ensures { result ≡ cut_from (read_file file.now) file.now }
 {
     match file_reading::read_file(file) {
-        Read::Refused(_) => None,
-        Read::File(shape) => cut_within(file, shape),
+        Ok(shape) => cut_within(file, shape),
+        Err(_bad_file) => None,
     }
 }

@@ -5,7 +5,7 @@ ghost use Rattle.std.specs.Prelude.{◌≡◌};
 ghost use Rattle.calendar_dates.specs.Days.{numbered, dated};
 ghost use Rattle.host_plain.specs.Plain.{date_written, day_told, month_digits, date_digits, date_told, version as version_of};
 
-use calendar_dates::{Date, Dated, Numbered};
+use calendar_dates::Date;
 use host_answer::told;
 
 // The version of include/honeyplank.h that these entries are of.
@@ -15,10 +15,7 @@ const VERSION: u32 = 700;
 pub fn day_of(year: u32, month: u32, day: u32) -> Option<i64>
     ensures { result ≡ day_told (numbered (date_written year month day)) }
 {
-    match calendar_dates::day_number(Date { year, month, day }) {
-        Numbered::Day(known) => told(known),
-        Numbered::NoSuchDate => None,
-    }
+    told(Date { year, month, day }.day_number()?)
 }
 
 // A date's month and day as one number.
@@ -39,10 +36,8 @@ fn digits_of(date: Date) -> u64
 pub fn date_of(day: u32) -> Option<i64>
     ensures { result ≡ date_told (dated day) }
 {
-    match calendar_dates::date_of(day) {
-        Dated::On(date) => Some(digits_of(date) as i64),
-        Dated::PastCalendar => None,
-    }
+    let date = Date::of_day(day)?;
+    Some(digits_of(date) as i64)
 }
 
 pub fn version() -> u32

@@ -1,11 +1,11 @@
 -- What is told of the adjustment and of a quarter, one law for each way out of the code.
 use Prim.Native.Nat.{ℕ, zero, suc, ◌≤◌, ◌<◌}
-use mathlib.Core.Path.{◌≡◌, refl, ap}
+use mathlib.Core.Path.{◌≡◌, refl, sym, ap}
 use mathlib.Core.Bool.{Bool, true, false, not, cond, ◌&&◌, ◌||◌, and-true, true≢false}
 use mathlib.Core.List.{List}
 use mathlib.Core.Logic.{⊎_elim}
 use native.Mathlib.Omega.{arith}
-use borrow.Author.Tests.{eq-eqb, ne_eqb, lt-ltb, le-ltb, le-leb, lt-leb}
+use borrow.Author.Tests.{ne_eqb, lt-ltb, le-ltb, le-leb, lt-leb}
 use lib.ListN.{length}
 use lib.IntN.{ℤ, pos}
 use lib.Dec.{leb, ltb, eqb}
@@ -21,6 +21,8 @@ use Rattle.method_working.specs.Working.{chooses, along, ends, adjusts, answers}
 use Rattle.method_working.specs.Sheet.{sheet_of, adjustment_shown, numerator_shown}
 use Rattle.method_working.proofs.ByRank.{chosen_size}
 use Rattle.std.specs.Prelude.{Option, Some, None}
+use Rattle.engine_adjustment.specs.Steps.{found}
+use Rattle.engine_adjustment.proofs.Windows.{found_none, found_some, found_past}
 use Rattle.engine_baseline.specs.Engine.{with_days}
 use Rattle.host_answer.specs.Names.{told, by_name, told_if}
 use Rattle.host_answer.proofs.Telling.{past}
@@ -46,20 +48,20 @@ module _ (group : ℕ → Group) (r : Request) (h : History Day) where
   none_chosen e = none_of_three (unfold adjusts in rw e)
 
   module _ (some : chooses group r h ≡ true) where
-    pub of_average : r.method ≡ 1 → (place : ℕ) → None ≡ by_name (adjustment_numbers group r h) place
-    of_average e = none_of_three (unfold adjusts in rw (some, eq-eqb r.method 1 e))
+    pub of_average : is_average r ≡ true → (place : ℕ) → None ≡ by_name (adjustment_numbers group r h) place
+    of_average e = none_of_three (unfold adjusts in rw (some, e))
 
-    module _ (high : r.method ≡ 1 → ⊥) {end : ℕ} (found : end ≡ adjustment_end r (along r h)) where
-      is : end ≡ ends r h
-      is = unfold ends in found
+    module _ (high : is_average r ≡ false) where
+      pub no_window : found (adjustment_end r (along r h)) ≡ None → (place : ℕ) → None ≡ by_name (adjustment_numbers group r h) place
+      no_window e = none_of_three (unfold adjusts ends in rw (some, high, found_none (adjustment_end r (along r h)) (sym e)))
 
-      pub no_window : end ≡ 0 → (place : ℕ) → None ≡ by_name (adjustment_numbers group r h) place
-      no_window e = none_of_three (unfold adjusts in rw (some, ne_eqb r.method 1 high, ← is, eq-eqb end 0 e))
+      module _ {end : ℕ} (f : found (adjustment_end r (along r h)) ≡ Some end) where
+        is : end ≡ ends r h
+        is = unfold ends in found_some (adjustment_end r (along r h)) end (sym f)
 
-      module _ (n : end ≡ 0 → ⊥) where
         adjusted : adjusts group r h ≡ true
         unfolding adjusts
-        adjusted = rw (some, ne_eqb r.method 1 high, ← is, ne_eqb end 0 n)
+        adjusted = rw (some, high, ← is, ne_eqb end 0 (found_past (adjustment_end r (along r h)) end (sym f)))
 
         pub end_told : {place : ℕ} → place ≡ 0 → told end ≡ by_name (adjustment_numbers group r h) place
         unfolding adjustment_numbers by_name

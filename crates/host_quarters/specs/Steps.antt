@@ -18,9 +18,3 @@ numerator_of r h days count sum =
     let end = adjustment_end r line in
     cond (is_average r) (told sum)
     (told_if (not (eqb end 0)) (Some (unfloored 12 sum (adjustment count (A line end) (B r.event (with_days h days) end)))))
-
--- whether days are chosen, and which
-pub record Picks (group : ℕ → Group) (r : Request) (h : History Day) (picked : Option Chosen) : Type 0 where
-  pub some : is_some picked ≡ chooses group r h
-  pub days : (c : Chosen) → picked ≡ Some c → with_days h (take c.count c.days) ≡ chosen (method_of group r) h
-  pub count : (c : Chosen) → picked ≡ Some c → c.count ≡ length (chosen (method_of group r) h)

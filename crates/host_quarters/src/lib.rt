@@ -7,13 +7,12 @@ ghost use Rattle.calendar_groups.specs.Holidays.{group as group_of};
 ghost use Rattle.engine_rooms.specs.Rooms.{room_history};
 ghost use Rattle.host_answer.specs.Names.{told, by_name};
 ghost use Rattle.host_working.specs.Told.{adjustment_numbers, quarter_numbers};
-ghost use Rattle.host_quarters.specs.Steps.{Picks, numerator_of};
+ghost use Rattle.host_quarters.specs.Steps.{numerator_of};
 
 use engine_answer::Chosen;
-use engine_choice::Choosing;
 use engine_rooms::Directory;
 use host_answer::told;
-use method::Request;
+use method::{Method, Request};
 
 // The places of the row of an adjustment window, and of that of a quarter.
 const END: u32 = 0;
@@ -34,18 +33,6 @@ fn told_sum(sum: u64) -> Option<i64>
     Some(sum as i64)
 }
 
-// The days that are chosen, where any are.
-fn pick(moves: &[u32], request: Request, rooms: Directory, readings: &[u32]) -> Option<Chosen>
-    ensures { Picks (group_of moves.now) request (room_history request rooms readings.now) result }
-{
-    let choice = engine_choice::choose(moves, request, rooms, readings);
-    match choice.choosing {
-        Choosing::Short(_) => None,
-        Choosing::Few { size: _, reach: _ } => None,
-        Choosing::Days => Some(choice.chosen),
-    }
-}
-
 // Of the adjustment window: where it ends, A and B.
 pub fn tell_adjustment(
     moves: &[u32],
@@ -56,22 +43,27 @@ pub fn tell_adjustment(
 ) -> Option<i64>
     ensures { result ≡ by_name (adjustment_numbers (group_of moves.now) request (room_history request rooms readings.now)) place }
 {
-    let chosen = pick(moves, request, rooms, readings)?;
-    if request.method == method::AVERAGE_X_OF_Y {
+    let Ok(chosen) = engine_choice::choose(moves, request, rooms, readings) else {
         return None;
-    }
-    let end = engine_quarters::adjustment_end(request, rooms, readings);
-    if end == 0 {
-        return None;
-    }
-    match place {
-        END => told(end),
-        OWN => told_sum(engine_quarters::own_sum(request, rooms, readings, end)),
-        USUAL => {
-            let days = chosen.days;
-            told_sum(engine_quarters::usual_sum(request, rooms, readings, days, chosen.count, end))
+    };
+    match request.method() {
+        Method::AverageXOfY => None,
+        Method::HighXOfY => {
+            let end = engine_quarters::adjustment_end(request, rooms, readings)?;
+            match place {
+                END => told(end),
+                OWN => told_sum(engine_quarters::own_sum(request, rooms, readings, end)),
+                USUAL => told_sum(engine_quarters::usual_sum(
+                    request,
+                    rooms,
+                    readings,
+                    chosen.days,
+                    chosen.count,
+                    end,
+                )),
+                _ => None,
+            }
         }
-        _ => None,
     }
 }
 
@@ -86,17 +78,16 @@ fn tell_numerator(
     requires { (chosen.count ≤ 5) × (sum ≤ 21474836475) }
     ensures { result ≡ numerator_of request (room_history request rooms readings.now) (take chosen.count chosen.days) chosen.count sum }
 {
-    if request.method == method::AVERAGE_X_OF_Y {
-        return told_sum(sum);
+    match request.method() {
+        Method::AverageXOfY => told_sum(sum),
+        Method::HighXOfY => {
+            let end = engine_quarters::adjustment_end(request, rooms, readings)?;
+            let count = chosen.count;
+            let own = engine_quarters::own_sum(request, rooms, readings, end);
+            let usual = engine_quarters::usual_sum(request, rooms, readings, chosen.days, count, end);
+            Some((12 * sum + (count as u64) * own) as i64 - usual as i64)
+        }
     }
-    let end = engine_quarters::adjustment_end(request, rooms, readings);
-    if end == 0 {
-        return None;
-    }
-    let days = chosen.days;
-    let own = engine_quarters::own_sum(request, rooms, readings, end);
-    let usual = engine_quarters::usual_sum(request, rooms, readings, days, chosen.count, end);
-    Some((12 * sum + (chosen.count as u64) * own) as i64 - usual as i64)
 }
 
 // Of a ruler quarter: S(t), and of an event's quarter the numerator before the floor.
@@ -110,7 +101,9 @@ pub fn tell_quarter(
 ) -> Option<i64>
     ensures { result ≡ by_name (quarter_numbers (group_of moves.now) request (room_history request rooms readings.now) t) place }
 {
-    let chosen = pick(moves, request, rooms, readings)?;
+    let Ok(chosen) = engine_choice::choose(moves, request, rooms, readings) else {
+        return None;
+    };
     let days = chosen.days;
     let sum = engine_quarters::quarter_sum(request, rooms, readings, days, chosen.count, t);
     match place {

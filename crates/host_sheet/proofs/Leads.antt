@@ -8,7 +8,7 @@ use native.Mathlib.Omega.{arith}
 use borrow.Author.Tests.{not-true, le-leb, lt-ltb}
 use lib.Dec.{eqb}
 use lib.IntN.{ℤ}
-use Rattle.std.specs.Prelude.{Option}
+use Rattle.std.specs.Prelude.{Option, Result, Ok, Err}
 use Rattle.base_lists.proofs.Bools.{bool_cases, and_left, and_right}
 use Rattle.calendar_groups.specs.declared.Group.{Group}
 use Rattle.calendar_groups.specs.Holidays.{good_moves, group}
@@ -26,12 +26,10 @@ use Rattle.method_laws.proofs.ByList.{by_bad, by_answered}
 use Rattle.method_working.specs.Working.{chooses, ends, adjusts, answers}
 use Rattle.method_working.specs.Sheet.{sheet_of}
 use Rattle.method_working.proofs.Leads.{leads, has_baseline}
-use Rattle.engine_refusals.specs.declared.Tested.TheVariants.{Passed}
 use Rattle.engine_refusals.specs.Steps.{tested}
 use Rattle.engine_refusals.proofs.FirstRefusal.{request_passed, good_request_lem, fits}
 use Rattle.engine_refusals.proofs.Replies.{answered_past}
-use Rattle.file_record.specs.declared.EventAt.{EventAt}
-use Rattle.file_record.specs.declared.EventAt.TheVariants.{Event, NoEvent as NoneThere, Refused}
+use Rattle.method.specs.declared.Refusal.{Refusal}
 use Rattle.file_record.specs.Reader.{read_file, list_in, table_in, event_at_place}
 use Rattle.file_baseline.specs.Reply.{reply_to, file_reply}
 use Rattle.host_answer.specs.Names.{told, by_name}
@@ -83,7 +81,7 @@ module _ (group : ℕ → Group) (r : Request) (h : History Day) (yes : answers 
 
 -- ---- an answer over a table means that its working is told
 module _ (moves : List ℕ) (t : Table) (r : Request) (room : ℕ) {a : Answer} (e : verdict moves t r room ≡ answered a) where
-  past_table : (tested (table_refusals t) ≡ Passed) × (by_list moves (history t) r room ≡ answered a)
+  past_table : (tested (table_refusals t) ≡ Ok tt) × (by_list moves (history t) r room ≡ answered a)
   unfolding verdict
   past_table = answered_past (table_refusals t) (by_list moves (history t) r room) e
 
@@ -95,12 +93,12 @@ module _ (moves : List ℕ) (t : Table) (r : Request) (room : ℕ) {a : Answer} 
   pub by_method : methodology (group moves) (history t) r room ≡ answered a
   by_method = by_answered moves (history t) r room past_table.1
 
-  past_request : tested (request_refusals (history t) r room) ≡ Passed
+  past_request : tested (request_refusals (history t) r room) ≡ Ok tt
   unfolding methodology
   past_request = (answered_past (request_refusals (history t) r room) (closing (outcome (method_of (group moves) r) (history t))) by_method).0
 
   -- with room for any event the request passes too
-  past_any : tested (request_refusals (history t) r most_quarters) ≡ Passed
+  past_any : tested (request_refusals (history t) r most_quarters) ≡ Ok tt
   past_any =
       let f = request_passed (history t) r room past_request in
       let g = good_request_lem r f.request in
@@ -111,11 +109,10 @@ module _ (moves : List ℕ) (t : Table) (r : Request) (room : ℕ) {a : Answer} 
 
 -- ---- of a file
 module _ (file : List ℕ) (place room : ℕ) (a : Answer) where
-  there : (v : EventAt) → event_at_place (read_file file) file place ≡ v → reply_to v (list_in file) (table_in file) room ≡ answered a
-      → (r : Request) × (event_at_place (read_file file) file place ≡ Event r) × ToldSheet file place r a
-  there (Refused start) e k = absurd (never_both refl k)
-  there NoneThere e k = absurd (never_both refl k)
-  there (Event r) e k =
+  there : (v : Result Request Refusal) → event_at_place (read_file file) file place ≡ v → reply_to v (list_in file) (table_in file) room ≡ answered a
+      → (r : Request) × (event_at_place (read_file file) file place ≡ Ok r) × ToldSheet file place r a
+  there (Err w) e k = absurd (never_both refl k)
+  there (Ok r) e k =
       let moves = list_in file in
       let t = table_in file in
       let m = by_method moves t r (room / 4) k in
@@ -136,8 +133,8 @@ module _ (file : List ℕ) (place room : ℕ) (a : Answer) where
         },
       )
     where
-      sheet_there : (at : ℕ) → event_at_place (read_file file) file place ≡ Event r → file_sheet file place at ≡ table_sheet (list_in file) (table_in file) r at
-      sheet_there at e = unfold file_sheet in ap (λ (v : EventAt). sheet_at v (list_in file) (table_in file) at) e
+      sheet_there : (at : ℕ) → event_at_place (read_file file) file place ≡ Ok r → file_sheet file place at ≡ table_sheet (list_in file) (table_in file) r at
+      sheet_there at e = unfold file_sheet in ap (λ (v : Result Request Refusal). sheet_at v (list_in file) (table_in file) at) e
 
 pub file_leads : FileLeads
 unfolding file_reply

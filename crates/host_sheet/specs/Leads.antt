@@ -1,11 +1,10 @@
 -- What hp_working tells of an answered event leads to its answer: `file_leads` of `proofs/Leads.antt` proves it.
-use Rattle.std.specs.Prelude.{ℕ, ◌≤◌, ◌<◌, ◌≡◌, false, List, ℤ, Option}
+use Rattle.std.specs.Prelude.{ℕ, ◌≤◌, ◌<◌, ◌≡◌, false, List, ℤ, Option, Ok}
 use Rattle.method.specs.declared.Request.{Request}
 use Rattle.method.specs.Ruler.{ruler_end}
 use Rattle.method.specs.Adjustment.{is_average}
 use Rattle.method.specs.Verdict.{Answer, answered}
 use Rattle.method_working.specs.Sheet.{Sheet, Leads}
-use Rattle.file_record.specs.declared.EventAt.TheVariants.{Event}
 use Rattle.file_record.specs.Reader.{read_file, event_at_place}
 use Rattle.file_baseline.specs.Reply.{file_reply}
 use Rattle.host_answer.specs.Names.{told, by_name}
@@ -31,4 +30,4 @@ pub record ToldSheet (file : List ℕ) (place : ℕ) (r : Request) (a : Answer) 
 abbrev pub FileLeads : Type 0
 FileLeads =
     (file : List ℕ) (place room : ℕ) (a : Answer) → file_reply file place room ≡ answered a
-    → (r : Request) × (event_at_place (read_file file) file place ≡ Event r) × ToldSheet file place r a
+    → (r : Request) × (event_at_place (read_file file) file place ≡ Ok r) × ToldSheet file place r a

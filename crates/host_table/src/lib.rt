@@ -1,15 +1,13 @@
 // What a caller written in C is told by include/honeyplank.h of the working of an event over a lent table, by name. Total: any table, any list, any request.
 #![tactic(auto)]
 
-ghost use Rattle.std.specs.Prelude.{◌≡◌};
+ghost use Rattle.std.specs.Prelude.{◌≡◌, Ok};
 ghost use Rattle.method.specs.Verdict.{table_refusals};
 ghost use Rattle.table_days.specs.Lent.{table_of};
 ghost use Rattle.engine_refusals.specs.Steps.{tested};
-ghost use Rattle.engine_refusals.specs.declared.Tested.TheVariants.{Passed};
 ghost use Rattle.host_answer.specs.Names.{by_name};
 ghost use Rattle.host_table.specs.OverTable.{table_sheet};
 
-use engine_refusals::Tested;
 use host_answer::tell_refusal;
 use method::{QUARTERS, Refusal, Request};
 
@@ -24,7 +22,7 @@ fn tell_extract(
     at: u32,
     name: u32,
 ) -> Option<i64>
-    requires { tested (table_refusals (table_of first marks.now readings.now)) ≡ Passed }
+    requires { tested (table_refusals (table_of first marks.now readings.now)) ≡ Ok tt }
     ensures { result ≡ by_name (table_sheet moves.now (table_of first marks.now readings.now) request at) name }
 {
     if !calendar_groups::is_good_list(moves) {
@@ -32,8 +30,8 @@ fn tell_extract(
     }
     let rooms = table_directory::directory(first, marks, request.event);
     match engine_refusals::of_request(request, rooms, QUARTERS) {
-        Tested::Failed(refusal) => tell_refusal(refusal, name),
-        Tested::Passed => host_rooms::tell_working(moves, request, rooms, readings, at, name),
+        Err(refusal) => tell_refusal(refusal, name),
+        Ok(()) => host_rooms::tell_working(moves, request, rooms, readings, at, name),
     }
 }
 
@@ -51,7 +49,7 @@ pub fn tell_table(
     ensures { result ≡ by_name (table_sheet moves.now (table_of first marks.now readings.now) request at) name }
 {
     match table_refusals::of_table(first, marks, readings) {
-        Tested::Failed(refusal) => tell_refusal(refusal, name),
-        Tested::Passed => tell_extract(first, marks, readings, moves, request, at, name),
+        Err(refusal) => tell_refusal(refusal, name),
+        Ok(()) => tell_extract(first, marks, readings, moves, request, at, name),
     }
 }

@@ -7,11 +7,10 @@ use mir.ValLaws.{to_z_pos}
 use Rattle.std.specs.Prelude.{Some}
 use Rattle.host_answer.specs.Names.{told}
 use Rattle.host_calendar.proofs.Ways.{fixed_there}
-use Rattle.std.proofs.Common.{rules}
 use Rattle.host_calendar.proofs.tell_fixed.Goals as goal
 
-pub returns-in-On : goal.returns-in-On
-returns-in-On c =
+pub returns-then-is_fixed_holiday : goal.returns-then-is_fixed_holiday
+returns-then-is_fixed_holiday c =
     let small : c.month_digits.result < 2 ^ 63 = omega arith in
     ap Some (to_z_pos w64 c.month_digits.result small)
-    ∙ fixed_there c.args.day (sym c.in-On.is ∙ c.date_of.ensures) (search rules) (ap told c.month_digits.ensures)
+    ∙ fixed_there c.args.day (sym c.of_day.ensures ∙ c.in_ok-date.was) (sym c.is_fixed_holiday.ensures ∙ c.if-is_fixed_holiday.true) (ap told c.month_digits.ensures)

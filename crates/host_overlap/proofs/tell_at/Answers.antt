@@ -13,18 +13,12 @@ slice_bounds-moves-end c = omega (arith, list_few c.args.file.now c.requires)
 pub slice_bounds-tell_event-end : goal.slice_bounds-tell_event-end
 slice_bounds-tell_event-end c = sym (length-take-le (2 * c.args.shape.moves) _ (omega (arith, list_few c.args.file.now c.requires)))
 
-pub returns-in-Refused : goal.returns-in-Refused
-returns-in-Refused c =
-    of_place c.args.file.now c.args.place c.args.name c.requires c.event_within.ensures c.in-Refused.is
-    c.tell_refusal.ensures
+pub returns-in-Err : goal.returns-in-Err
+returns-in-Err c =
+    of_place c.args.file.now c.args.place c.args.name c.requires c.event_within.ensures c.in-Err.is c.tell_refusal.ensures
 
-pub returns-in-NoEvent : goal.returns-in-NoEvent
-returns-in-NoEvent c =
-    of_place c.args.file.now c.args.place c.args.name c.requires c.event_within.ensures c.in-NoEvent.is
-    c.tell_refusal-in-NoEvent.ensures
-
-pub returns-in-Event : goal.returns-in-Event
-returns-in-Event c =
-    of_place c.args.file.now c.args.place c.args.name c.requires c.event_within.ensures c.in-Event.is
-    (of_event c.args.file.now c.args.place c.args.name c.requires c.in-Event.request (list_first c.args.file.now c.requires _ (omega arith) c.load_list.ensures.said c.load_list.ensures.held)
+pub returns-in-Ok : goal.returns-in-Ok
+returns-in-Ok c =
+    of_place c.args.file.now c.args.place c.args.name c.requires c.event_within.ensures c.in-Ok.is
+    (of_event c.args.file.now c.args.place c.args.name c.requires c.in-Ok.request (list_first c.args.file.now c.requires _ (omega arith) c.load_list.ensures.said c.load_list.ensures.held)
     c.tell_event.ensures)

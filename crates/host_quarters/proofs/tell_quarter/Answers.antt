@@ -1,45 +1,48 @@
 -- `host_quarters::tell_quarter` meets its contract, way by way.
-use mathlib.Core.Path.{◌∙◌}
+use mathlib.Core.Path.{sym, ◌∙◌}
 use native.Mathlib.Omega.{arith}
 use Rattle.std.proofs.Common.{rules}
 use Rattle.calendar_groups.specs.Holidays.{group}
 use Rattle.engine_rooms.specs.Rooms.{room_history}
 use Rattle.engine_choice.proofs.Requested.{chosen_five}
-use Rattle.host_quarters.proofs.Picking.{some_picked, none_picked}
+use Rattle.host_quarters.proofs.Picking.{some_picked, none_picked, days_picked, count_picked}
 use Rattle.host_quarters.proofs.Ways.{quarter_none, sum_told, past_ruler, numerator_told, outside_event, past_quarter}
 use Rattle.host_quarters.proofs.tell_quarter.Goals as goal
 use Rattle.host_quarters.proofs.tell_quarter.Goals.{else-request-t-via-then-request-t+else-t-request, else-request-t-via-else-request-t}
 
-pub returns-in_err-chosen : goal.returns-in_err-chosen
-returns-in_err-chosen c = c.from_residual.ensures ∙ quarter_none _ _ _ (none_picked c.pick.ensures c.in_err-chosen.was) c.args.t c.args.place
+pub returns-in_default : goal.returns-in_default
+returns-in_default c = quarter_none _ _ _ (none_picked _ _ _ c.in_default.ensures) c.args.t c.args.place
 
 pub returns-then-t-end : goal.returns-then-t-end
 returns-then-t-end c =
     c.told_sum.ensures
-    ∙ sum_told _ _ _ (some_picked c.pick.ensures c.in_ok-chosen.was) c.args.t c.in-0.is c.end.ensures c.if-t-end.true c.quarter_sum-sum.ensures.0
-    (c.pick.ensures.days _ c.in_ok-chosen.was)
+    ∙ sum_told _ _ _ (some_picked _ _ _ c.in-Ok.ensures) c.args.t c.in-0.is c.end.ensures c.if-t-end.true c.quarter_sum-sum.ensures.0
+    (days_picked _ _ _ c.in-Ok.ensures)
 
 pub returns-else-t-end : goal.returns-else-t-end
-returns-else-t-end c =
-    past_ruler _ _ _ (some_picked c.pick.ensures c.in_ok-chosen.was) c.args.t c.in-0.is c.end.ensures c.if-t-end.false
+returns-else-t-end c = past_ruler _ _ _ (some_picked _ _ _ c.in-Ok.ensures) c.args.t c.in-0.is c.end.ensures c.if-t-end.false
 
 pub tell_numerator-requires : goal.tell_numerator-requires
 tell_numerator-requires c =
-    (omega (arith, c.pick.ensures.count _ c.in_ok-chosen.was, chosen_five (group c.args.moves.now) c.args.request (room_history c.args.request c.args.rooms c.args.readings.now)), c.quarter_sum-sum.ensures.1)
+    let a = c.args in
+    (
+      omega (arith, count_picked _ _ _ c.in-Ok.ensures, chosen_five (group a.moves.now) a.request (room_history a.request a.rooms a.readings.now)),
+      c.quarter_sum-sum.ensures.1,
+    )
 
 pub returns-then-t-request : goal.returns-then-t-request
 returns-then-t-request c =
     c.tell_numerator.ensures
-    ∙ numerator_told _ _ _ (some_picked c.pick.ensures c.in_ok-chosen.was) c.args.t _ c.quarter_sum-sum.ensures.0 (c.pick.ensures.days _ c.in_ok-chosen.was)
-    (c.pick.ensures.count _ c.in_ok-chosen.was) c.in-1.is c.if-request-t.true c.if-t-request.true
+    ∙ numerator_told _ _ _ (some_picked _ _ _ c.in-Ok.ensures) c.args.t _ c.quarter_sum-sum.ensures.0 (days_picked _ _ _ c.in-Ok.ensures)
+    (count_picked _ _ _ c.in-Ok.ensures) c.in-1.is c.if-request-t.true c.if-t-request.true
 
 pub returns-else-request-t : goal.returns-else-request-t
 returns-else-request-t c =
-    let nothing = outside_event _ _ _ (some_picked c.pick.ensures c.in_ok-chosen.was) c.args.t c.in-1.is in
+    let nothing = outside_event _ _ _ (some_picked _ _ _ c.in-Ok.ensures) c.args.t c.in-1.is in
     elim c.else-request-t.branch [
-      | else-request-t-via-then-request-t+else-t-request w ↦ nothing (λ s. w.if-t-request.false)
-      | else-request-t-via-else-request-t w ↦ nothing (λ s. absurd (omega (arith, w.if-request-t.false)))
+      else-request-t-via-then-request-t+else-t-request w ↦ nothing (λ s. w.if-t-request.false)
+    | else-request-t-via-else-request-t w ↦ nothing (λ s. absurd (omega (arith, w.if-request-t.false)))
     ]
 
-pub returns-in_default : goal.returns-in_default
-returns-in_default c = past_quarter _ _ _ (some_picked c.pick.ensures c.in_ok-chosen.was) _ c.args.place (λ e. search rules) (λ e. search rules)
+pub returns-in_default-place : goal.returns-in_default-place
+returns-in_default-place c = past_quarter _ _ _ (some_picked _ _ _ c.in-Ok.ensures) _ c.args.place (λ e. search rules) (λ e. search rules)

@@ -5,16 +5,16 @@ use Rattle.table_days.specs.Lent.{table_of}
 use Rattle.host_table.proofs.Tests.{request_told, working_told}
 use Rattle.host_table.proofs.tell_extract.Goals as goal
 
-pub returns-in-Failed : goal.returns-in-Failed
-returns-in-Failed c =
+pub returns-in-Err : goal.returns-in-Err
+returns-in-Err c =
     let a = c.args in
     let rooms = c.directory-rooms.ensures a.readings.now in
     request_told a.moves.now (table_of a.first a.marks.now a.readings.now) a.request a.at a.name c.requires (search rules)
-    (rw rooms at (sym (c.of_request.ensures a.readings.now) ∙ c.in-Failed.is)) c.tell_refusal-in-Failed.ensures
+    (rw rooms at (sym (c.of_request.ensures.first a.readings.now) ∙ c.in-Err.is)) c.tell_refusal-in-Err.ensures
 
-pub returns-in-Passed : goal.returns-in-Passed
-returns-in-Passed c =
+pub returns-in-Ok : goal.returns-in-Ok
+returns-in-Ok c =
     let a = c.args in
     let rooms = c.directory-rooms.ensures a.readings.now in
     working_told a.moves.now (table_of a.first a.marks.now a.readings.now) a.request a.at a.name c.requires (search rules)
-    (rw rooms at (sym (c.of_request.ensures a.readings.now) ∙ c.in-Passed.is)) (rw rooms at c.tell_working.ensures)
+    (rw rooms at (sym (c.of_request.ensures.first a.readings.now) ∙ c.in-Ok.is)) (rw rooms at c.tell_working.ensures)
