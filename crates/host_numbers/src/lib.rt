@@ -16,10 +16,10 @@ pub fn tell_number(found: Option<u32>) -> Option<i64>
 }
 
 // Of a file that was to be written, or of a listing: its length, or minus the number of the refusal.
-pub fn tell_length(length: Result<u32, Refusal>) -> i64
-    ensures { result ≡ length_told length }
+pub fn tell_length(answer: Result<u32, Refusal>) -> i64
+    ensures { result ≡ length_told answer }
 {
-    match length {
+    match answer {
         Ok(size) => i64::from(size),
         Err(refusal) => -i64::from(refusal.number()),
     }
