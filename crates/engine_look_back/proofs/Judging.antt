@@ -12,11 +12,9 @@ use Rattle.method.specs.declared.Request.{Request}
 use Rattle.method.specs.Table.{size, most_quarters, missing}
 use Rattle.method.specs.Ruler.{against}
 use Rattle.method.specs.Eligible.{event_sum}
-use Rattle.method.proofs.Tables.{size_most}
 use Rattle.engine_ranking.specs.Steps.{word}
 use Rattle.engine_rooms.specs.declared.Directory.{Directory}
 use Rattle.engine_rooms.specs.Rooms.{readings_at, room_day}
-use Rattle.engine_rooms.proofs.Parts.{part_few}
 use Rattle.engine_judging.specs.Steps.{day_from, word_at, judged_at}
 use Rattle.engine_judging.specs.declared.Judged.{Judged}
 use Rattle.engine_look_back.specs.declared.Found.{Found}
@@ -28,10 +26,6 @@ pub room_back : (r : Request) (rooms : Directory) (readings : List ℕ) (back : 
     → part ≡ readings_at k readings (get_or rooms.at back 0) → day_from (get_or rooms.marks back 0) part ≡ rooms_of r rooms readings (r.event - back)
 unfolding room_day
 room_back r rooms readings back h e p = let w : r.event - (r.event - back) ≡ back = omega arith in rw (p, e, w)
-
--- it has no more readings than a day
-pub part_most : (readings : List ℕ) (at d : ℕ) {k : ℕ} → k ≡ size d → length (readings_at k readings at) ≤ most_quarters
-part_most readings at d {k} e = omega (arith, part_few k readings at, size_most d)
 
 module _ {r : Request} {back : ℕ} {found : Found} (next : Further r back found) (mark : ℕ) (part : List ℕ) (few : length part ≤ most_quarters)
     (small : (i : ℕ) → get_or part i 0 < 2 ^ 32) where

@@ -2,20 +2,18 @@
 // days"). Total: for any group and any number of days asked for.
 #![tactic(auto)]
 
-ghost use Rattle.std.specs.Prelude.{◌≡◌, ◌+◌, ◌-◌, ◌≤◌, min, length};
+ghost use Rattle.std.specs.Prelude.{◌≡◌, ◌+◌, ◌-◌, min};
 ghost use Rattle.calendar_groups.specs.Holidays.{group as group_of};
-ghost use Rattle.method.specs.Table.{most_quarters};
 ghost use Rattle.engine_relevant.specs.Steps.{relevant_to};
 ghost use Rattle.engine_ranking.specs.Steps.{most_words};
-ghost use Rattle.engine_judging.specs.Steps.{day_from};
+ghost use Rattle.engine_rooms.specs.Rooms.{room_day};
 ghost use Rattle.engine_look_back.specs.Steps.{held_days, up_to, if_relevant, with_spare, needless, Looked, Further, Adds};
 
 use calendar_groups::Group;
 use engine_judging::Judged;
 use engine_ranking::Ranking;
-use engine_rooms::Directory;
+use engine_rooms::Case;
 use engine_rules::SpareOrder;
-use method::Request;
 
 // What was found looking back: the eligible days by rank, how far back the last of them lies, and the spare days in the order that they fill a shortage
 // in; of those that fill latest first the ten latest alone.
@@ -48,25 +46,18 @@ fn is_needless(spares: SpareOrder, count: u32, mark: u8) -> bool
 }
 
 // One more day is looked at, `back` days before the event.
-fn look_at(
-    moves: &[u32],
-    request: Request,
-    group: Group,
-    spares: SpareOrder,
-    back: u32,
-    mark: u8,
-    part: &[u32],
-    found: &mut Found,
-)
-    requires next { Further request back found.old }
-    requires few { length part.now ≤ most_quarters }
-    ensures { Adds request spares back (if_relevant (relevant_to (group_of moves.now) group request) (request.event - back, day_from mark part.now)) found.old found.new }
+fn look_at(case: &Case<'_>, group: Group, spares: SpareOrder, back: u32, found: &mut Found)
+    requires next { Further case.now.request back found.old }
+    ensures { Adds case.now.request spares back (if_relevant (relevant_to (group_of case.now.moves.now) group case.now.request) (case.now.request.event - back, room_day case.now.request.event case.now.rooms.now case.now.readings.now back)) found.old found.new }
 {
+    let request = case.request;
+    let mark = case.rooms.marks[back as usize];
     if is_needless(spares, found.spare.count, mark)
-        || !engine_relevant::relevant(moves, request, group, request.event - back)
+        || !engine_relevant::relevant(case.moves, request, group, request.event - back)
     {
         return;
     }
+    let part = case.part(back);
     match engine_judging::judge(request, mark, part, back) {
         Some(Judged::Eligible(word)) => {
             found.eligible.insert(word);
@@ -85,18 +76,10 @@ fn held_before(event: u32, held: u32) -> u32
 }
 
 // The look back over the days held before an event of this group, nearest first. It ends at the `most`th eligible day.
-pub fn look(
-    moves: &[u32],
-    request: Request,
-    group: Group,
-    most: u32,
-    spares: SpareOrder,
-    rooms: Directory,
-    readings: &[u32],
-) -> Found
-    ensures { Looked request spares (up_to most (held_days (group_of moves.now) group request rooms readings.now)) result }
+pub fn look(case: &Case<'_>, group: Group, most: u32, spares: SpareOrder) -> Found
+    ensures { Looked case.now.request spares (up_to most (held_days (group_of case.now.moves.now) group case.now.request case.now.rooms.now case.now.readings.now)) result }
 {
-    let before = held_before(request.event, rooms.held);
+    let before = held_before(case.request.event, case.rooms.held);
     let mut found = Found {
         eligible: Ranking::new(),
         oldest: 0,
@@ -107,20 +90,7 @@ pub fn look(
         if found.eligible.count == most {
             return found;
         }
-        let back = nearer + 1;
-        let place = back as usize;
-        let size = day_ruler::size(request.event - back);
-        let part = engine_rooms::readings_at(readings, rooms.at[place], size);
-        look_at(
-            moves,
-            request,
-            group,
-            spares,
-            back,
-            rooms.marks[place],
-            part,
-            &mut found,
-        );
+        look_at(case, group, spares, nearer + 1, &mut found);
     }
     found
 }

@@ -2,39 +2,27 @@
 // for any rooms, and any number of days before the event.
 #![tactic(auto)]
 
-ghost use Rattle.std.specs.Prelude.{◌≡◌, ◌+◌, ◌-◌, ◌^◌, ◌≤◌, ◌<◌, length, get_or, IfSome};
+ghost use Rattle.std.specs.Prelude.{◌≡◌, ◌+◌, ◌-◌, ◌^◌, ◌≤◌, ◌<◌, length, IfSome};
 ghost use Rattle.calendar_groups.specs.Holidays.{group as group_of};
-ghost use Rattle.method.specs.Table.{most_quarters, size as size_of};
+ghost use Rattle.method.specs.Table.{most_quarters};
 ghost use Rattle.method_working.specs.Working.{reason as reason_for, reason_of, summed};
-ghost use Rattle.engine_rooms.specs.Rooms.{held_rooms, readings_at, room_history};
+ghost use Rattle.engine_rooms.specs.Rooms.{held_rooms, history_of};
 ghost use Rattle.engine_judging.specs.Steps.{day_from};
 ghost use Rattle.engine_reasons.specs.Steps.{held_reason, held_sum, sum_found};
 
 use calendar_groups::Group;
-use engine_rooms::Directory;
+use engine_rooms::{Case, Directory};
 use method::Request;
 use method_working::Reason;
 
 // How many days are held, the event day among them.
 #[tactic(auto, unfolding(engine_rooms::specs::Rooms::held_rooms))]
-fn held_rooms(request: Request, rooms: Directory) -> u32
-    ensures held { result ≡ held_rooms request rooms }
+fn held_rooms(request: Request, rooms: &Directory) -> u32
+    ensures held { result ≡ held_rooms request rooms.now }
     ensures few { result ≤ 46 }
     ensures within { result ≤ request.event + 1 }
 {
     rooms.held.min(method::LOOK_BACK.min(request.event) + 1)
-}
-
-// The readings of the day so far back, in its room.
-#[tactic(auto, using(engine_look_back::proofs::Judging::part_most))]
-fn part_of<'a>(request: Request, rooms: Directory, readings: &'a [u32], back: u32) -> &'a [u32]
-    requires room { back ≤ 45 }
-    requires within { back ≤ request.event }
-    ensures part { result.now ≡ readings_at (size_of (request.event - back)) readings.now (get_or rooms.at back 0) }
-    ensures few { length result.now ≤ most_quarters }
-{
-    let size = day_ruler::size(request.event - back);
-    engine_rooms::readings_at(readings, rooms.at[back as usize], size)
 }
 
 // Why a relevant day that is held is used or is not.
@@ -55,41 +43,33 @@ fn reason_of(mark: u8, part: &[u32]) -> Reason
 
 // Why a relevant day is used or is not, by its room.
 #[tactic(auto, using(crate::proofs::Held::not_held, crate::proofs::Held::when_held))]
-fn in_room(request: Request, rooms: Directory, readings: &[u32], back: u32) -> Reason
-    requires { back ≤ request.event }
-    ensures { result ≡ held_reason request (room_history request rooms readings.now) back }
+fn in_room(case: &Case<'_>, back: u32) -> Reason
+    requires { back ≤ case.now.request.event }
+    ensures { result ≡ held_reason case.now.request (history_of case.now) back }
 {
-    if held_rooms(request, rooms) <= back {
+    if held_rooms(case.request, case.rooms) <= back {
         return Reason::NotHeld;
     }
-    reason_of(
-        rooms.marks[back as usize],
-        part_of(request, rooms, readings, back),
-    )
+    reason_of(case.rooms.marks[back as usize], case.part(back))
 }
 
 // Why the day `back` days before the event is used or is not.
 #[tactic(auto, using(crate::proofs::Reasons::ways_out))]
-pub fn reason(
-    moves: &[u32],
-    request: Request,
-    rooms: Directory,
-    readings: &[u32],
-    back: u32,
-) -> Reason
-    ensures { result ≡ reason_for (group_of moves.now) request (room_history request rooms readings.now) back }
+pub fn reason(case: &Case<'_>, back: u32) -> Reason
+    ensures { result ≡ reason_for (group_of case.now.moves.now) case.now.request (history_of case.now) back }
 {
+    let request = case.request;
     let day = request.event.saturating_sub(back);
     if request.event < back || day < request.participation {
         return Reason::TooEarly;
     }
-    let own = calendar_groups::group_of(moves, request.event);
-    if calendar_groups::group_of(moves, day) != own {
+    let own = calendar_groups::group_of(case.moves, request.event);
+    if calendar_groups::group_of(case.moves, day) != own {
         Reason::AnotherGroup
     } else if own == Group::Weekday && back == 1 {
         Reason::DayBefore
     } else {
-        in_room(request, rooms, readings, back)
+        in_room(case, back)
     }
 }
 
@@ -110,12 +90,12 @@ fn sum_of(request: Request, part: &[u32]) -> Option<u64>
 
 // The sum of the day `back` days before the event over the event's own quarters; none where it is not held, or where one of them is missing.
 #[tactic(auto, using(crate::proofs::Sums::sum_none, crate::proofs::Sums::sum_held))]
-pub fn sum(request: Request, rooms: Directory, readings: &[u32], back: u32) -> Option<u64>
-    ensures sum { result ≡ sum_found (summed request (room_history request rooms readings.now) back) }
+pub fn sum(case: &Case<'_>, back: u32) -> Option<u64>
+    ensures sum { result ≡ sum_found (summed case.now.request (history_of case.now) back) }
     ensures fits { IfSome result (λ x. x < 2 ^ 63) }
 {
-    if held_rooms(request, rooms) <= back {
+    if held_rooms(case.request, case.rooms) <= back {
         return None;
     }
-    sum_of(request, part_of(request, rooms, readings, back))
+    sum_of(case.request, case.part(back))
 }
