@@ -6,7 +6,7 @@ ghost use Rattle.std.specs.Prelude.{◌≡◌, ◌≤◌, ◌<◌, map};
 ghost use Rattle.calendar_groups.specs.Holidays.{group as group_of};
 ghost use Rattle.method.specs.Method.{whole_reach};
 ghost use Rattle.method.specs.Requested.{method_of};
-ghost use Rattle.engine_rooms.specs.Rooms.{room_history};
+ghost use Rattle.engine_rooms.specs.Rooms.{history_of};
 ghost use Rattle.engine_ranking.specs.Steps.{padded};
 ghost use Rattle.engine_rules.specs.Steps.{Sound};
 ghost use Rattle.engine_choice.specs.Steps.{choice_of, word_day, picked, filled_of, among_few};
@@ -15,9 +15,9 @@ use calendar_groups::Group;
 use engine_answer::Chosen;
 use engine_look_back::Found;
 use engine_ranking::Ranking;
-use engine_rooms::Directory;
+use engine_rooms::Case;
 use engine_rules::Rules;
-use method::{Refusal, Request};
+use method::Refusal;
 
 // The day of a word.
 pub fn day_of(event: u32, word: u64) -> u32
@@ -71,47 +71,33 @@ pub fn filled(rules: Rules, found: Found) -> Ranking
 // The choice where the eligible days do not fill the window: spare days are put in, and the reach is that of all relevant days.
 #[tactic(auto, unfolding(crate::specs::Steps::among_few))]
 fn choose_among_few(
-    moves: &[u32],
-    request: Request,
+    case: &Case<'_>,
     rules: Rules,
     found: Found,
     before: u32,
 ) -> Result<Chosen, Refusal>
     requires { Sound rules × (found.eligible.count < rules.most) }
-    ensures { result ≡ among_few request rules found before (whole_reach (method_of (group_of moves.now) request)) }
+    ensures { result ≡ among_few case.now.request rules found before (whole_reach (method_of (group_of case.now.moves.now) case.now.request)) }
 {
-    let reach = engine_relevant::whole_reach(moves, request);
+    let reach = engine_relevant::whole_reach(case.moves, case.request);
     if before < reach {
         return Err(Refusal::MarginTooShort(reach));
     }
     let window = filled(rules, found);
-    pick(request.event, rules, window.words, window.count, reach)
+    pick(case.request.event, rules, window.words, window.count, reach)
 }
 
 // The choice of days: refusal 8 or 9, or the chosen days and the reach.
-pub fn choose(
-    moves: &[u32],
-    request: Request,
-    rooms: Directory,
-    readings: &[u32],
-) -> Result<Chosen, Refusal>
-    ensures { result ≡ choice_of (method_of (group_of moves.now) request) (room_history request rooms readings.now) }
+pub fn choose(case: &Case<'_>) -> Result<Chosen, Refusal>
+    ensures { result ≡ choice_of (method_of (group_of case.now.moves.now) case.now.request) (history_of case.now) }
 {
-    let event = request.event;
-    let before = rooms.held.saturating_sub(1);
-    let group = calendar_groups::group_of(moves, event);
-    let rules = engine_rules::rules_of(request, group);
-    let found = engine_look_back::look(
-        moves,
-        request,
-        group,
-        rules.most,
-        rules.spares,
-        rooms,
-        readings,
-    );
+    let event = case.request.event;
+    let before = case.rooms.held.saturating_sub(1);
+    let group = calendar_groups::group_of(case.moves, event);
+    let rules = engine_rules::rules_of(case.request, group);
+    let found = engine_look_back::look(case, group, rules.most, rules.spares);
     if found.eligible.count < rules.most {
-        choose_among_few(moves, request, rules, found, before)
+        choose_among_few(case, rules, found, before)
     } else {
         pick(event, rules, found.eligible.words, rules.most, found.oldest)
     }

@@ -21,12 +21,6 @@ use Rattle.engine_look_back.specs.declared.Found.{Found}
 use Rattle.engine_look_back.specs.Steps.{rooms_of, judged, Further}
 use Rattle.std.specs.Prelude.{Option}
 
--- what the rooms hold of the day so far back
-pub room_back : (r : Request) (rooms : Directory) (readings : List ℕ) (back : ℕ) {k : ℕ} {part : List ℕ} → back ≤ r.event → k ≡ size (r.event - back)
-    → part ≡ readings_at k readings (get_or rooms.at back 0) → day_from (get_or rooms.marks back 0) part ≡ rooms_of r rooms readings (r.event - back)
-unfolding room_day
-room_back r rooms readings back h e p = let w : r.event - (r.event - back) ≡ back = omega arith in rw (p, e, w)
-
 module _ {r : Request} {back : ℕ} {found : Found} (next : Further r back found) (mark : ℕ) (part : List ℕ) (few : length part ≤ most_quarters)
     (small : (i : ℕ) → get_or part i 0 < 2 ^ 32) where
   sum_few : event_sum r (day_from mark part) ≤ missing * most_quarters

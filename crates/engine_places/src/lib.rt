@@ -4,8 +4,7 @@
 ghost use Rattle.std.specs.Prelude.{◌≡◌, ◌≤◌, min, length, get_or, take};
 ghost use Rattle.engine_places.specs.PlaceSteps.{placed_of};
 
-use engine_rooms::Directory;
-use method::Request;
+use engine_rooms::Case;
 
 // Where the chosen days stand, how many of the five they are, how many quarters each has, where the adjustment window ends, and which of its
 // quarters stands against the event's first.
@@ -36,11 +35,12 @@ pub fn start_of(starts: &[u32], back: u32) -> u32
 }
 
 // The places of chosen days, by the directory of the days before an event.
-pub fn placed(request: Request, rooms: Directory, days: [u32; 5], count: u32, end: u32) -> Places
-    ensures { result ≡ placed_of request rooms.at days count end }
+pub fn placed(case: &Case<'_>, days: [u32; 5], count: u32, end: u32) -> Places
+    ensures { result ≡ placed_of case.now.request case.now.rooms.now.at days count end }
 {
+    let request = case.request;
     Places {
-        at: days.map(|day| start_of(&rooms.at, request.event.saturating_sub(day))),
+        at: days.map(|day| start_of(&case.rooms.at, request.event.saturating_sub(day))),
         count,
         quarters: day_ruler::size(days[0]),
         end,

@@ -1,6 +1,6 @@
 -- The day so many days before the event: whether the rooms hold it, and what they hold of it.
 use Prim.Native.Nat.{ℕ, ◌-◌, ◌≤◌, ◌<◌}
-use mathlib.Core.Path.{◌≡◌, refl, ap, ◌∙◌}
+use mathlib.Core.Path.{◌≡◌, ap, ◌∙◌}
 use mathlib.Core.Bool.{true, false}
 use mathlib.Core.List.{List}
 use native.Mathlib.Omega.{arith}
@@ -10,9 +10,8 @@ use Rattle.method.specs.declared.Request.{Request}
 use Rattle.method.specs.Table.{size, held}
 use Rattle.method.proofs.Histories.{is_held}
 use Rattle.engine_rooms.specs.declared.Directory.{Directory}
-use Rattle.engine_rooms.specs.Rooms.{readings_at, held_rooms, room_history}
+use Rattle.engine_rooms.specs.Rooms.{readings_at, room_day, held_rooms, room_history}
 use Rattle.engine_judging.specs.Steps.{day_from}
-use Rattle.engine_look_back.proofs.Judging.{room_back}
 use Rattle.method_working.specs.declared.Reason.{Reason}
 use Rattle.method_working.specs.declared.Reason.TheVariants.{NotHeld}
 use Rattle.method_working.specs.Working.{reason_of}
@@ -32,8 +31,8 @@ module _ (r : Request) (rooms : Directory) (readings : List ℕ) (back : ℕ) wh
 
   pub back_day : {part : List ℕ} → back ≤ r.event → part ≡ readings_at (size (r.event - back)) readings (get_or rooms.at back 0)
       → day_from (get_or rooms.marks back 0) part ≡ (room_history r rooms readings).day (r.event - back)
-  unfolding room_history
-  back_day h e = room_back r rooms readings back h refl e
+  unfolding room_history room_day
+  back_day h e = let w : r.event - (r.event - back) ≡ back = omega arith in rw (e, w)
 
   pub when_held : {n : ℕ} {part : List ℕ} {x : Reason} → n ≡ held_rooms r rooms → back < n → back ≤ r.event
       → part ≡ readings_at (size (r.event - back)) readings (get_or rooms.at back 0)

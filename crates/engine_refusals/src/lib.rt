@@ -27,8 +27,8 @@ fn is_good(request: Request) -> bool
 
 // 4 to 7: what is wrong with the request, for the rooms of its event and so much room for the output. D is not held where no room is.
 #[tactic(auto, using(engine_rooms::proofs::Held::event_held, engine_rooms::proofs::Held::event_not), unfolding(crate::specs::Steps::tested, method::specs::Verdict::request_refusals))]
-pub fn of_request(request: Request, rooms: Directory, room: usize) -> Result<(), Refusal>
-    ensures first { (readings : List ℕ) → result ≡ tested (request_refusals (room_history request rooms readings) request room) }
+pub fn of_request(request: Request, rooms: &Directory, room: usize) -> Result<(), Refusal>
+    ensures first { (readings : List ℕ) → result ≡ tested (request_refusals (room_history request rooms.now readings) request room) }
     ensures fits { OnOk result ((request.s < request.e) × (request.e - request.s ≤ room)) }
 {
     if !is_good(request) {

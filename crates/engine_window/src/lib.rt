@@ -6,12 +6,11 @@ ghost use Rattle.std.specs.Prelude.{◌≡◌, ◌≤◌, length};
 ghost use Rattle.calendar_groups.specs.Holidays.{group as group_of};
 ghost use Rattle.method.specs.Method.{whole_reach};
 ghost use Rattle.method.specs.Requested.{method_of};
-ghost use Rattle.engine_rooms.specs.Rooms.{room_history};
+ghost use Rattle.engine_rooms.specs.Rooms.{history_of};
 ghost use Rattle.engine_window.specs.Steps.{window_of, row_window};
 
-use engine_rooms::Directory;
+use engine_rooms::Case;
 use engine_rules::Rules;
-use method::Request;
 
 // The window of an event: whether the days held can't tell it (refusal 8), Y, its days by rank, how many they are, and of its ranks how many are passed
 // over and taken. It is not an Option by `short`: days and ranks of a short window are promised too (`window_of`).
@@ -43,24 +42,16 @@ fn of_row(event: u32, rules: Rules, row: &[u64], short: bool) -> Window
 
 // The window of an event, by rank. Where the eligible days do not fill it, spare days are put in, and a relevant day that is not held may have been
 // eligible.
-pub fn of_event(moves: &[u32], request: Request, rooms: Directory, readings: &[u32]) -> Window
-    ensures { result ≡ window_of (method_of (group_of moves.now) request) (room_history request rooms readings.now) }
+pub fn of_event(case: &Case<'_>) -> Window
+    ensures { result ≡ window_of (method_of (group_of case.now.moves.now) case.now.request) (history_of case.now) }
 {
-    let event = request.event;
-    let group = calendar_groups::group_of(moves, event);
-    let rules = engine_rules::rules_of(request, group);
-    let found = engine_look_back::look(
-        moves,
-        request,
-        group,
-        rules.most,
-        rules.spares,
-        rooms,
-        readings,
-    );
+    let event = case.request.event;
+    let group = calendar_groups::group_of(case.moves, event);
+    let rules = engine_rules::rules_of(case.request, group);
+    let found = engine_look_back::look(case, group, rules.most, rules.spares);
     if found.eligible.count < rules.most {
-        let before = rooms.held.saturating_sub(1);
-        let short = before < engine_relevant::whole_reach(moves, request);
+        let before = case.rooms.held.saturating_sub(1);
+        let short = before < engine_relevant::whole_reach(case.moves, case.request);
         let window = engine_choice::filled(rules, found);
         of_row(event, rules, &window.words[..window.count as usize], short)
     } else {
