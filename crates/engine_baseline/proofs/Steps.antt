@@ -4,17 +4,11 @@ use mathlib.Core.Path.{◌≡◌, refl, sym, ap, ap₂, ◌∙◌}
 use mathlib.Core.Bool.{Bool, true, false}
 use mathlib.Core.List.{List, ◌++◌, map}
 use mathlib.Core.Option.{Option, some}
-use native.Mathlib.Nat.{mul-le-mul_right}
 use native.Mathlib.Omega.{arith}
-use borrow.Author.Rules.{sfits_of}
 use borrow.Author.Tests.{eq-eqb, ne_eqb}
 use lib.ListN.{length, get_or, take, drop, length-take, length-append, length-replicate, length-map}
 use lib.IntN.{ℤ, pos}
-use lib.Signed.{mag}
-use mir.Syntax.{w64}
-use mir.Val.{to_z, of_z}
-use mir.ValLaws.{to_z-of_z}
-use Rattle.base_lists.specs.Lists.{all, places}
+use Rattle.base_lists.specs.Lists.{places}
 use Rattle.base_lists.proofs.Maps.{map-take}
 use Rattle.calendar_groups.specs.Holidays.{good_moves, group}
 use Rattle.method.specs.declared.Request.{Request}
@@ -37,8 +31,6 @@ use Rattle.engine_sums.specs.QuarterSteps.{quarter_sum}
 use Rattle.engine_places.specs.declared.Places.{Places}
 use Rattle.engine_places.specs.PlaceSteps.{placed_of}
 use Rattle.engine_numerators.specs.NumeratorSteps.{window_sums, chosen_at, adjustment_of, numerators_of, Written}
-use Rattle.engine_numerators.proofs.Signed.{mag_difference}
-use Rattle.engine_numerators.proofs.Windows.{small, part_all, ruler_most, windows_most}
 use Rattle.engine_numerators.proofs.Standing.{S_placed, B_placed}
 use Rattle.engine_answer.specs.declared.Chosen.{Chosen}
 use Rattle.std.specs.Prelude.{Ok, Err}
@@ -281,23 +273,6 @@ module _ (r : Request) (rooms : Directory) (readings : List ℕ) (room : ℕ) (c
         given_is = rw (es, placed_is end, count_is)
 
         module _ {length' : ℕ} {given : ℤ} {ys : List ℕ} (w : Written readings placed y z length' given ys) where
-          -- the adjustment as a number of 64 bits: the readings are numbers of 32
-          pub adjusted_back : all small readings ≡ true → to_z w64 (of_z w64 given) ≡ given
-          adjusted_back bits = to_z-of_z w64 given (sfits_of near)
-            where
-              own_most : own ≤ 51539607540
-              own_most =
-                  ruler_most y z end (rw ey (part_all small (size (r.event - 1)) readings (get_or rooms.at 1 0) bits))
-                  (rw ez (part_all small (size r.event) readings (get_or rooms.at 0 0) bits))
-
-              usual_most : usual < 2 ^ 63
-              usual_most = omega (arith, windows_most wide readings at end bits, length-map days start, days_long, k.few)
-
-              near : mag given < 2 ^ 63
-              near =
-                  rw (w.adjusted, given_is)
-                  (mag_difference (chosen.count * own) usual (2 ^ 63) (omega (arith, mul-le-mul_right own k.few, own_most)) usual_most)
-
           written_is : length' ≡ r.e - r.s → ys ≡ numbers adj
           unfolding numerators_of
           written_is e = w.output ∙ rw (e, given_is, es, placed_is end, high)

@@ -10,7 +10,7 @@ ghost use Rattle.engine_baseline.specs.Engine.{in_words};
 ghost use Rattle.engine_example.specs.Apart.{apart};
 
 use engine_answer::Answer;
-use engine_rooms::Directory;
+use engine_rooms::{Case, Directory};
 use method::{Refusal, Request};
 
 // Where two days stand that lie apart: the event day's readings first, and after a gap those of the day before.
@@ -31,11 +31,7 @@ fn rooms_apart(request: Request, before: u8, today: u8, gap: u16, readings: &[u3
             held = 2;
         }
     }
-    Directory {
-        at: at,
-        marks: marks,
-        held: held,
-    }
+    Directory { at, marks, held }
 }
 
 // The baseline over two days that lie apart: what the methodology gives, by a list of moves, over the table that they are in the right
@@ -52,5 +48,11 @@ pub fn baseline_apart(
     ensures { Answers (in_words request (history (apart request.event before today gap readings.now)) (by_list moves.now (history (apart request.event before today gap readings.now)) request (length out.old))) result out.old out.new }
 {
     let rooms = rooms_apart(request, before, today, gap, readings);
-    engine_baseline::baseline_over(moves, request, rooms, readings, out)
+    let case = Case {
+        moves,
+        request,
+        rooms: &rooms,
+        readings,
+    };
+    engine_baseline::baseline_over(&case, out)
 }

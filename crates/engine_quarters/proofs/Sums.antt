@@ -1,27 +1,16 @@
--- How large the readings of a day are, and sums over chosen days that are taken one after the other.
-use Prim.Native.Nat.{ℕ, zero, suc, ◌+◌, ◌-◌, ◌<◌}
+-- Sums over chosen days that are taken one after the other.
+use Prim.Native.Nat.{ℕ, zero, suc, ◌+◌, ◌<◌}
 use mathlib.Core.Path.{◌≡◌, refl, sym, ap, ap₂, ◌∙◌}
-use mathlib.Core.Bool.{true}
 use mathlib.Core.List.{List, [], ◌∷◌, map}
 use native.Mathlib.Numerals.{add-one}
 use native.Mathlib.Omega.{arith}
 use lib.ListN.{length, get_or, take}
-use Rattle.base_lists.specs.Lists.{all, sum_of, places}
-use Rattle.method.specs.declared.Request.{Request}
-use Rattle.method.specs.Table.{Day, History, size}
+use Rattle.base_lists.specs.Lists.{sum_of, places}
+use Rattle.method.specs.Table.{Day, History}
 use Rattle.method.specs.Ruler.{against}
 use Rattle.method.specs.Adjustment.{S}
-use Rattle.engine_rooms.specs.declared.Directory.{Directory}
-use Rattle.engine_rooms.specs.Rooms.{room_day, room_history}
 use Rattle.engine_sums.proofs.Adding.{sum_more}
-use Rattle.engine_numerators.proofs.Windows.{small, part_all}
 use Rattle.engine_baseline.specs.Engine.{with_days}
-
-module _ (r : Request) (rooms : Directory) (readings : List ℕ) where
-  -- a day's readings are numbers of 32 bits where the lent ones are
-  pub day_small : all small readings ≡ true → (d : ℕ) → all small ((room_history r rooms readings).day d).readings ≡ true
-  unfolding room_history room_day
-  day_small bits d = part_all small (size (r.event - (r.event - d))) readings (get_or rooms.at (r.event - d) 0) bits
 
 -- S(t) of days with what a history holds of them, as a sum over their numbers
 abbrev pub reads : ℕ → History Day → ℕ → ℕ → ℕ

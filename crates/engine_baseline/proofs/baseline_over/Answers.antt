@@ -24,13 +24,13 @@ returns-in_err-chosen c =
 pub average-requires : goal.average-requires
 average-requires c = (
   is_ready _ _ _ _ _ (sym (c.of_request.ensures.first _) ∙ c.in_ok-of_request.was) (sym c.choose.ensures ∙ c.in_ok-chosen.was),
-  asked_average c.args.request (sym c.method.ensures ∙ c.in-AverageXOfY.is),
+  asked_average c.args.case.now.request (sym c.method.ensures ∙ c.in-AverageXOfY.is),
 )
 
 pub adjusted-requires : goal.adjusted-requires
 adjusted-requires c = (
   is_ready _ _ _ _ _ (sym (c.of_request.ensures.first _) ∙ c.in_ok-of_request.was) (sym c.choose.ensures ∙ c.in_ok-chosen.was),
-  asked_high c.args.request (sym c.method.ensures ∙ c.in-HighXOfY.is),
+  asked_high c.args.case.now.request (sym c.method.ensures ∙ c.in-HighXOfY.is),
 )
 
 pub returns-in-AverageXOfY : goal.returns-in-AverageXOfY
