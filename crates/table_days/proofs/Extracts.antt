@@ -154,10 +154,13 @@ module _ (t : Table) (day : ℕ) where
       pub part_some : has_day t day ≡ true
       part_some = ⊎_elim (λ h. h) (λ h. absurd (some (ap length (e ∙ part_empty h)))) (bool_cases (has_day t day))
 
+      pub place_first : t.first ≤ day
+      place_first = (has_inside part_some).0
+
+      -- it is a place among at most 128 days of readings
+      pub place_small : offset t.first (day - t.first) ≤ most_quarters * 128
+      place_small = offset_most t.first (day - t.first) 128 (has_few part_some)
+
       pub place_from : {start : ℕ} → start ≡ offset t.first (day - t.first) → Some start ≡ part_place t day
       unfolding part_place part_start
       place_from s = rw (← e, ne_eqb (length part) 0 some, part_some, s)
-
-  -- it is a place among at most 128 days of readings
-  pub place_small : has_day t day ≡ true → offset t.first (day - t.first) ≤ most_quarters * 128
-  place_small h = offset_most t.first (day - t.first) 128 (has_few h)
