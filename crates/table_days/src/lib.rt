@@ -8,7 +8,7 @@ ghost use Rattle.table_days.specs.Part.{has_day, DayPart, part_place};
 
 // A lent table: its first day, a mark byte a day, and the readings of the same days, in order. Marks and readings are lent apart, so that a part of
 // the readings may outlive the marks.
-#[derive(Clone, Copy)]
+#[derive(Clone, Copy, Debug, PartialEq, Eq)]
 pub struct LentTable<'m, 'r> {
     pub first: u32,
     pub marks: &'m [u8],

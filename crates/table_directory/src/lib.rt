@@ -23,7 +23,7 @@ fn entries(first: u32, marks: &[u8], event: u32) -> u32
 }
 
 // Where the event day and the days before it stand, at most 45 of them; no day has a room where the event day is not held, or the table has
-// more than 128 days.
+// more than 128 days. Readings have no part in it, so it takes no `LentTable`.
 pub fn directory(first: u32, marks: &[u8], event: u32) -> Directory
     ensures { (readings : List ℕ) → result ≡ directory_of (table_of first marks.now readings) event }
 {
