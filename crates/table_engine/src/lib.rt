@@ -7,6 +7,7 @@ ghost use Rattle.table_days.specs.Lent.{lent};
 ghost use Rattle.table_engine.specs.Steps.{over_table};
 
 use engine_answer::Answer;
+use engine_rooms::Case;
 use method::{Refusal, Request};
 use table_days::LentTable;
 
@@ -21,5 +22,11 @@ pub fn over_table(
     ensures { Answers (over_table moves.now (lent table.now) request (length out.old)) result out.old out.new }
 {
     let rooms = table_directory::directory(table.first, table.marks, request.event);
-    engine_baseline::baseline_over(moves, request, rooms, table.readings, out)
+    let case = Case {
+        moves,
+        request,
+        rooms: &rooms,
+        readings: table.readings,
+    };
+    engine_baseline::baseline_over(&case, out)
 }
