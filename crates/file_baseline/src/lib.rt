@@ -16,6 +16,7 @@ use calendar_groups::MOST_MOVES;
 use engine_answer::Answer;
 use file_record::{Shape, Span};
 use method::{QUARTERS, Refusal, Request};
+use table_days::LentTable;
 
 // Room for the readings of any days that an event can ask for, and for two more: the compiler then places the buffer at a multiple of 16 bytes, and
 // where it does not a call takes a tenth longer (docs/BENCHMARKS.md).
@@ -102,14 +103,12 @@ fn loaded_baseline(
     let mut moves = [0u32; 2 * MOST_MOVES];
     file_moves::load_list(file, shape, &mut moves);
     let numbers = 2 * (shape.moves as usize);
-    table_bytes::over_table_in_bytes(
-        shape.first + span.start,
-        &marks[start..end],
-        rooms,
-        &moves[..numbers],
-        request,
-        out,
-    )
+    let part = LentTable {
+        first: shape.first + span.start,
+        marks: &marks[start..end],
+        readings: rooms,
+    };
+    table_bytes::over_table_in_bytes(&part, &moves[..numbers], request, out)
 }
 
 // The baseline of an event over the table of a file of this shape: what the event can ask for goes into rooms, and the other days are only

@@ -14,6 +14,7 @@ use calendar_groups::MOST_MOVES;
 use file_record::{Shape, Span};
 use file_starts::{MOST_DAYS, MOST_EVENTS};
 use method::{QUARTERS, Refusal};
+use table_days::LentTable;
 
 // The room that any listing fits: the first line, and the lines of each event.
 pub const MOST_LISTING: usize = listing_first_line::OPENING_ROOM
@@ -34,15 +35,13 @@ fn put_event(loaded: &Loaded<'_>, place: usize, out: &mut [u8]) -> usize
     requires { IsLoaded loaded.now × (place < loaded.now.shape.events) }
     ensures { PutsWithin lines_room out.old 0 (event_text (list_in loaded.now.file.now) (table_in loaded.now.file.now) (request_at loaded.now.file.now place)) result out.new }
 {
+    let table = LentTable {
+        first: loaded.shape.first,
+        marks: loaded.marks,
+        readings: loaded.readings,
+    };
     match file_events::event_within(loaded.file, loaded.shape, place) {
-        Ok(request) => listing_event::event(
-            loaded.shape.first,
-            loaded.marks,
-            loaded.readings,
-            loaded.moves,
-            request,
-            out,
-        ),
+        Ok(request) => listing_event::event(&table, loaded.moves, request, out),
         Err(_) => 0,
     }
 }

@@ -4,15 +4,10 @@ ghost use Rattle.std.specs.Prelude.{◌≤◌, ◌<◌};
 use calendar_dates::Date;
 use std::io;
 use std::io::Print;
+use table_days::LentTable;
 
 // A day and its part: how many readings it has, the first and the last, as `2019-01-12 96 1000 1095`, or `2019-01-11 00`.
-fn part_line(
-    rt: &impl Print,
-    first: u32,
-    marks: &[u8],
-    readings: &[u32],
-    day: u32,
-) -> io::Result<()> {
+fn part_line(rt: &impl Print, table: &LentTable<'_, '_>, day: u32) -> io::Result<()> {
     let Some(
         Date {
             year,
@@ -23,7 +18,7 @@ fn part_line(
     else {
         return Ok(());
     };
-    let part = table_days::day_part(first, marks, readings, day);
+    let part = table.day_part(day);
     print!(rt; "{year:04}-{month:02}-{of_month:02} {:02}", part.len())?;
     if let (Some(start), Some(end)) = (part.first(), part.last()) {
         print!(rt; " {start:04} {end:04}")?;
@@ -32,20 +27,14 @@ fn part_line(
 }
 
 // The first day of a table, the second and the last, and the days beside them.
-fn table_lines(
-    rt: &impl Print,
-    first: u32,
-    last: u32,
-    marks: &[u8],
-    readings: &[u32],
-) -> io::Result<()>
-    requires { (0 < first) × (first < 36525) × (last < 36600) }
+fn table_lines(rt: &impl Print, table: &LentTable<'_, '_>, last: u32) -> io::Result<()>
+    requires { (0 < table.now.first) × (table.now.first < 36525) × (last < 36600) }
 {
-    part_line(rt, first, marks, readings, first - 1)?;
-    part_line(rt, first, marks, readings, first)?;
-    part_line(rt, first, marks, readings, first + 1)?;
-    part_line(rt, first, marks, readings, last)?;
-    part_line(rt, first, marks, readings, last + 1)
+    part_line(rt, table, table.first - 1)?;
+    part_line(rt, table, table.first)?;
+    part_line(rt, table, table.first + 1)?;
+    part_line(rt, table, last)?;
+    part_line(rt, table, last + 1)
 }
 
 // Readings that tell their place.
@@ -62,16 +51,36 @@ fn three_days(rt: &impl Print, first: u32, readings: [u32; 384], count: usize) -
     requires { (0 < first) × (first < 36525) × (count ≤ 384) }
 {
     let marks = [0, 3, 0];
-    table_lines(rt, first, first + 2, &marks, &readings[..count])
+    let table = LentTable {
+        first,
+        marks: &marks,
+        readings: &readings[..count],
+    };
+    table_lines(rt, &table, first + 2)
 }
 
 // Tables of no days, of 128 and of 129.
 fn none_and_most(rt: &impl Print) -> io::Result<()> {
     let marks = [0u8; 129];
     let readings = [7u32; 12384];
-    table_lines(rt, 6951, 6953, &marks[..0], &readings[..0])?;
-    table_lines(rt, 6951, 7078, &marks[..128], &readings[..12288])?;
-    table_lines(rt, 6951, 7079, &marks, &readings)
+    let none = LentTable {
+        first: 6951,
+        marks: &marks[..0],
+        readings: &readings[..0],
+    };
+    let most = LentTable {
+        first: 6951,
+        marks: &marks[..128],
+        readings: &readings[..12288],
+    };
+    let too_many = LentTable {
+        first: 6951,
+        marks: &marks,
+        readings: &readings,
+    };
+    table_lines(rt, &none, 6953)?;
+    table_lines(rt, &most, 7078)?;
+    table_lines(rt, &too_many, 7079)
 }
 
 // Day 6951 is 12 January 2019. The second table ends with the calendar and the third goes past it; the next two have a reading too few and one

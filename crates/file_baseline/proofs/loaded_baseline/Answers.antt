@@ -12,20 +12,20 @@ use Rattle.file_record.specs.Reader.{list_in, table_in}
 use Rattle.file_baseline.proofs.Files.{marks_count, day_few, over_loaded}
 use Rattle.file_baseline.proofs.loaded_baseline.Goals as goal
 
-pub overflow_add-shape : goal.overflow_add-shape
-overflow_add-shape c =
+pub overflow_add-part : goal.overflow_add-part
+overflow_add-part c =
     omega (arith, day_few c.requires.0 c.requires.1 c.args.request c.requires.2 (sym c.of_file.ensures ∙ c.in_ok-of_file.was))
 
-pub slice_bounds-over_table_in_bytes-end : goal.slice_bounds-over_table_in_bytes-end
-slice_bounds-over_table_in_bytes-end c =
+pub slice_bounds-part-end : goal.slice_bounds-part-end
+slice_bounds-part-end c =
     omega (arith, c.requires.0.high, marks_count c.requires.0.laid_down c.requires.1)
 
 pub slice_bounds-moves-end : goal.slice_bounds-moves-end
 slice_bounds-moves-end c =
     omega (arith, list_few c.args.file.now c.requires.0.laid_down.accepted)
 
-pub slice_bounds-over_table_in_bytes-end-2 : goal.slice_bounds-over_table_in_bytes-end-2
-slice_bounds-over_table_in_bytes-end-2 c =
+pub slice_bounds-over_table_in_bytes-end : goal.slice_bounds-over_table_in_bytes-end
+slice_bounds-over_table_in_bytes-end c =
     sym (length-take-le (2 * c.args.shape.moves) _ (omega (arith, list_few c.args.file.now c.requires.0.laid_down.accepted)))
 
 pub returns-in_err-of_file : goal.returns-in_err-of_file
