@@ -9,16 +9,14 @@ use borrow.Author.Tests.{le-leb}
 use Rattle.base_lists.proofs.All.{all_of, all-take, all-drop}
 use Rattle.base_lists.proofs.Sums.{sum_most}
 use Rattle.method.specs.declared.Request.{Request}
-use Rattle.method.specs.Table.{size, most_quarters, missing}
+use Rattle.method.specs.Table.{most_quarters, missing}
 use Rattle.method.specs.Ruler.{against}
 use Rattle.method.specs.Eligible.{event_sum}
 use Rattle.engine_ranking.specs.Steps.{word}
-use Rattle.engine_rooms.specs.declared.Directory.{Directory}
-use Rattle.engine_rooms.specs.Rooms.{readings_at, room_day}
 use Rattle.engine_judging.specs.Steps.{day_from, word_at, judged_at}
 use Rattle.engine_judging.specs.declared.Judged.{Judged}
 use Rattle.engine_look_back.specs.declared.Found.{Found}
-use Rattle.engine_look_back.specs.Steps.{rooms_of, judged, Further}
+use Rattle.engine_look_back.specs.Steps.{judged, Further}
 use Rattle.std.specs.Prelude.{Option}
 
 module _ {r : Request} {back : ℕ} {found : Found} (next : Further r back found) (mark : ℕ) (part : List ℕ) (few : length part ≤ most_quarters)
@@ -35,6 +33,11 @@ module _ {r : Request} {back : ℕ} {found : Found} (next : Further r back found
   unfolding word_at word
   same_word = omega (arith, sum_few, next.some, next.most, next.within)
 
-  pub judged_so : {x : Option Judged} → x ≡ judged_at r back (day_from mark part) → judged r (r.event - back, day_from mark part) ≡ x
+  judged_so : {x : Option Judged} → x ≡ judged_at r back (day_from mark part) → judged r (r.event - back, day_from mark part) ≡ x
   unfolding judged_at judged
   judged_so e = sym (e ∙ rw same_word)
+
+-- the same of the day in its room
+pub judged_in : {r : Request} {back : ℕ} {found : Found} {part room : List ℕ} {x : Option Judged} (mark : ℕ) → Further r back found → part ≡ room → length part ≤ most_quarters
+    → ((i : ℕ) → get_or part i 0 < 2 ^ 32) → x ≡ judged_at r back (day_from mark part) → judged r (r.event - back, day_from mark room) ≡ x
+judged_in {part = part} mark next e few small j = rw e at (judged_so next mark part few small j)

@@ -13,7 +13,7 @@ pub const DAYS: usize = 46;
 
 // Where the days from D-45 to D stand in lent readings, and their marks: entry i is day D - i. So many of them are held, D first: 0 where D is
 // not.
-#[derive(Clone, Copy)]
+#[derive(Clone, Copy, Debug, PartialEq, Eq)]
 pub struct Directory {
     pub at: [u32; DAYS],
     pub marks: [u8; DAYS],
@@ -21,7 +21,7 @@ pub struct Directory {
 }
 
 // An event to be worked out by a list of moves, over the rooms of D and of the days before it, which stand in lent readings.
-#[derive(Clone, Copy)]
+#[derive(Clone, Copy, Debug, PartialEq, Eq)]
 pub struct Case<'a> {
     pub moves: &'a [u32],
     pub request: Request,
