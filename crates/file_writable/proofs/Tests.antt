@@ -1,14 +1,16 @@
--- The tests of what a file can say: one law for each way out of the code.
-use Prim.Native.Nat.{ℕ, ◌+◌, ◌*◌, ◌/◌, ◌≤◌}
-use mathlib.Core.Path.{◌≡◌, refl, ap, sym, ◌∙◌}
-use Rattle.std.specs.List.{list_all}
-use mathlib.Core.Bool.{Bool, true, false, ◌&&◌}
+-- The tests of what a file can say: what std asks of a list is what the definitions ask of it.
+use Prim.Native.Nat.{ℕ, suc, ◌/◌}
+use mathlib.Core.Path.{◌≡◌, refl, ap}
+use mathlib.Core.Bool.{Bool, ◌&&◌}
 use mathlib.Core.List.{List, [], ◌∷◌}
-use lib.ListN.{length, drop}
+use native.Mathlib.Omega.{arith}
+use lib.ListN.{length}
+use Rattle.std.specs.Prelude.{slice_index}
+use Rattle.std.specs.Simd.{first_chunks}
+use Rattle.std.specs.List.{list_all}
 use Rattle.base_lists.specs.Lists.{all}
-use Rattle.file_record.specs.Layout.{fits_event}
+use Rattle.file_record.specs.Layout.{Event, fits_event}
 use Rattle.file_record.specs.Writer.{events_of}
-use Rattle.file_record.proofs.Writing.{event_at, events_more, events_none}
 
 -- what `all` of std says is what ours does
 pub all_is : (p : ℕ → Bool) (xs : List ℕ) → list_all p xs ≡ all p xs
@@ -16,16 +18,26 @@ unfolding all
 all_is p [] = refl
 all_is p (x ∷ xs) = ap (λ (b : Bool). p x && b) (all_is p xs)
 
--- the events of refusal 13, one after the other
-module _ (numbers : List ℕ) (i : ℕ) {whole : Bool} (left : all fits_event (events_of (drop (5 * i) numbers)) ≡ whole) where
-  pub one_fits : 5 * i + 5 ≤ length numbers → fits_event (event_at numbers i) ≡ true → all fits_event (events_of (drop (5 * (i + 1)) numbers)) ≡ whole
-  unfolding all
-  one_fits h t = sym (rw (events_more numbers i h, t) refl) ∙ left
+-- the numbers of the events, five for each
+abbrev pub fives : List ℕ → List (List ℕ)
+fives numbers = first_chunks 5 (length numbers / 5) numbers
 
-  pub one_does_not : 5 * i + 5 ≤ length numbers → fits_event (event_at numbers i) ≡ false → false ≡ whole
-  unfolding all
-  one_does_not h t = sym (rw (events_more numbers i h, t) refl) ∙ left
+fives-cons : (d s e n m : ℕ) (more : List ℕ) → fives (d ∷ s ∷ e ∷ n ∷ m ∷ more) ≡ (d ∷ s ∷ e ∷ n ∷ m ∷ []) ∷ fives more
+fives-cons d s e n m more =
+    let one : suc (suc (suc (suc (suc (length more))))) / 5 ≡ suc (length more / 5) = omega arith in
+    ap (λ (k : ℕ). first_chunks 5 k (d ∷ s ∷ e ∷ n ∷ m ∷ more)) one
 
-  pub none_left : length numbers / 5 ≤ i → true ≡ whole
-  unfolding all
-  none_left h = sym (rw (events_none numbers i h) refl) ∙ left
+-- the event of five numbers
+abbrev pub event_of : List ℕ → Event
+event_of five =
+    record { day = slice_index five 0; s = slice_index five 1; e = slice_index five 2; n = slice_index five 3; method = slice_index five 4 }
+
+-- the events of refusal 13, by their numbers
+pub each_fits : (numbers : List ℕ) → list_all (λ five. fits_event (event_of five)) (fives numbers) ≡ all fits_event (events_of numbers)
+unfolding all events_of
+each_fits [] = refl
+each_fits (d ∷ []) = refl
+each_fits (d ∷ s ∷ []) = refl
+each_fits (d ∷ s ∷ e ∷ []) = refl
+each_fits (d ∷ s ∷ e ∷ n ∷ []) = refl
+each_fits (d ∷ s ∷ e ∷ n ∷ m ∷ more) = rw (fives-cons d s e n m more, each_fits more) refl

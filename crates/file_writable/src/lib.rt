@@ -37,19 +37,9 @@ fn event_fits(day: u32, s: u32, e: u32, n: u32, method: u32) -> bool
 fn all_fit(events: &[u32]) -> bool
     ensures { result ≡ all fits_event (events_of events.now) }
 {
-    for i in 0..events.len() / EVENT_NUMBERS {
-        let at = EVENT_NUMBERS * i;
-        if !event_fits(
-            events[at],
-            events[at + 1],
-            events[at + 2],
-            events[at + 3],
-            events[at + 4],
-        ) {
-            return false;
-        }
-    }
-    true
+    let (each, _) = events.as_chunks::<EVENT_NUMBERS>();
+    each.iter()
+        .all(|&[day, s, e, n, method]| event_fits(day, s, e, n, method))
 }
 
 // Whether every day of a list of moves fits its bytes.
