@@ -2,7 +2,7 @@
 // be read and proved; a caller needs none of them.
 #![tactic(auto)]
 
-ghost use Rattle.table_days.specs.Lent.{table_of};
+ghost use Rattle.table_days.specs.Lent.{table_of, lent};
 ghost use Rattle.host_entries.specs.Host.{request_of};
 ghost use Rattle.demands.specs.Calls.{over_table, of_file};
 ghost use Rattle.demands.specs.Demands.{Demands};
@@ -10,19 +10,18 @@ ghost use Rattle.demands.specs.Entries.{EntryDemands, Tells};
 
 use engine_answer::Answer;
 use method::{Refusal, Request};
+use table_days::LentTable;
 
 // A request by a list of moves over a lent table.
 pub fn over_table(
-    first: u32,
-    marks: &[u8],
-    readings: &[u32],
+    table: &LentTable<'_, '_>,
     moves: &[u32],
     request: Request,
     out: &mut [u32],
 ) -> Result<Answer, Refusal>
-    ensures { Demands (over_table moves.now (table_of first marks.now readings.now) request) result out.old out.new }
+    ensures { Demands (over_table moves.now (lent table.now) request) result out.old out.new }
 {
-    table_baseline::baseline(first, marks, readings, moves, request, out)
+    table_baseline::baseline(table, moves, request, out)
 }
 
 // The event at a place of a record file.

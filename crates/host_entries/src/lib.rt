@@ -23,6 +23,7 @@ ghost use Rattle.host_plain.specs.Plain.{date_written, day_told, date_told, vers
 ghost use Rattle.host_entries.specs.Host.{or_nothing, most_bytes, request_of, TableCall, FileCall, WriteCall, ListingCall};
 
 use method::Request;
+use table_days::LentTable;
 
 // HP_NOTHING: what C gets where nothing is told.
 const NOTHING: i64 = i64::MIN;
@@ -76,7 +77,12 @@ pub fn hp_baseline_table(
     ensures { TableCall (verdict moves.now (table_of first marks.now readings.now) (request_of participation event s e n method) (length out.old)) result out.old out.new }
 {
     let request = request_of(participation, event, s, e, n, method);
-    let answer = table_baseline::baseline(first, marks, readings, moves, request, out);
+    let table = LentTable {
+        first,
+        marks,
+        readings,
+    };
+    let answer = table_baseline::baseline(&table, moves, request, out);
     host_answer::number_of(answer)
 }
 
@@ -98,7 +104,12 @@ pub fn hp_told_table(
 {
     let request = request_of(participation, event, s, e, n, method);
     let mut out = [0u32; method::QUARTERS];
-    let answer = table_baseline::baseline(first, marks, readings, moves, request, &mut out);
+    let table = LentTable {
+        first,
+        marks,
+        readings,
+    };
+    let answer = table_baseline::baseline(&table, moves, request, &mut out);
     host_answer::tell(answer, name).unwrap_or(NOTHING)
 }
 
@@ -106,8 +117,12 @@ pub fn hp_told_table(
 pub fn hp_day_part(first: u32, marks: &[u8], readings: &[u32], day: u32) -> i64
     ensures { result ≡ or_nothing (number_told (part_place (table_of first marks.now readings.now) day)) }
 {
-    let place = table_days::part_place(first, marks, readings, day);
-    host_numbers::tell_number(place).unwrap_or(NOTHING)
+    let table = LentTable {
+        first,
+        marks,
+        readings,
+    };
+    host_numbers::tell_number(table.part_place(day)).unwrap_or(NOTHING)
 }
 
 // What a record file tells by name: what it holds, or refusal 11.

@@ -11,6 +11,7 @@ use calendar_groups::MOST_MOVES;
 use file_record::{Shape, Span};
 use host_answer::tell_refusal;
 use method::{QUARTERS, Refusal, Request};
+use table_days::LentTable;
 
 // Of an event over a file of this shape, of which the moves and the whole table are loaded.
 fn tell_event(file: &[u8], shape: Shape, request: Request, at: u32, name: u32) -> Option<i64>
@@ -29,15 +30,12 @@ fn tell_event(file: &[u8], shape: Shape, request: Request, at: u32, name: u32) -
     file_loading::load_within(file, shape, whole, &mut marks, &mut readings);
     let days = shape.days as usize;
     let count = day_ruler::offset(shape.first, shape.days);
-    host_table::tell_table(
-        shape.first,
-        &marks[..days],
-        &readings[..count],
-        &moves[..numbers],
-        request,
-        at,
-        name,
-    )
+    let table = LentTable {
+        first: shape.first,
+        marks: &marks[..days],
+        readings: &readings[..count],
+    };
+    host_table::tell_table(&table, &moves[..numbers], request, at, name)
 }
 
 // The number of a name, of the event at a place of the file, counted from 0.

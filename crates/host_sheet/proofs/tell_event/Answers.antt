@@ -16,8 +16,8 @@ use Rattle.host_sheet.proofs.tell_event.Goals as goal
 pub slice_bounds-marks-end : goal.slice_bounds-marks-end
 slice_bounds-marks-end c = omega (arith, (shape_fits c.args.file.now c.args.shape c.requires).days)
 
-pub slice_bounds-tell_table-end : goal.slice_bounds-tell_table-end
-slice_bounds-tell_table-end c =
+pub slice_bounds-table-end : goal.slice_bounds-table-end
+slice_bounds-table-end c =
     let its : ((let a = c.args in let l = c.load_within in WithinBuffers a.shape (span 0 a.shape.days) a.file.now c.offset-count.result l.new.marks l.new.readings)) = (let s = c in
     let a = s.args in
     let all = span 0 a.shape.days in
@@ -33,8 +33,8 @@ slice_bounds-readings-end c =
     let few = (shape_fits c.args.file.now c.args.shape c.requires).days in
     omega (arith, offset_most c.args.shape.first c.args.shape.days 128 few)
 
-pub slice_bounds-tell_table-end-2 : goal.slice_bounds-tell_table-end-2
-slice_bounds-tell_table-end-2 c =
+pub slice_bounds-table-end-2 : goal.slice_bounds-table-end-2
+slice_bounds-table-end-2 c =
     let its : ((let a = c.args in let l = c.load_within in WithinBuffers a.shape (span 0 a.shape.days) a.file.now c.offset-count.result l.new.marks l.new.readings)) = (let s = c in
     let a = s.args in
     let all = span 0 a.shape.days in
@@ -48,8 +48,8 @@ slice_bounds-tell_table-end-2 c =
 pub slice_bounds-moves-end : goal.slice_bounds-moves-end
 slice_bounds-moves-end c = omega (arith, list_few c.args.file.now c.requires)
 
-pub slice_bounds-tell_table-end-3 : goal.slice_bounds-tell_table-end-3
-slice_bounds-tell_table-end-3 c =
+pub slice_bounds-tell_table-end : goal.slice_bounds-tell_table-end
+slice_bounds-tell_table-end c =
     sym (length-take-le (2 * c.args.shape.moves) _ (omega (arith, list_few c.args.file.now c.requires)))
 
 pub returns : goal.returns
