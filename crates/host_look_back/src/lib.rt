@@ -6,15 +6,14 @@ ghost use Rattle.std.specs.Prelude.{◌≡◌, ◌==◌, ◌<◌, ◌^◌, take,
 ghost use Rattle.std.specs.List.{position};
 ghost use Rattle.calendar_groups.specs.Holidays.{group as group_of};
 ghost use Rattle.method_working.specs.Working.{rank_in};
-ghost use Rattle.engine_rooms.specs.Rooms.{room_history};
+ghost use Rattle.engine_rooms.specs.Rooms.{history_of};
 ghost use Rattle.host_answer.specs.Names.{by_name};
 ghost use Rattle.host_working.specs.Told.{reason_number, day_numbers};
 ghost use Rattle.host_look_back.specs.Steps.{number_told, group_told, sum_told, rank_told, chosen_told, rank_there, takes};
 
-use engine_rooms::Directory;
+use engine_rooms::Case;
 use engine_window::Window;
 use host_answer::told;
-use method::Request;
 use method_working::Reason;
 
 // The places of the row of a day.
@@ -108,38 +107,26 @@ fn is_taken(window: Window, rank: u32) -> bool
 
 // The rank of a day, where the days held can tell the window.
 #[tactic(auto, using(crate::proofs::Windows::rank_untold, crate::proofs::Windows::rank_told_lem))]
-fn tell_rank(
-    moves: &[u32],
-    request: Request,
-    rooms: Directory,
-    readings: &[u32],
-    back: u32,
-) -> Option<i64>
-    ensures { result ≡ rank_told (group_of moves.now) request (room_history request rooms readings.now) back }
+fn tell_rank(case: &Case<'_>, back: u32) -> Option<i64>
+    ensures { result ≡ rank_told (group_of case.now.moves.now) case.now.request (history_of case.now) back }
 {
-    let window = engine_window::of_event(moves, request, rooms, readings);
+    let window = engine_window::of_event(case);
     if window.short {
         return None;
     }
-    told(rank_of(window, request.event, back))
+    told(rank_of(window, case.request.event, back))
 }
 
 // Whether a day is chosen, 1 or 0, where the days held can tell the window.
 #[tactic(auto, using(crate::proofs::Windows::chosen_untold))]
-fn tell_chosen(
-    moves: &[u32],
-    request: Request,
-    rooms: Directory,
-    readings: &[u32],
-    back: u32,
-) -> Option<i64>
-    ensures { result ≡ chosen_told (group_of moves.now) request (room_history request rooms readings.now) back }
+fn tell_chosen(case: &Case<'_>, back: u32) -> Option<i64>
+    ensures { result ≡ chosen_told (group_of case.now.moves.now) case.now.request (history_of case.now) back }
 {
-    let window = engine_window::of_event(moves, request, rooms, readings);
+    let window = engine_window::of_event(case);
     if window.short {
         return None;
     }
-    if is_taken(window, rank_of(window, request.event, back)) {
+    if is_taken(window, rank_of(window, case.request.event, back)) {
         told(1)
     } else {
         told(0)
@@ -148,28 +135,19 @@ fn tell_chosen(
 
 // What C is told of the day `back` days before an event, by its place in the row; nothing outside the look-back.
 #[tactic(auto, using(crate::proofs::Ways::outside, crate::proofs::Ways::past_row, crate::proofs::Ways::at_day, crate::proofs::Ways::at_group, crate::proofs::Ways::at_reason, crate::proofs::Ways::at_sum, crate::proofs::Ways::at_rank, crate::proofs::Ways::at_chosen))]
-pub fn tell_day(
-    moves: &[u32],
-    request: Request,
-    rooms: Directory,
-    readings: &[u32],
-    back: u32,
-    place: u32,
-) -> Option<i64>
-    ensures { result ≡ by_name (day_numbers (group_of moves.now) request (room_history request rooms readings.now) back) place }
+pub fn tell_day(case: &Case<'_>, back: u32, place: u32) -> Option<i64>
+    ensures { result ≡ by_name (day_numbers (group_of case.now.moves.now) case.now.request (history_of case.now) back) place }
 {
     if back < 1 || method::LOOK_BACK < back {
         return None;
     }
     match place {
-        DAY => tell_number(request.event, back),
-        GROUP => tell_group(moves, request.event, back),
-        REASON => told(reason_number(engine_reasons::reason(
-            moves, request, rooms, readings, back,
-        ))),
-        SUM => tell_sum(engine_reasons::sum(request, rooms, readings, back)),
-        RANK => tell_rank(moves, request, rooms, readings, back),
-        CHOSEN => tell_chosen(moves, request, rooms, readings, back),
+        DAY => tell_number(case.request.event, back),
+        GROUP => tell_group(case.moves, case.request.event, back),
+        REASON => told(reason_number(engine_reasons::reason(case, back))),
+        SUM => tell_sum(engine_reasons::sum(case, back)),
+        RANK => tell_rank(case, back),
+        CHOSEN => tell_chosen(case, back),
         _ => None,
     }
 }
