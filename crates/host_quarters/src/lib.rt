@@ -4,15 +4,15 @@
 
 ghost use Rattle.std.specs.Prelude.{◌≡◌, ◌≤◌, ◌<◌, ◌^◌, take};
 ghost use Rattle.calendar_groups.specs.Holidays.{group as group_of};
-ghost use Rattle.engine_rooms.specs.Rooms.{room_history};
+ghost use Rattle.engine_rooms.specs.Rooms.{history_of};
 ghost use Rattle.host_answer.specs.Names.{told, by_name};
 ghost use Rattle.host_working.specs.Told.{adjustment_numbers, quarter_numbers};
 ghost use Rattle.host_quarters.specs.Steps.{numerator_of};
 
 use engine_answer::Chosen;
-use engine_rooms::Directory;
+use engine_rooms::Case;
 use host_answer::told;
-use method::{Method, Request};
+use method::Method;
 
 // The places of the row of an adjustment window, and of that of a quarter.
 const END: u32 = 0;
@@ -34,33 +34,20 @@ fn told_sum(sum: u64) -> Option<i64>
 }
 
 // Of the adjustment window: where it ends, A and B.
-pub fn tell_adjustment(
-    moves: &[u32],
-    request: Request,
-    rooms: Directory,
-    readings: &[u32],
-    place: u32,
-) -> Option<i64>
-    ensures { result ≡ by_name (adjustment_numbers (group_of moves.now) request (room_history request rooms readings.now)) place }
+pub fn tell_adjustment(case: &Case<'_>, place: u32) -> Option<i64>
+    ensures { result ≡ by_name (adjustment_numbers (group_of case.now.moves.now) case.now.request (history_of case.now)) place }
 {
-    let Ok(chosen) = engine_choice::choose(moves, request, rooms, readings) else {
+    let Ok(chosen) = engine_choice::choose(case) else {
         return None;
     };
-    match request.method() {
+    match case.request.method() {
         Method::AverageXOfY => None,
         Method::HighXOfY => {
-            let end = engine_quarters::adjustment_end(request, rooms, readings)?;
+            let end = engine_quarters::adjustment_end(case)?;
             match place {
                 END => told(end),
-                OWN => told_sum(engine_quarters::own_sum(request, rooms, readings, end)),
-                USUAL => told_sum(engine_quarters::usual_sum(
-                    request,
-                    rooms,
-                    readings,
-                    chosen.days,
-                    chosen.count,
-                    end,
-                )),
+                OWN => told_sum(engine_quarters::own_sum(case, end)),
+                USUAL => told_sum(engine_quarters::usual_sum(case, chosen.days, chosen.count, end)),
                 _ => None,
             }
         }
@@ -68,52 +55,39 @@ pub fn tell_adjustment(
 }
 
 // The numerator of an event quarter before the floor, of its S(t) and the chosen days; nothing where there is no adjustment window.
-fn tell_numerator(
-    request: Request,
-    rooms: Directory,
-    readings: &[u32],
-    chosen: Chosen,
-    sum: u64,
-) -> Option<i64>
+fn tell_numerator(case: &Case<'_>, chosen: Chosen, sum: u64) -> Option<i64>
     requires { (chosen.count ≤ 5) × (sum ≤ 21474836475) }
-    ensures { result ≡ numerator_of request (room_history request rooms readings.now) (take chosen.count chosen.days) chosen.count sum }
+    ensures { result ≡ numerator_of case.now.request (history_of case.now) (take chosen.count chosen.days) chosen.count sum }
 {
-    match request.method() {
+    match case.request.method() {
         Method::AverageXOfY => told_sum(sum),
         Method::HighXOfY => {
-            let end = engine_quarters::adjustment_end(request, rooms, readings)?;
+            let end = engine_quarters::adjustment_end(case)?;
             let count = chosen.count;
-            let own = engine_quarters::own_sum(request, rooms, readings, end);
-            let usual = engine_quarters::usual_sum(request, rooms, readings, chosen.days, count, end);
+            let own = engine_quarters::own_sum(case, end);
+            let usual = engine_quarters::usual_sum(case, chosen.days, count, end);
             Some((12 * sum + (count as u64) * own) as i64 - usual as i64)
         }
     }
 }
 
 // Of a ruler quarter: S(t), and of an event's quarter the numerator before the floor.
-pub fn tell_quarter(
-    moves: &[u32],
-    request: Request,
-    rooms: Directory,
-    readings: &[u32],
-    t: u32,
-    place: u32,
-) -> Option<i64>
-    ensures { result ≡ by_name (quarter_numbers (group_of moves.now) request (room_history request rooms readings.now) t) place }
+pub fn tell_quarter(case: &Case<'_>, t: u32, place: u32) -> Option<i64>
+    ensures { result ≡ by_name (quarter_numbers (group_of case.now.moves.now) case.now.request (history_of case.now) t) place }
 {
-    let Ok(chosen) = engine_choice::choose(moves, request, rooms, readings) else {
+    let Ok(chosen) = engine_choice::choose(case) else {
         return None;
     };
     let days = chosen.days;
-    let sum = engine_quarters::quarter_sum(request, rooms, readings, days, chosen.count, t);
+    let sum = engine_quarters::quarter_sum(case, days, chosen.count, t);
     match place {
-        SUM => if t < day_ruler::end(request.event) {
+        SUM => if t < day_ruler::end(case.request.event) {
             told_sum(sum)
         } else {
             None
         },
-        NUMERATOR => if request.s <= t && t < request.e {
-            tell_numerator(request, rooms, readings, chosen, sum)
+        NUMERATOR => if case.request.s <= t && t < case.request.e {
+            tell_numerator(case, chosen, sum)
         } else {
             None
         },

@@ -10,12 +10,12 @@ use Rattle.host_quarters.proofs.Numerators.{by_average, without_window, with_win
 use Rattle.host_quarters.proofs.tell_numerator.Goals as goal
 
 pub returns-in-AverageXOfY : goal.returns-in-AverageXOfY
-returns-in-AverageXOfY c = c.told_sum.ensures ∙ by_average _ _ _ _ _ (asked_average c.args.request (sym c.in-AverageXOfY.ensures))
+returns-in-AverageXOfY c = c.told_sum.ensures ∙ by_average _ _ _ _ _ (asked_average c.args.case.now.request (sym c.in-AverageXOfY.ensures))
 
 pub returns-in_err-end-in-HighXOfY : goal.returns-in_err-end-in-HighXOfY
 returns-in_err-end-in-HighXOfY c =
     c.from_residual.ensures
-    ∙ without_window _ _ _ _ _ (asked_high c.args.request (sym c.in-HighXOfY.ensures)) (sym c.adjustment_end.ensures ∙ c.in_err-end-in-HighXOfY.was)
+    ∙ without_window _ _ _ _ _ (asked_high c.args.case.now.request (sym c.in-HighXOfY.ensures)) (sym c.adjustment_end.ensures ∙ c.in_err-end-in-HighXOfY.was)
 
 pub returns-in_ok-end-in-HighXOfY : goal.returns-in_ok-end-in-HighXOfY
 returns-in_ok-end-in-HighXOfY c =
@@ -24,4 +24,4 @@ returns-in_ok-end-in-HighXOfY c =
     let high : 12 * a.sum + a.chosen.count * own < 2 ^ 40 = omega (arith, mul-le-mul_right own c.requires.0, c.own_sum-own.ensures.1, c.requires.1) in
     let usual : c.usual_sum-usual.result < 2 ^ 40 = omega (arith, c.usual_sum-usual.ensures.1) in
     ap Some (difference_back (12 * a.sum + a.chosen.count * own) c.usual_sum-usual.result high usual)
-    ∙ with_window _ _ _ _ _ (asked_high c.args.request (sym c.in-HighXOfY.ensures)) (sym c.adjustment_end.ensures ∙ c.in_ok-end-in-HighXOfY.was) c.own_sum-own.ensures.0 c.usual_sum-usual.ensures.0
+    ∙ with_window _ _ _ _ _ (asked_high c.args.case.now.request (sym c.in-HighXOfY.ensures)) (sym c.adjustment_end.ensures ∙ c.in_ok-end-in-HighXOfY.was) c.own_sum-own.ensures.0 c.usual_sum-usual.ensures.0
