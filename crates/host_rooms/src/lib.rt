@@ -3,15 +3,14 @@
 
 ghost use Rattle.std.specs.Prelude.{◌≡◌};
 ghost use Rattle.calendar_groups.specs.Holidays.{group as group_of};
-ghost use Rattle.engine_rooms.specs.Rooms.{room_history};
+ghost use Rattle.engine_rooms.specs.Rooms.{history_of};
 ghost use Rattle.host_answer.specs.Names.{by_name};
 ghost use Rattle.host_working.specs.Told.{window_numbers, working_row};
 ghost use Rattle.host_rooms.specs.Steps.{window_row};
 
-use engine_rooms::Directory;
+use engine_rooms::Case;
 use engine_window::Window;
 use host_answer::{names, told};
-use method::Request;
 
 // The place of the event's own group in the row of a window, and those of a window's own numbers after it.
 const GROUP: u32 = 0;
@@ -45,63 +44,41 @@ fn tell_size(window: Window, place: u32) -> Option<i64>
 
 // Of the event's own group, and of its window.
 #[tactic(auto, using(crate::proofs::Rows::group_told, crate::proofs::Rows::size_told))]
-fn tell_window(
-    moves: &[u32],
-    request: Request,
-    rooms: Directory,
-    readings: &[u32],
-    place: u32,
-) -> Option<i64>
-    ensures { result ≡ by_name (window_numbers (group_of moves.now) request (room_history request rooms readings.now)) place }
+fn tell_window(case: &Case<'_>, place: u32) -> Option<i64>
+    ensures { result ≡ by_name (window_numbers (group_of case.now.moves.now) case.now.request (history_of case.now)) place }
 {
     if place == GROUP {
-        return told(engine_relevant::number(calendar_groups::group_of(moves, request.event)));
+        return told(engine_relevant::number(calendar_groups::group_of(
+            case.moves,
+            case.request.event,
+        )));
     }
-    let window = engine_window::of_event(moves, request, rooms, readings);
+    let window = engine_window::of_event(case);
     tell_size(window, place - 1)
 }
 
 // The number of a name; `at` is how many days before the event a day lies, or a ruler quarter, by what is asked.
 #[tactic(auto, using(crate::proofs::Rows::result_told, crate::proofs::Rows::window_told, crate::proofs::Rows::adjustment_told, crate::proofs::Rows::day_told, crate::proofs::Rows::quarter_told, crate::proofs::Rows::none_told))]
-pub fn tell_working(
-    moves: &[u32],
-    request: Request,
-    rooms: Directory,
-    readings: &[u32],
-    at: u32,
-    name: u32,
-) -> Option<i64>
-    ensures { result ≡ by_name (working_row (group_of moves.now) request (room_history request rooms readings.now) at) name }
+pub fn tell_working(case: &Case<'_>, at: u32, name: u32) -> Option<i64>
+    ensures { result ≡ by_name (working_row (group_of case.now.moves.now) case.now.request (history_of case.now) at) name }
 {
     match name {
         names::RESULT => told(0),
         names::WORKING_GROUP..=names::WORKING_TAKEN => tell_window(
-            moves,
-            request,
-            rooms,
-            readings,
+            case,
             name - names::WORKING_GROUP,
         ),
         names::WORKING_END..=names::WORKING_B => host_quarters::tell_adjustment(
-            moves,
-            request,
-            rooms,
-            readings,
+            case,
             name - names::WORKING_END,
         ),
         names::BACK_DAY..=names::BACK_CHOSEN => host_look_back::tell_day(
-            moves,
-            request,
-            rooms,
-            readings,
+            case,
             at,
             name - names::BACK_DAY,
         ),
         names::QUARTER_S..=names::QUARTER_NUMERATOR => host_quarters::tell_quarter(
-            moves,
-            request,
-            rooms,
-            readings,
+            case,
             at,
             name - names::QUARTER_S,
         ),
