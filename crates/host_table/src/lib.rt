@@ -8,6 +8,7 @@ ghost use Rattle.engine_refusals.specs.Steps.{tested};
 ghost use Rattle.host_answer.specs.Names.{by_name};
 ghost use Rattle.host_table.specs.OverTable.{table_sheet};
 
+use engine_rooms::Case;
 use host_answer::tell_refusal;
 use method::{QUARTERS, Refusal, Request};
 use table_days::LentTable;
@@ -28,9 +29,17 @@ fn tell_extract(
         return tell_refusal(Refusal::BadMoves, name);
     }
     let rooms = table_directory::directory(table.first, table.marks, request.event);
-    match engine_refusals::of_request(request, rooms, QUARTERS) {
+    match engine_refusals::of_request(request, &rooms, QUARTERS) {
         Err(refusal) => tell_refusal(refusal, name),
-        Ok(()) => host_rooms::tell_working(moves, request, rooms, table.readings, at, name),
+        Ok(()) => {
+            let case = Case {
+                moves,
+                request,
+                rooms: &rooms,
+                readings: table.readings,
+            };
+            host_rooms::tell_working(&case, at, name)
+        }
     }
 }
 
