@@ -28,7 +28,7 @@ fn of_event(moves: &[u32], request: Request) -> Result<(), Refusal>
             marks: [0; DAYS],
             held: 1,
         };
-        engine_refusals::of_request(request, own, QUARTERS)
+        engine_refusals::of_request(request, &own, QUARTERS)
     } else {
         Err(Refusal::BadMoves)
     }
