@@ -1,13 +1,8 @@
 -- What the private functions of telling the adjustment and the quarters give to each other.
-use Rattle.std.specs.Prelude.{ℕ, ◌-◌, ◌≡◌, not, cond, List, length, take, ℤ, eqb, is_some, Option, Some}
-use Rattle.calendar_groups.specs.declared.Group.{Group}
+use Rattle.std.specs.Prelude.{ℕ, ◌-◌, not, cond, List, ℤ, eqb, Option, Some}
 use Rattle.method.specs.declared.Request.{Request}
 use Rattle.method.specs.Table.{Day, History}
-use Rattle.method.specs.Method.{chosen}
 use Rattle.method.specs.Adjustment.{ruler, adjustment_end, A, B, adjustment, is_average, unfloored}
-use Rattle.method.specs.Requested.{method_of}
-use Rattle.method_working.specs.Working.{chooses}
-use Rattle.engine_answer.specs.declared.Chosen.{Chosen}
 use Rattle.engine_baseline.specs.Engine.{with_days}
 use Rattle.host_answer.specs.Names.{told, told_if}
 

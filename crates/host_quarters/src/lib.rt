@@ -34,6 +34,7 @@ fn told_sum(sum: u64) -> Option<i64>
 }
 
 // Of the adjustment window: where it ends, A and B.
+#[tactic(auto, using(crate::proofs::Picking::some_picked, crate::proofs::Picking::none_picked, crate::proofs::Picking::days_picked, method::proofs::Asked::asked_average, method::proofs::Asked::asked_high, crate::proofs::Ways::none_chosen, crate::proofs::Ways::of_average, crate::proofs::Ways::no_window, crate::proofs::Ways::end_told, crate::proofs::Ways::own_told, crate::proofs::Ways::usual_told, crate::proofs::Ways::no_other))]
 pub fn tell_adjustment(case: &Case<'_>, place: u32) -> Option<i64>
     ensures { result ≡ by_name (adjustment_numbers (group_of case.now.moves.now) case.now.request (history_of case.now)) place }
 {
@@ -55,6 +56,7 @@ pub fn tell_adjustment(case: &Case<'_>, place: u32) -> Option<i64>
 }
 
 // The numerator of an event quarter before the floor, of its S(t) and the chosen days; nothing where there is no adjustment window.
+#[tactic(auto, using(method::proofs::Asked::asked_average, method::proofs::Asked::asked_high, crate::proofs::Numerators::by_average, crate::proofs::Numerators::without_window))]
 fn tell_numerator(case: &Case<'_>, chosen: Chosen, sum: u64) -> Option<i64>
     requires { (chosen.count ≤ 5) × (sum ≤ 21474836475) }
     ensures { result ≡ numerator_of case.now.request (history_of case.now) (take chosen.count chosen.days) chosen.count sum }
@@ -72,6 +74,7 @@ fn tell_numerator(case: &Case<'_>, chosen: Chosen, sum: u64) -> Option<i64>
 }
 
 // Of a ruler quarter: S(t), and of an event's quarter the numerator before the floor.
+#[tactic(auto, using(crate::proofs::Picking::some_picked, crate::proofs::Picking::none_picked, crate::proofs::Picking::days_picked, crate::proofs::Picking::count_picked, engine_choice::proofs::Requested::chosen_five, crate::proofs::Ways::quarter_none, crate::proofs::Ways::sum_told, crate::proofs::Ways::past_ruler, crate::proofs::Ways::numerator_told, crate::proofs::Ways::outside_event, crate::proofs::Ways::past_quarter))]
 pub fn tell_quarter(case: &Case<'_>, t: u32, place: u32) -> Option<i64>
     ensures { result ≡ by_name (quarter_numbers (group_of case.now.moves.now) case.now.request (history_of case.now) t) place }
 {

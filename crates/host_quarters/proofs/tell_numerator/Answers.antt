@@ -1,21 +1,13 @@
--- `host_quarters::tell_numerator` meets its contract.
+-- `host_quarters::tell_numerator` meets its contract: a difference of two numbers, each of which fits.
 use Prim.Native.Nat.{◌+◌, ◌*◌, ◌<◌, ◌^◌}
 use mathlib.Core.Path.{sym, ap, ◌∙◌}
 use native.Mathlib.Nat.{mul-le-mul_right}
 use native.Mathlib.Omega.{arith}
 use Rattle.std.specs.Prelude.{Some}
-use Rattle.method.proofs.Asked.{asked_average, asked_high}
+use Rattle.method.proofs.Asked.{asked_high}
 use Rattle.engine_numerators.proofs.Signed.{difference_back}
-use Rattle.host_quarters.proofs.Numerators.{by_average, without_window, with_window}
+use Rattle.host_quarters.proofs.Numerators.{with_window}
 use Rattle.host_quarters.proofs.tell_numerator.Goals as goal
-
-pub returns-in-AverageXOfY : goal.returns-in-AverageXOfY
-returns-in-AverageXOfY c = c.told_sum.ensures ∙ by_average _ _ _ _ _ (asked_average c.args.case.now.request (sym c.in-AverageXOfY.ensures))
-
-pub returns-in_err-end-in-HighXOfY : goal.returns-in_err-end-in-HighXOfY
-returns-in_err-end-in-HighXOfY c =
-    c.from_residual.ensures
-    ∙ without_window _ _ _ _ _ (asked_high c.args.case.now.request (sym c.in-HighXOfY.ensures)) (sym c.adjustment_end.ensures ∙ c.in_err-end-in-HighXOfY.was)
 
 pub returns-in_ok-end-in-HighXOfY : goal.returns-in_ok-end-in-HighXOfY
 returns-in_ok-end-in-HighXOfY c =
