@@ -14,7 +14,7 @@ use method::{QUARTERS, Refusal, Request};
 use table_days::LentTable;
 
 // Refusals 1 to 3 do not apply: 14 and 4 to 7, or the working over the table's rooms.
-#[tactic(auto, using(crate::proofs::Tests::list_told))]
+#[tactic(auto, using(crate::proofs::Tests::list_told, crate::proofs::Tests::request_told))]
 fn tell_extract(
     table: &LentTable<'_, '_>,
     moves: &[u32],
