@@ -15,14 +15,13 @@ fn is_good(reading: u32) -> bool
     (reading <= 10000000) | (reading == MISSING)
 }
 
-// Every reading and `more`, their bits put together: none of them is above it. By its place: with `for &reading in block` a complete day took
-// 12.3 ns where it takes 9.0.
+// Every reading and `more`, their bits put together: none of them is above it.
 fn joined(block: &[u32], more: u32) -> u32
     ensures { Joined block.now more result }
 {
     let mut bits = 0;
-    for i in 0..block.len() {
-        bits = bits | std::num::wrapping_add_u32(block[i], more);
+    for &reading in block {
+        bits |= reading.wrapping_add(more);
     }
     bits
 }
