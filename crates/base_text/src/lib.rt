@@ -41,7 +41,7 @@ impl Text<'_> {
         self.put_field(b"", n);
     }
 
-    // A number in decimal digits, with a minus sign where it is negative.
+    // A number in decimal digits, with a minus sign where it is negative. Beside `put_number`, since `dec` and `decimal` are two definitions.
     pub fn put_signed(&mut self, z: i64)
         ensures keeps { Keeps self.old self.new }
         ensures puts { Puts self.old.out.now self.old.at (decimal z) self.new.at self.new.out.now }

@@ -32,7 +32,7 @@ fn easter_from_march(year: u32) -> u32
     }
 }
 
-// The day number of Easter Sunday, and 0 outside the calendar.
+// The day number of Easter Sunday, and 0 outside the calendar, as the definition `easter` has it.
 pub fn easter(year: u32) -> u32
     ensures { result ≡ easter_of year }
 {
@@ -71,7 +71,8 @@ fn is_from_clean_monday(after: u32) -> bool
     matches!(after, 0 | 46 | 47 | 48 | 49 | 98)
 }
 
-// `day` is one of the eight holidays of its year that have a fixed date: two before March, six after February.
+// `day` is one of the eight holidays of its year that have a fixed date: two before March, six after February. Not one function with the other six,
+// which are counted from another day and looked for among other days: it would be no plainer.
 pub fn is_fixed_holiday(day: u32) -> bool
     ensures { result ≡ is_fixed_holiday day }
 {

@@ -27,7 +27,7 @@ fn all_good(marks: &[u8]) -> bool
     marks.iter().fold(true, |good, &mark| good & (mark < 4))
 }
 
-// The place of the first mark with another bit; the number of marks where there is none.
+// The place of the first mark with another bit; the number of marks where there is none, as `leading` has it.
 pub fn first_bad_mark(marks: &[u8]) -> usize
     ensures { result ≡ leading good_mark marks.now }
 {

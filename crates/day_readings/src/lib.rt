@@ -27,7 +27,7 @@ fn joined(block: &[u32], more: u32) -> u32
 }
 
 // Whether no reading is missing. Where the bits put together are not all set none is; else each reading is asked, without a branch in the loop, so
-// that it takes several at a time; by its place, where the edit `complete_skips_first` begins one late.
+// that it takes several at a time.
 pub fn complete(day: &[u32]) -> bool
     ensures { result ≡ all present day.now }
 {
@@ -35,8 +35,8 @@ pub fn complete(day: &[u32]) -> bool
         return true;
     }
     let mut all_present = true;
-    for i in 0..day.len() {
-        all_present = all_present & (day[i] != MISSING);
+    for &reading in day {
+        all_present &= reading != MISSING;
     }
     all_present
 }
@@ -66,7 +66,8 @@ fn good_blocks(readings: &[u32], start: usize, more: u32) -> usize
     at
 }
 
-// The place of the first reading out of range that is not the missing mark; the number of readings where there is none. Up to the first
+// The place of the first reading out of range that is not the missing mark; the number of readings where there is none, as `leading` has it.
+// Up to the first
 // block that has a missing one the test is shorter.
 pub fn first_bad_reading(readings: &[u32]) -> usize
     ensures { result ≡ leading good_reading readings.now }

@@ -7,7 +7,7 @@ ghost use Rattle.engine_places.specs.PlaceSteps.{placed_of};
 use engine_rooms::Case;
 
 // Where the chosen days stand, how many of the five they are, how many quarters each has, where the adjustment window ends, and which of its
-// quarters stands against the event's first.
+// quarters stands against the event's first. Five places and a count, as `Chosen` has them.
 #[derive(Clone, Copy, Debug, PartialEq, Eq)]
 pub struct Places {
     pub at: [u32; 5],

@@ -4,7 +4,8 @@
 ghost use Rattle.std.specs.Prelude.{◌≡◌, ◌+◌, min, take, set};
 ghost use Rattle.engine_ranking.specs.Steps.{pushed, insert_all, no_words, most_words};
 
-// The words of so many days, of which ten have a place; 0 stands after the last.
+// The words of so many days, of which ten have a place; 0 stands after the last, as in `padded`. Ten plain words and no Options: a row of words is put in
+// order in one pass with no branch.
 #[derive(Clone, Copy, Debug, PartialEq, Eq)]
 pub struct Ranking {
     pub words: [u64; 10],

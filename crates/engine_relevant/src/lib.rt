@@ -48,7 +48,7 @@ pub fn relevant(moves: &[u32], request: Request, group: Group, day: u32) -> bool
     in_group(moves, group, day)
 }
 
-// How far back the oldest relevant day lies; 0 where none is relevant. It is looked for from the farthest day on. A `find` over the same days took a tenth
+// How far back the oldest relevant day lies; 0 where none is relevant, as the definition has it. It is looked for from the farthest day on. A `find` over the same days took a tenth
 // longer, and a range with its end, `1..=farthest`, some hundredths.
 pub fn whole_reach(moves: &[u32], request: Request) -> u32
     ensures { result ≡ whole_reach (method_of (group_of moves.now) request) }

@@ -12,7 +12,7 @@ use method::Request;
 pub const DAYS: usize = 46;
 
 // Where the days from D-45 to D stand in lent readings, and their marks: entry i is day D - i. So many of them are held, D first: 0 where D is
-// not.
+// not. A store fills two arrays as easily as one of pairs, and `Agree`, `room_day` and `held_rooms` are stated of these and of this 0.
 #[derive(Clone, Copy, Debug, PartialEq, Eq)]
 pub struct Directory {
     pub at: [u32; DAYS],

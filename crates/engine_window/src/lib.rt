@@ -13,7 +13,8 @@ use engine_rooms::Case;
 use engine_rules::Rules;
 
 // The window of an event: whether the days held can't tell it (refusal 8), Y, its days by rank, how many they are, and of its ranks how many are passed
-// over and taken. It is not an Option by `short`: days and ranks of a short window are promised too (`window_of`).
+// over and taken. It is not an Option by `short`: days and ranks of a short window are promised too, and ten places for the days
+// (`window_of`). It begins as `engine_choice::choose` does: one function for both would hand rules and what was found on by value, and be no plainer.
 #[derive(Clone, Copy, Debug, PartialEq, Eq)]
 pub struct Window {
     pub short: bool,

@@ -38,7 +38,8 @@ fn asked(shape: Shape, event: u32) -> Span
     }
 }
 
-// The place of the first bad reading of a file's table, of which the readings of a span are loaded.
+// The place of the first bad reading of a file's table, of which the readings of a span are loaded; their number where there is none, as `leading` has
+// it.
 fn first_bad_reading(file: &[u8], shape: Shape, span: Span, rooms: &[u32]) -> usize
     requires { Loaded file.now shape span rooms.now }
     ensures { result ≡ leading good_reading (table_in file.now).readings }

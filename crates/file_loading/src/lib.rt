@@ -13,7 +13,7 @@ use file_record::{Shape, Span};
 use file_starts::BEFORE_READINGS;
 use method::QUARTERS;
 
-// The mark bytes of the days, put first.
+// The mark bytes of the days, put first. By their number, from which their place in the file is worked out.
 fn load_marks(file: &[u8], shape: Shape, marks: &mut [u8])
     requires { (day_start (shape_base shape) shape.first shape.days ≤ length file.now) × (shape.days ≤ length marks.old) }
     ensures { marks.new ≡ (table_within shape file.now).marks ++ drop shape.days marks.old }
@@ -123,7 +123,7 @@ fn pass_days(file: &[u8], shape: Shape, span: Span) -> usize
     place(shape, span, span.end)
 }
 
-// The place of the first bad reading of a span of days, among its own readings; their number where there is none. The days are tested on their way
+// The place of the first bad reading of a span of days, among its own readings; their number where there is none, as `leading` has it. The days are tested on their way
 // through one buffer, and none is kept. Where the span does not stand in the file it is 0.
 pub fn first_bad_reading(file: &[u8], shape: Shape, span: Span) -> usize
     ensures { result ≡ bad_within shape span file.now }

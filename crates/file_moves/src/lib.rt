@@ -44,7 +44,8 @@ pub fn move_at(file: &[u8], place: usize) -> Result<Option<Move>, Refusal>
     Ok(move_within(file, shape, place))
 }
 
-// The numbers of the moves, put first.
+// The numbers of the moves, put first. By their number: their place in the file and in the list are worked out from it, and of the elements that
+// `chunks_exact_mut` gives nothing is known afterwards.
 fn load(file: &[u8], shape: Shape, moves: &mut [u32])
     requires { (move_start shape.moves ≤ length file.now) × (2 * shape.moves ≤ length moves.old) }
     ensures { moves.new ≡ list_within shape file.now ++ drop (2 * shape.moves) moves.old }
@@ -59,7 +60,7 @@ fn load(file: &[u8], shape: Shape, moves: &mut [u32])
 }
 
 // Puts the list of moves of a file of this shape into a lent buffer, and says whether it fits: it stands first, the rest is kept. Where it does not fit
-// nothing changes.
+// nothing changes. A bool and no Result: `list_fits` is of every shape.
 #[tactic(auto, unfolding(crate::specs::Steps::list_fits))]
 pub fn load_list(file: &[u8], shape: Shape, moves: &mut [u32]) -> bool
     ensures said { result ≡ list_fits shape (length file.now) (length moves.old) }

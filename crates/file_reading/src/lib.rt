@@ -79,7 +79,7 @@ fn count_moves(file: &[u8]) -> u8
         .count() as u8
 }
 
-// The first day, 0 where there is no DY.
+// The first day, 0 where there is no DY, as `read_file` has it.
 #[tactic(auto, using(file_record::proofs::Files::first_cut, file_record::proofs::Files::first_named, file_record::proofs::Files::first_other))]
 fn first_in(file: &[u8], base: u32) -> u32
     ensures value { result ≡ cond (is_dy (drop base file.now)) (dy_day (drop base file.now)) 0 }

@@ -26,7 +26,8 @@ fn tell_shape(shape: Shape, name: u32) -> Option<i64>
     }
 }
 
-// Of what reading a file gave: what it holds, or refusal 11.
+// Of what reading a file gave: what it holds, or refusal 11. Not one function with the two below: each row is of another type, and a function of all three
+// would want the row as a closure with a clause of its own.
 #[tactic(auto, using(crate::proofs::Ways::of_read))]
 pub fn tell_file(read: Result<Shape, Refusal>, name: u32) -> Option<i64>
     ensures { result ≡ file_told read name }

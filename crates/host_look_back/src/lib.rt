@@ -16,7 +16,7 @@ use engine_window::Window;
 use host_answer::told;
 use method_working::Reason;
 
-// The places of the row of a day.
+// The places of the row of a day. Numbers and no enum, as the names that C asks by (`host_answer::names`).
 const DAY: u32 = 0;
 
 const GROUP: u32 = 1;

@@ -34,7 +34,7 @@ fn of_event(moves: &[u32], request: Request) -> Result<(), Refusal>
     }
 }
 
-// Of an event day, whether it is held, how many days before it are, and how many always suffice.
+// Of an event day, whether it is held, how many days before it are, and how many always suffice. A flag beside a number, as `numbers_of` has it.
 #[tactic(auto, unfolding(host_answer::specs::Names::by_name, host_answer::specs::Names::row_from, crate::specs::Overlap::numbers_of))]
 fn tell_numbers(there: bool, before: u32, far: u32, event: u32, name: u32) -> Option<i64>
     requires { far ≤ event }

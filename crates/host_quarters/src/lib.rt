@@ -14,7 +14,7 @@ use engine_rooms::Case;
 use host_answer::told;
 use method::Method;
 
-// The places of the row of an adjustment window, and of that of a quarter.
+// The places of the row of an adjustment window, and of that of a quarter. Numbers and no enum, as the names that C asks by (`host_answer::names`).
 const END: u32 = 0;
 
 const OWN: u32 = 1;

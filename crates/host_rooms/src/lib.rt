@@ -12,7 +12,8 @@ use engine_rooms::Case;
 use engine_window::Window;
 use host_answer::{names, told};
 
-// The place of the event's own group in the row of a window, and those of a window's own numbers after it.
+// The place of the event's own group in the row of a window, and those of a window's own numbers after it. Numbers and no enum, as the
+// names that C asks by (`host_answer::names`).
 const GROUP: u32 = 0;
 
 const MOST: u32 = 0;

@@ -20,7 +20,7 @@ pub const LOOK_BACK: u32 = 45;
 // 01: "4,294,967,295 means missing"
 pub const MISSING: u32 = 4294967295;
 
-// The same as an enum.
+// The methods as an enum.
 #[derive(Clone, Copy, Debug, PartialEq, Eq)]
 pub enum Method {
     HighXOfY,
@@ -50,7 +50,7 @@ pub struct Request {
     pub s: u32,
     pub e: u32,
     pub n: u32,
-    // its number, and no `Method`: an unknown one has to come as far as refusal 4
+    // its number, and no `Method`: an unknown one has to come as far as refusal 4 (`good_request`)
     pub method: u32,
 }
 

@@ -40,6 +40,7 @@ fn table_lines(rt: &impl Print, table: &LentTable<'_, '_>, last: u32) -> io::Res
 // Readings that tell their place.
 fn numbered() -> [u32; 384] {
     let mut readings = [0; 384];
+    // by its number, which is what a reading says
     for i in 0..384 {
         readings[i] = 1000 + i as u32;
     }

@@ -21,7 +21,7 @@ pub enum WrongUse {
     Second(usize),
 }
 
-// What the words so far ask for, and whether a `--` among them ended the options.
+// What the words so far ask for, and whether a `--` among them ended the options, whatever they ask for.
 #[derive(Clone, Copy, Debug, PartialEq, Eq)]
 pub struct Line {
     pub wanted: Result<Wanted, WrongUse>,

@@ -12,7 +12,8 @@ use engine_answer::Answer;
 use method::{QUARTERS, Refusal, Request};
 use table_days::LentTable;
 
-// The answer worked out in a buffer of numbers, and the numerators put as bytes.
+// The answer worked out in a buffer of numbers, and the numerators put as bytes. Not one function with `table_engine::over_table`: it would ask for a trait of
+// outputs.
 fn through_numbers(
     table: &LentTable<'_, '_>,
     moves: &[u32],

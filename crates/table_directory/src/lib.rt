@@ -7,7 +7,7 @@ ghost use Rattle.table_directory.specs.Steps.{entries_of, directory_of};
 
 use engine_rooms::Directory;
 
-// How many days have a room in the directory of an event.
+// How many days have a room in the directory of an event; 0 where it is not held, as `directory_of` has it.
 fn entries(first: u32, marks: &[u8], event: u32) -> u32
     ensures { (readings : List ℕ) → result ≡ entries_of (table_of first marks.now readings) event }
 {
@@ -30,6 +30,7 @@ pub fn directory(first: u32, marks: &[u8], event: u32) -> Directory
     let entries = entries(first, marks, event);
     let mut at = [0u32; engine_rooms::DAYS];
     let mut kept = [0u8; engine_rooms::DAYS];
+    // by how many days back, from which day and place are worked out
     for i in 0..entries {
         let day = event - i;
         let before = day - first;
