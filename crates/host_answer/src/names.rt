@@ -3,7 +3,9 @@
 
 // of every entry that is asked by a name
 pub const RESULT: u32 = 0;
+
 pub const CARRIED: u32 = 1;
+
 pub const CARRIED_SECOND: u32 = 2;
 
 // of an answer
