@@ -1,4 +1,3 @@
 pub mod Digits
-mod Signed
-pub mod Spelling
+pub mod Std
 mod DigitExamples

@@ -1,5 +1,3 @@
-pub mod Text
-mod Copying
-mod Numbers
-mod Field
+pub mod Putting
+pub mod Pieces
 mod TextExamples

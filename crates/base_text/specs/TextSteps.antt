@@ -1,5 +1,6 @@
 -- A piece of text put into a lent buffer.
 use Rattle.std.specs.Prelude.{ℕ, ◌+◌, ◌≡◌, cond, List, ◌++◌, length, take, drop, leb}
+use Rattle.base_text.specs.declared.Text.{Text}
 
 -- the buffer `d` with the text `t` at place `at`, where it fits whole; else `d` as it is
 unfoldable pub put : List ℕ → ℕ → List ℕ → List ℕ
@@ -18,3 +19,8 @@ pub record Puts (d : List ℕ) (at : ℕ) (t : List ℕ) (r : ℕ) (d' : List �
 pub record PutsBoth (d : List ℕ) (at : ℕ) (a b : List ℕ) (r : ℕ) (d' : List ℕ) : Type 0 where
   pub next : r ≡ next d (next d at a) b
   pub holds : d' ≡ put d at (a ++ b)
+
+-- what is written to is still the same lent buffer
+pub record Keeps (t t' : Text) : Type 0 where
+  pub same : t'.out.ghost_name ≡ t.out.ghost_name
+  pub size : length t'.out.now ≡ length t.out.now

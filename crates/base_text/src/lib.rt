@@ -1,66 +1,69 @@
-// The pieces that a text is written with. Each is put into the buffer whole or not at all, and answers the place after it; a place past the end says
+// The pieces that a text is written with. Each is put into the buffer whole or not at all, and the place goes on behind it; a place past the end says
 // that something did not fit, and nothing is written there. How far that place can be is said too.
 #![tactic(auto)]
 
-ghost use Rattle.std.specs.Prelude.{◌≡◌, ◌≤◌, ◌+◌, ◌<◌, length, drop};
+ghost use Rattle.std.specs.Prelude.{◌≤◌, ◌+◌, length};
 ghost use Rattle.base_digits.specs.Digits.{dec, decimal};
-ghost use Rattle.base_text.specs.TextSteps.{Puts, PutsBoth};
+ghost use Rattle.base_text.specs.TextSteps.{Puts, PutsBoth, Keeps};
 
-use base_digits::Spelt;
+use itoa::Buffer;
 
-// The bytes as they are.
-pub fn put_bytes(out: &mut [u8], at: usize, bytes: &[u8]) -> usize
-    ensures { Puts out.old at bytes.now result out.new × (result ≤ at + length bytes.now) }
-{
-    if out.len() < at {
-        return at;
-    }
-    let end = at + bytes.len();
-    if out.len() < end {
-        return end;
-    }
-    let mut i = 0;
-    while i < bytes.len() {
-        out[at + i] = bytes[i];
-        i += 1;
-    }
-    end
+// A text that is written into a lent buffer, and the place where it goes on.
+#[derive(Drop)]
+pub struct Text<'a> {
+    pub out: &'a mut [u8],
+    pub at: usize,
 }
 
-// A text that is spelt.
-fn put_spelt(out: &mut [u8], at: usize, spelt: Spelt) -> usize
-    requires { (length spelt.bytes ≡ 20) × (spelt.start < 20) }
-    ensures { Puts out.old at (drop spelt.start spelt.bytes) result out.new }
-{
-    let bytes = spelt.bytes;
-    let start = spelt.start;
-    put_bytes(out, at, &bytes[start..])
-}
-
-// A number in decimal digits.
-pub fn put_number(out: &mut [u8], at: usize, n: u32) -> usize
-    ensures { Puts out.old at (dec n) result out.new × (result ≤ at + 10) }
-{
-    put_spelt(out, at, base_digits::spell(n as u64))
-}
-
-// A number in decimal digits, with a minus sign where it is negative.
-pub fn put_signed(out: &mut [u8], at: usize, z: i64) -> usize
-    ensures { Puts out.old at (decimal z) result out.new × (result ≤ at + 20) }
-{
-    put_spelt(out, at, base_digits::spell_signed(z))
-}
-
-// A label and a number in decimal digits, both or neither.
-pub fn put_field(out: &mut [u8], at: usize, label: &[u8], n: u32) -> usize
-    ensures { PutsBoth out.old at label.now (dec n) result out.new × (result ≤ at + length label.now + 10) }
-{
-    if out.len() < at {
-        return at;
+impl Text<'_> {
+    // The bytes as they are.
+    pub fn put_bytes(&mut self, bytes: &[u8])
+        ensures keeps { Keeps self.old self.new }
+        ensures puts { Puts self.old.out.now self.old.at bytes.now self.new.at self.new.out.now }
+        ensures most { self.new.at ≤ self.old.at + length bytes.now }
+    {
+        if self.out.len() < self.at {
+            return;
+        }
+        let end = self.at + bytes.len();
+        if end <= self.out.len() {
+            self.out[self.at..end].copy_from_slice(bytes);
+        }
+        self.at = end;
     }
-    let end = put_number(out, at + label.len(), n);
-    if end <= out.len() {
-        put_bytes(out, at, label);
+
+    // A number in decimal digits.
+    pub fn put_number(&mut self, n: u32)
+        ensures keeps { Keeps self.old self.new }
+        ensures puts { Puts self.old.out.now self.old.at (dec n) self.new.at self.new.out.now }
+        ensures most { self.new.at ≤ self.old.at + 10 }
+    {
+        self.put_field(b"", n);
     }
-    end
+
+    // A number in decimal digits, with a minus sign where it is negative. Beside `put_number`, since `dec` and `decimal` are two definitions.
+    pub fn put_signed(&mut self, z: i64)
+        ensures keeps { Keeps self.old self.new }
+        ensures puts { Puts self.old.out.now self.old.at (decimal z) self.new.at self.new.out.now }
+        ensures most { self.new.at ≤ self.old.at + 20 }
+    {
+        self.put_bytes(Buffer::new().format(z).as_bytes());
+    }
+
+    // A label and a number in decimal digits, both or neither.
+    pub fn put_field(&mut self, label: &[u8], n: u32)
+        ensures keeps { Keeps self.old self.new }
+        ensures puts { PutsBoth self.old.out.now self.old.at label.now (dec n) self.new.at self.new.out.now }
+        ensures most { self.new.at ≤ self.old.at + length label.now + 10 }
+    {
+        if self.out.len() < self.at {
+            return;
+        }
+        let start = self.at;
+        self.at += label.len();
+        self.put_bytes(Buffer::new().format(n).as_bytes());
+        if self.at <= self.out.len() {
+            self.out[start..start + label.len()].copy_from_slice(label);
+        }
+    }
 }

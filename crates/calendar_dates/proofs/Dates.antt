@@ -1,9 +1,10 @@
 -- A day number and its date: the month is found where the days before it stop short of the days passed.
 use Prim.Native.Nat.{ℕ, zero, suc, ◌+◌, ◌-◌, ◌*◌, ◌/◌, ◌%◌, ◌≤◌, ◌<◌}
-use mathlib.Core.Path.{◌≡◌, ap, sym}
-use mathlib.Core.Bool.{true, false, ◌&&◌}
+use mathlib.Core.Path.{◌≡◌, refl, ap, sym, ◌∙◌}
+use mathlib.Core.Bool.{Bool, true, false, ◌&&◌}
 use mathlib.Core.List.{List, [], ◌∷◌}
 use mathlib.Core.Logic.{⊎_elim}
+use Rattle.std.specs.Prelude.{Some, None}
 use native.Mathlib.Omega.{arith}
 use native.Mathlib.Numerals.{add-one}
 use native.Mathlib.Nat.{not-suc-le-zero, zero-add, add-zero}
@@ -17,8 +18,6 @@ use Rattle.calendar_dates.specs.Days.{last_day, in_calendar, months, new_year, y
 use Rattle.calendar_dates.specs.Steps.{place_of}
 use Rattle.calendar_dates.specs.declared.Date.{Date}
 use Rattle.calendar_dates.specs.declared.Place.{Place}
-use Rattle.calendar_dates.specs.declared.Numbered.TheVariants.{Day, NoSuchDate}
-use Rattle.calendar_dates.specs.declared.Dated.TheVariants.{On}
 use Rattle.calendar_dates.proofs.Years.{in_calendar_lem, leap-le, next_year, calendar_end, year_of_least, year_of_in, in_its_year, year_of_day}
 use Rattle.calendar_dates.proofs.Months.{days_of_year}
 
@@ -92,21 +91,6 @@ month_length y m h =
     let e = rw whole at (sum_take-suc (months y) (m - 1)) in
     omega arith
 
--- what is left to test of a date whose year and month are right
-pub date_test :
-    (y m d : ℕ) → (2000 ≤ y) × (y ≤ 2099) × (1 ≤ m) × (m ≤ 12) × (1 ≤ d) →
-    is_date y m d ≡ leb d (sum_of (take m (months y)) - sum_of (take (m - 1) (months y)))
-unfolding is_date
-date_test y m d h =
-    rw (
-      le-leb 2000 y h.0,
-      le-leb y 2099 h.1,
-      le-leb 1 m h.2,
-      le-leb m 12 h.3,
-      le-leb 1 d h.4,
-      month_length y m h.2,
-    )
-
 -- a date lies in its year
 pub date_in_year : (y m d : ℕ) → Real y m d → (new_year y ≤ day_number y m d) × (day_number y m d < new_year (y + 1))
 unfolding day_number months
@@ -122,30 +106,39 @@ pub date_at :
 unfolding date_of
 date_at d k j e h = rw e (after_at (year_of d) 1 (months (year_of d)) k j h)
 
--- a day number from its parts
-pub parts_number : (y m d : ℕ) {new before : ℕ} → new ≡ new_year y → before ≡ sum_of (take (m - 1) (months y)) → new + before + (d - 1) ≡ day_number y m d
-unfolding day_number
-parts_number y m d e f = rw (e, f)
+-- what the code finds of a date makes its day number
+module _ (t : Date) {month : Bool} (m : month ≡ (in_calendar t.year && (leb 1 t.month && leb t.month 12))) where
+  pub no_month : month ≡ false → None ≡ numbered t
+  unfolding numbered is_date
+  no_month e = rw (sym m ∙ e) refl
+
+  module _ (real : month ≡ true) {whole before : ℕ} (w : whole ≡ sum_of (take t.month (months t.year))) (b : before ≡ sum_of (take (t.month - 1) (months t.year))) where
+    day_count : get_or (months t.year) (t.month - 1) 0 ≡ whole - before
+    day_count = rw (w, b) (month_length t.year t.month (leb-true 1 t.month (both (leb 1 t.month) (leb t.month 12) (both (in_calendar t.year) (leb 1 t.month && leb t.month 12) (sym m ∙ real)).1).0))
+
+    pub no_day : (leb 1 t.day && leb t.day (whole - before)) ≡ false → None ≡ numbered t
+    unfolding numbered is_date
+    no_day e = rw (sym m ∙ real, day_count, e) refl
+
+    pub its_day : {new : ℕ} → (leb 1 t.day && leb t.day (whole - before)) ≡ true → new ≡ new_year t.year → Some (new + before + (t.day - 1)) ≡ numbered t
+    unfolding numbered is_date day_number
+    its_day e n = rw (sym m ∙ real, day_count, e, n, b) refl
 
 module _ (t : Date) (n : ℕ) where
-  pub numbered_day : is_date t.year t.month t.day ≡ true → n ≡ day_number t.year t.month t.day → Day n ≡ numbered t
-  unfolding numbered
-  numbered_day h e = rw h (ap Day e)
-
   -- a date that has a day number is one
-  pub numbered_is : numbered t ≡ Day n → (is_date t.year t.month t.day ≡ true) × (n ≡ day_number t.year t.month t.day)
+  pub numbered_is : numbered t ≡ Some n → (is_date t.year t.month t.day ≡ true) × (n ≡ day_number t.year t.month t.day)
   unfolding numbered
   numbered_is e = ⊎_elim (λ h. let f = rw h at e in (h, cc)) (λ h. let f = rw h at e in absurd (never f)) (bool_cases (is_date t.year t.month t.day))
     where
-      never : NoSuchDate ≡ Day n → ⊥
+      never : None ≡ Some n → ⊥
       never f = let z : ◌≡◌ {A = ℕ} 0 1 = cc in omega arith
 
 -- and one that has none is not
-pub not-numbered : (t : Date) → numbered t ≡ NoSuchDate → is_date t.year t.month t.day ≡ false
+pub not-numbered : (t : Date) → numbered t ≡ None → is_date t.year t.month t.day ≡ false
 unfolding numbered
 not-numbered t e = ⊎_elim (λ h. let f = rw h at e in absurd (never f)) (λ h. h) (bool_cases (is_date t.year t.month t.day))
   where
-    never : Day (day_number t.year t.month t.day) ≡ NoSuchDate → ⊥
+    never : Some (day_number t.year t.month t.day) ≡ None → ⊥
     never f = let z : ◌≡◌ {A = ℕ} 0 1 = cc in omega arith
 
 -- fewer days of its year have passed than it has
@@ -172,19 +165,19 @@ module _ (d : ℕ) {p : Place} (e : p ≡ place_of d) where
 
   pub dated-on :
       (k s : ℕ) → d ≤ last_day → s ≡ sum_of (take k (months p.year)) → s ≤ p.passed →
-      p.passed < sum_of (take (k + 1) (months p.year)) → On (on p.year (k + 1) (p.passed - s + 1)) ≡ dated d
+      p.passed < sum_of (take (k + 1) (months p.year)) → Some (on p.year (k + 1) (p.passed - s + 1)) ≡ dated d
   unfolding place_of dated
   dated-on = rw e go
     where
       go :
           (k s : ℕ) → d ≤ last_day → s ≡ sum_of (take k (months (year_of d))) → s ≤ d - new_year (year_of d) →
           d - new_year (year_of d) < sum_of (take (k + 1) (months (year_of d))) →
-          On (on (year_of d) (k + 1) (d - new_year (year_of d) - s + 1)) ≡ dated d
+          Some (on (year_of d) (k + 1) (d - new_year (year_of d) - s + 1)) ≡ dated d
       go k s h b l g =
           let month : k + 1 ≡ 1 + k = omega arith in
           let end = rw add-one at g in
           rw (le-leb d last_day h, month)
-          (ap On (sym (date_at d k (d - new_year (year_of d) - s) (omega arith) (omega (arith, sum_take-suc (months (year_of d)) k)))))
+          (ap Some (sym (date_at d k (d - new_year (year_of d) - s) (omega arith) (omega (arith, sum_take-suc (months (year_of d)) k)))))
 
 abbrev pub SameDay : ℕ → Date → Type 0
 SameDay d t = (is_date t.year t.month t.day ≡ true) × (day_number t.year t.month t.day ≡ d)

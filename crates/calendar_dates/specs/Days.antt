@@ -1,11 +1,7 @@
 -- 01, "Days and groups": "A day is a number, 0 for 1 January 2000 (a Saturday) to 36,524 for 31 December 2099, Gregorian."
-use Rattle.std.specs.Prelude.{ℕ, ◌+◌, ◌-◌, ◌*◌, ◌/◌, ◌%◌, Bool, cond, ◌&&◌, List, [], ◌∷◌, get_or, take, leb, ltb, eqb}
+use Rattle.std.specs.Prelude.{ℕ, Option, Some, None, ◌+◌, ◌-◌, ◌*◌, ◌/◌, ◌%◌, Bool, cond, ◌&&◌, List, [], ◌∷◌, get_or, take, leb, ltb, eqb}
 use Rattle.base_lists.specs.Lists.{sum_of}
 use Rattle.calendar_dates.specs.declared.Date.{Date}
-use Rattle.calendar_dates.specs.declared.Numbered.{Numbered}
-use Rattle.calendar_dates.specs.declared.Numbered.TheVariants.{Day, NoSuchDate}
-use Rattle.calendar_dates.specs.declared.Dated.{Dated}
-use Rattle.calendar_dates.specs.declared.Dated.TheVariants.{On, PastCalendar}
 
 abbrev pub last_day : ℕ
 last_day = 36524
@@ -30,9 +26,9 @@ day_number y m d = new_year y + sum_of (take (m - 1) (months y)) + (d - 1)
 unfoldable pub is_date : ℕ → ℕ → ℕ → Bool
 is_date y m d = in_calendar y && (leb 1 m && leb m 12) && (leb 1 d && leb d (get_or (months y) (m - 1) 0))
 
--- the day number of a date
-unfoldable pub numbered : Date → Numbered
-numbered t = cond (is_date t.year t.month t.day) (Day (day_number t.year t.month t.day)) NoSuchDate
+-- the day number of a date, if it is one
+unfoldable pub numbered : Date → Option ℕ
+numbered t = cond (is_date t.year t.month t.day) (Some (day_number t.year t.month t.day)) None
 
 -- the year in which a day lies: four years have 1,461 days, the first of them the leap year
 unfoldable pub year_of : ℕ → ℕ
@@ -48,6 +44,6 @@ date_after y m (l ∷ ls) n =
 unfoldable pub date_of : ℕ → Date
 date_of d = date_after (year_of d) 1 (months (year_of d)) (d - new_year (year_of d))
 
--- the date of a day number
-unfoldable pub dated : ℕ → Dated
-dated d = cond (leb d last_day) (On (date_of d)) PastCalendar
+-- the date of a day number, if the day lies in the calendar
+unfoldable pub dated : ℕ → Option Date
+dated d = cond (leb d last_day) (Some (date_of d)) None

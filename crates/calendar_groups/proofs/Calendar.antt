@@ -9,7 +9,6 @@ use Rattle.base_lists.specs.Lists.{member}
 use Rattle.calendar_dates.specs.Days.{in_calendar, year_of, last_day}
 use Rattle.calendar_holidays.specs.Yearly.{easter, holidays, is_fixed_holiday, is_easter_holiday}
 use Rattle.calendar_groups.specs.Holidays.{first_days, second_days, is_holiday, good_moves, is_saturday, is_sunday, group}
-use Rattle.calendar_groups.specs.Steps.{days_at}
 use Rattle.calendar_groups.specs.declared.Group.{Group}
 use Rattle.calendar_groups.specs.declared.Group.TheVariants.{Weekday, Saturday, HolidayGroup}
 use Rattle.calendar_holidays.proofs.EasterSum.{on-sunday}
@@ -33,7 +32,6 @@ old_date moves d m = rw (m, and-false (is_fixed_holiday d))
 
 -- "the day that replaces it"
 pub new_date : (moves : List ℕ) (d : ℕ) → member d (second_days moves) ≡ true → is_holiday moves d ≡ true
-unfolding days_at
 new_date moves d m = sym (replacing moves d m)
 
 -- every other day is what it was

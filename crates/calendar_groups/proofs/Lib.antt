@@ -1,3 +1,4 @@
+pub mod ByPairs
 pub mod Groups
 pub mod Moves
 pub mod Calendar

@@ -1,11 +1,10 @@
 -- What the functions over a list of moves give to each other.
-use Rattle.std.specs.Prelude.{ℕ, zero, suc, Bool, true, ◌&&◌, List, [], ◌∷◌, ltb}
-use Rattle.calendar_groups.specs.Holidays.{first_days, second_days}
+use Rattle.std.specs.Prelude.{ℕ, ◌/◌, length, Bool, true, ◌&&◌, List, [], ◌∷◌, ltb}
+use Rattle.std.specs.Simd.{first_chunks}
 
--- the days at a place of each pair: 0 is the first, 1 the second
-unfoldable pub days_at : ℕ → List ℕ → List ℕ
-days_at zero moves = first_days moves
-days_at (suc place) moves = second_days moves
+-- the pairs of a list of moves; half a pair is none
+abbrev pub pairs : List ℕ → List (List ℕ)
+pairs moves = first_chunks 2 (length moves / 2) moves
 
 -- each number of a list is below the next
 unfoldable pub rising : List ℕ → Bool

@@ -6,11 +6,11 @@ use mathlib.Core.Logic.{⊎_elim}
 use native.Mathlib.Omega.{arith}
 use borrow.Author.Tests.{leb-true}
 use lib.Dec.{leb, eqb}
+use Rattle.std.specs.Prelude.{Some, None}
 use Rattle.base_lists.proofs.Below.{below, at_each}
 use Rattle.base_lists.proofs.Bools.{lt-or-le}
 use Rattle.base_lists.specs.Lists.{sum_of}
 use Rattle.calendar_dates.specs.Days.{last_day, in_calendar, leap, months, new_year, day_number, is_date, numbered}
-use Rattle.calendar_dates.specs.declared.Numbered.TheVariants.{Day, NoSuchDate}
 use Rattle.calendar_holidays.specs.Yearly.{easter_d, easter_e, easter_q, easter}
 use Rattle.calendar_dates.proofs.Years.{in_calendar_lem}
 use Rattle.calendar_dates.proofs.Dates.{on, numbered_is, not-numbered}
@@ -42,14 +42,14 @@ unfolding is_date months
 march_is y = simp and-true
 
 -- from 1 March to Easter
-pub from_march : (y n : ℕ) → numbered (on y 3 1) ≡ Day n → (n ≤ last_day) × (easter y ≡ n + (34 + easter_d y + easter_e y))
+pub from_march : (y n : ℕ) → numbered (on y 3 1) ≡ Some n → (n ≤ last_day) × (easter y ≡ n + (34 + easter_d y + easter_e y))
 unfolding day_number months sum_of
 from_march y n e =
     let is = numbered_is (on y 3 1) n e in
     let inside = sym (march_is y) ∙ is.0 in
     (omega (arith, date_of_day (on y 3 1) is.0), omega (arith, easter_sum y inside))
 
-pub no_march : (y : ℕ) → numbered (on y 3 1) ≡ NoSuchDate → easter y ≡ 0
+pub no_march : (y : ℕ) → numbered (on y 3 1) ≡ None → easter y ≡ 0
 unfolding easter
 no_march y e = rw (sym (march_is y) ∙ not-numbered (on y 3 1) e)
 

@@ -1,7 +1,7 @@
 -- The fixed holidays as sums, and that no holiday leaves its year.
 use Prim.Native.Nat.{ℕ, ◌+◌, ◌-◌, ◌≤◌, ◌<◌}
 use mathlib.Core.Path.{◌≡◌, refl}
-use mathlib.Core.Bool.{Bool, true, false, ◌||◌, or-false}
+use mathlib.Core.Bool.{Bool, true, false, or-false}
 use mathlib.Core.List.{[], ◌∷◌}
 use native.Mathlib.Omega.{arith}
 use lib.Dec.{eqb}
@@ -37,7 +37,7 @@ days_after f d x passed n p q = same_eqb d x passed n (omega arith) (omega arith
 
 -- the eight tests of a day of the year, by how many days of it have passed
 module _ (y d passed : ℕ) (is : d ≡ new_year y + passed) where
-  pub fixed_early : passed < 59 → (eqb passed 0 || eqb passed 5) ≡ member d (fixed_holidays y)
+  pub fixed_early : passed < 59 → member passed (0 ∷ 5 ∷ []) ≡ member d (fixed_holidays y)
   unfolding member
   fixed_early h =
       rw (
@@ -55,7 +55,7 @@ module _ (y d passed : ℕ) (is : d ≡ new_year y + passed) where
 
   pub fixed_later : 59 ≤ passed
       → let later = passed - leap y in
-      (eqb later 83 || (eqb later 120 || (eqb later 226 || (eqb later 300 || (eqb later 358 || eqb later 359))))) ≡ member d (fixed_holidays y)
+      member later (83 ∷ 120 ∷ 226 ∷ 300 ∷ 358 ∷ 359 ∷ []) ≡ member d (fixed_holidays y)
   unfolding member
   fixed_later h =
       let l = leap-le y in
@@ -112,7 +112,7 @@ module _ (y d passed r : ℕ) (inside : in_calendar y ≡ true) (is : d ≡ new_
   -- the six tests of a day of the year, by how many days after Clean Monday it lies
   pub near_easter : 11 + leap y + r ≤ passed
       → let after = passed - (11 + leap y + r) in
-      (eqb after 0 || (eqb after 46 || (eqb after 47 || (eqb after 48 || (eqb after 49 || eqb after 98))))) ≡ member d (easter_holidays y)
+      member after (0 ∷ 46 ∷ 47 ∷ 48 ∷ 49 ∷ 98 ∷ []) ≡ member d (easter_holidays y)
   unfolding member easter_holidays
   near_easter h =
       let monday = 11 + leap y + r in

@@ -1,13 +1,17 @@
 -- Readings whose bits are put together: where the whole is small, each of them is good.
-use Rattle.std.proofs.Common.{◌≡◌, ℕ, ◌+◌, ◌%◌, ◌^◌, ◌<◌, ◌≤◌, true, List, length, get_or, ⊎_elim, arith, eq-eqb, ne_eqb, le-leb}
-use mathlib.Core.Bool.{or-true}
+use Rattle.std.proofs.Common.{◌≡◌, refl, ℕ, suc, Bool, true, false, [], ◌∷◌, ◌+◌, ◌-◌, ◌%◌, ◌^◌, ◌<◌, ◌≤◌, List, length, get_or, ⊎_elim, arith, eq-eqb, ne_eqb, le-leb}
+use mathlib.Core.Bool.{or-true, not, cond}
+use native.Mathlib.Nat.{zero-add}
+use Rattle.std.specs.Prelude.{unwrap_or, Some}
+use Rattle.std.specs.List.{position_from}
 use lib.Bits.{bit_or, or_add_and, and_le_l, and_le_r}
-use lib.ListN.{get_or-eq_default}
+use lib.ListN.{take, drop, length-drop, get_or-eq_default}
+use lib.Seq.{take_all}
 use Rattle.base_lists.proofs.All.{all_of}
 use Rattle.base_lists.proofs.Bools.{lt-or-le}
-use Rattle.base_lists.specs.Lists.{all}
+use Rattle.base_lists.specs.Lists.{all, leading}
 use Rattle.method.specs.Table.{present, good_reading, missing}
-use Rattle.day_readings.specs.Steps.{Joined}
+use Rattle.day_readings.specs.Steps.{GoodBefore, Joined}
 
 or_above : (a b : ℕ) → (a ≤ bit_or a b) × (b ≤ bit_or a b)
 or_above a b = omega (arith, or_add_and a b, and_le_l a b, and_le_r a b)
@@ -51,3 +55,24 @@ module _ (xs : List ℕ) (fits : (i : ℕ) → get_or xs i 0 < 2 ^ 32) where
       ⊎_elim (λ (h : i < length xs). rw (ne_eqb (get_or xs i 0) missing (λ e. omega (arith, q i h))))
       (λ (h : length xs ≤ i). rw (get_or-eq_default xs 0 h))
       (lt-or-le i (length xs)))
+
+-- the place of the first reading that is not good
+pub first_bad : (xs : List ℕ) → unwrap_or (position_from (λ x. not (good_reading x)) 0 xs) (length xs) ≡ leading good_reading xs
+unfolding leading
+first_bad xs = let e = go xs 0 in rw (zero-add, zero-add) at e
+  where
+    go : (l : List ℕ) (i : ℕ) → unwrap_or (position_from (λ x. not (good_reading x)) i l) (i + length l) ≡ i + leading good_reading l
+    go [] i = refl
+    go (x ∷ l) i = one (good_reading x) (go l (i + 1))
+      where
+        one : (b : Bool) → unwrap_or (position_from (λ x. not (good_reading x)) (i + 1) l) (i + 1 + length l) ≡ i + 1 + leading good_reading l
+            → unwrap_or (cond (not b) (Some i) (position_from (λ x. not (good_reading x)) (i + 1) l)) (i + suc (length l)) ≡ i + cond b (suc (leading good_reading l)) 0
+        one true later =
+            let e : i + suc (length l) ≡ i + 1 + length l = omega arith in
+            let f : i + suc (leading good_reading l) ≡ i + 1 + leading good_reading l = omega arith in
+            rw (e, f) later
+        one false later = omega arith
+
+-- from a place that only good readings stand before to the first that is not good
+pub after : (xs : List ℕ) (start : ℕ) {r : ℕ} → GoodBefore xs start → r ≡ leading good_reading (take (length xs - start) (drop start xs)) → start + r ≡ leading good_reading xs
+after xs start g e = rw (e, take_all (length xs - start) (drop start xs) (omega (arith, length-drop start xs))) g.passed

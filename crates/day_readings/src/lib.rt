@@ -20,8 +20,8 @@ fn joined(block: &[u32], more: u32) -> u32
     ensures { Joined block.now more result }
 {
     let mut bits = 0;
-    for i in 0..block.len() {
-        bits = bits | std::num::wrapping_add_u32(block[i], more);
+    for &reading in block {
+        bits |= reading.wrapping_add(more);
     }
     bits
 }
@@ -35,8 +35,8 @@ pub fn complete(day: &[u32]) -> bool
         return true;
     }
     let mut all_present = true;
-    for i in 0..day.len() {
-        all_present = all_present & (day[i] != MISSING);
+    for &reading in day {
+        all_present &= reading != MISSING;
     }
     all_present
 }
@@ -48,15 +48,7 @@ fn block_is_good(block: &[u32], more: u32) -> bool
     ensures { result ≡ true → all good_reading block.now ≡ true }
 {
     let bits = joined(block, more);
-    if bits <= 10000000 + more {
-        true
-    } else {
-        if bits < 16777216 {
-            joined(block, 6777215) < 16777216
-        } else {
-            false
-        }
-    }
+    bits <= 10000000 + more || (bits < 16777216 && joined(block, 6777215) < 16777216)
 }
 
 // A place that only good readings stand before: from such a place on it passes over blocks of a day's length that are known to be good.
@@ -65,30 +57,24 @@ fn good_blocks(readings: &[u32], start: usize, more: u32) -> usize
     ensures { GoodBefore readings.now result }
 {
     let mut at = start;
-    while QUARTERS <= readings.len() - at {
-        let end = at + QUARTERS;
-        if block_is_good(&readings[at..end], more) {
-            at = end;
-        } else {
+    while let Some(block) = readings.get(at..at + QUARTERS) {
+        if !block_is_good(block, more) {
             return at;
         }
+        at += QUARTERS;
     }
     at
 }
 
-// The place of the first reading out of range that is not the missing mark; the number of readings where there is none. Up to the first
+// The place of the first reading out of range that is not the missing mark; the number of readings where there is none, as `leading` has it.
+// Up to the first
 // block that has a missing one the test is shorter.
 pub fn first_bad_reading(readings: &[u32]) -> usize
     ensures { result ≡ leading good_reading readings.now }
 {
     let none_missing = good_blocks(readings, 0, 0);
-    let mut i = good_blocks(readings, none_missing, 1);
-    while i < readings.len() {
-        if is_good(readings[i]) {
-            i += 1;
-        } else {
-            return i;
-        }
-    }
-    i
+    let start = good_blocks(readings, none_missing, 1);
+    let rest = &readings[start..];
+    let bad = rest.iter().position(|&reading| !is_good(reading));
+    start + bad.unwrap_or(rest.len())
 }

@@ -5,8 +5,6 @@ ghost use Rattle.std.specs.Prelude.{◌≡◌};
 ghost use Rattle.method.specs.Table.{size as size_of, offset};
 ghost use Rattle.method.specs.Ruler.{ruler_start, ruler_end, against as stands_against};
 
-use base_numbers::counts;
-
 // How many readings a day has.
 pub fn size(day: u32) -> u32
     ensures { result ≡ size_of day }
@@ -25,7 +23,7 @@ pub fn offset(first: u32, days: u32) -> usize
 pub fn start(event: u32) -> u32
     ensures { result ≡ ruler_start event }
 {
-    size(counts::minus(event, 1))
+    size(event.saturating_sub(1))
 }
 
 // Where day D, and with it the ruler, ends.

@@ -8,6 +8,7 @@ use native.Mathlib.Omega.{arith}
 use lib.ListN.{length, take, drop, length-append, length-drop, length-map}
 use lib.Seq.{take_at, drop_at}
 use borrow.Author.Tests.{eqb-true, eq-eqb}
+use Rattle.std.specs.Prelude.{Result, Ok, Err, is_ok, IsOk}
 use Rattle.base_lists.specs.Lists.{any, member}
 use Rattle.calendar_groups.specs.Holidays.{group}
 use Rattle.method.specs.declared.Request.{Request}
@@ -23,7 +24,6 @@ use Rattle.method_laws.proofs.Replies.{none_early}
 use Rattle.method_laws.proofs.Settled.{settled_margin}
 use Rattle.method_laws.proofs.Extract.{none_of_table, verdict_stable, verdict_margin, reach_within, reach_same, reach_fewest}
 use Rattle.method_laws.proofs.NoPart.{no_part}
-use Rattle.engine_answer.specs.declared.Given.TheVariants.{Answered, Refused}
 use Rattle.engine_answer.specs.declared.Answer.{Answer}
 use Rattle.engine_answer.specs.Answer.{answer_of}
 use Rattle.method.proofs.Replies.{one_outcome}
@@ -33,12 +33,12 @@ use Rattle.demands.specs.Rows.{n_of, chosen_of, count_of, adjusted_of, earlier, 
 use Rattle.demands.specs.Demands.{quarters, Demand1, Demand2, Settled, Demand3, NoPart, Demands}
 use Rattle.demands.proofs.Rows.{table_rows_lem}
 use Rattle.demands.proofs.First.{first_in, first_of_lem, none_first}
-use Rattle.demands.proofs.Results.{reply_of, gets_same, Gives, gives_gets, gets_answer, is_refused, is_answered, given_refused, given_answered}
+use Rattle.demands.proofs.Results.{reply_of, gets_same, Gives, gives_gets, gets_answer, is_refused, is_answered, given_refused, given_answered, given_of, is_given}
 use Rattle.demands.proofs.Results.{number_in, result_is, reported_is, settled_is, margin_is, gets_kept, gets_output, stand-length}
 use Rattle.demands.proofs.Passing.{Late, over_formed, late, none_earlier, settled_late}
 use Rattle.demands.proofs.Answered.{high_count, over_2_or_1, numerators_count, over_60_or_24, quarters_fit}
 
-module _ (c : Call) (a : Answer) (out after : List ℕ) (gives : Gives c a out after) where
+module _ (c : Call) (a : Result Answer Refusal) (out after : List ℕ) (gives : Gives c a out after) where
   abbrev t : Table
   t = extract c
 
@@ -54,25 +54,28 @@ module _ (c : Call) (a : Answer) (out after : List ℕ) (gives : Gives c a out a
   is : a ≡ answer_of (reply_of c out)
   is = gets_answer c a out after (reply_of c out) gets
 
-  given_is : {x : Reply} → reply_of c out ≡ x → a.given ≡ (answer_of x).given
-  given_is e = ap (λ (y : Answer). y.given) (is ∙ ap answer_of e)
+  given_is : {x : Reply} → reply_of c out ≡ x → a ≡ answer_of x
+  given_is e = is ∙ ap answer_of e
+
+  given_ok : {x : Reply} → reply_of c out ≡ x → IsOk (answer_of x) → IsOk a
+  given_ok e k = ap (λ (y : Result Answer Refusal). is_ok y) (given_is e) ∙ k
 
   number_is : result a ≡ number_in (reply_of c out)
   number_is = ap result is ∙ result_is (reply_of c out)
 
   -- ---- demand 1
-  to_refused : (w : Refusal) → a.given ≡ Refused w → reply_of c out ≡ refused w
+  to_refused : (w : Refusal) → a ≡ Err w → reply_of c out ≡ refused w
   to_refused w e = is_refused (reply_of c out) w (sym (given_is refl) ∙ e)
 
-  none_applies : a.given ≡ Answered → any applies (rows c (length out)) ≡ false
+  none_applies : IsOk a → any applies (rows c (length out)) ≡ false
   none_applies e =
-      let n = is_answered (reply_of c out) (sym (given_is refl) ∙ e) in
+      let n = is_answered (reply_of c out) (sym (ap (λ (y : Result Answer Refusal). is_ok y) is) ∙ e) in
       none_first (rows c (length out)) (answer_over ms t r) n.0 n.1
 
   to_answered : any applies (rows c (length out)) ≡ false → reply_of c out ≡ answered (answer_over ms t r)
   to_answered n = none_early (rows c (length out)) (answered (answer_over ms t r)) n
 
-  module _ (e : a.given ≡ Answered) where
+  module _ (e : IsOk a) where
     answers : reply_of c out ≡ answered (answer_over ms t r)
     answers = to_answered (none_applies e)
 
@@ -101,7 +104,7 @@ module _ (c : Call) (a : Answer) (out after : List ℕ) (gives : Gives c a out a
   long : length after ≡ length out
   long =
       ⊎_elim (λ (x : (w : Refusal) × (reply_of c out ≡ refused w)). ap length (gets_kept c a out after x.0 (gets_same c a out after x.1 gets)))
-      (λ (x : (n : Numbers) × (reply_of c out ≡ answered n)). answered_long (given_is x.1 ∙ given_answered x.0))
+      (λ (x : (n : Numbers) × (reply_of c out ≡ answered n)). answered_long (given_ok x.1 (given_answered x.0)))
       (one_outcome (reply_of c out))
 
   demand1 : Demand1 c a out after
@@ -112,20 +115,20 @@ module _ (c : Call) (a : Answer) (out after : List ℕ) (gives : Gives c a out a
           λ e. first_in (rows c (length out)) (answer_over ms t r) w (to_refused w e),
           λ f. given_is (first_of_lem (rows c (length out)) (answered (answer_over ms t r)) w f) ∙ given_refused w,
         );
-        answered_when = (none_applies, λ n. given_is (to_answered n) ∙ given_answered (answer_over ms t r));
+        answered_when = (none_applies, λ n. given_ok (to_answered n) (given_answered (answer_over ms t r)));
         kept = λ w e. gets_kept c a out after w (gets_same c a out after (to_refused w e) gets);
         long = long;
         rest = rest;
       }
 
   -- ---- demand 2
-  demand2 : a.given ≡ Answered → Demand2 c a out after
+  demand2 : (x : Answer) → a ≡ Ok x → Demand2 c x out after
   unfolding answer_of answer_over
-  demand2 e =
+  demand2 x k =
       record {
-        days = ap (λ (x : Answer). x.chosen.days) its;
+        days = ap (λ (y : Answer). y.chosen.days) its;
         count = count;
-        reach = ap (λ (x : Answer). x.chosen.reach) its;
+        reach = ap (λ (y : Answer). y.chosen.reach) its;
         numerators = stands_first e;
         never_above = never_above ms t r (room c out) (answer_over ms t r) (is_verdict e);
         high = λ v. record {
@@ -141,17 +144,20 @@ module _ (c : Call) (a : Answer) (out after : List ℕ) (gives : Gives c a out a
         };
       }
     where
-      its : a ≡ answer_of (answered (answer_over ms t r))
-      its = is ∙ ap answer_of (answers e)
+      e : IsOk a
+      e = rw k
 
-      count : a.chosen.count ≡ count_of ms t r
-      count = ap (λ (x : Answer). x.chosen.count) its ∙ length-map (chosen_of ms t r) (λ (p : ℕ × Day). p.0)
+      its : x ≡ given_of (answer_over ms t r)
+      its = is_given (answer_over ms t r) (sym k ∙ is ∙ ap answer_of (answers e))
 
-      divided : a.denominator ≡ parts_of r * count_of ms t r
-      divided = ap (λ (x : Answer). x.denominator) its
+      count : x.chosen.count ≡ count_of ms t r
+      count = ap (λ (y : Answer). y.chosen.count) its ∙ length-map (chosen_of ms t r) (λ (p : ℕ × Day). p.0)
 
-      moved : a.adjustment ≡ adjusted_of ms t r
-      moved = ap (λ (x : Answer). x.adjustment) its
+      divided : x.denominator ≡ parts_of r * count_of ms t r
+      divided = ap (λ (y : Answer). y.denominator) its
+
+      moved : x.adjustment ≡ adjusted_of ms t r
+      moved = ap (λ (y : Answer). y.adjustment) its
 
       n_days : is_average r ≡ false → count_of ms t r ≡ n_of ms r
       n_days v = high_count c (length out) (none_applies e) v
@@ -231,7 +237,7 @@ module _ (c : Call) (a : Answer) (out after : List ℕ) (gives : Gives c a out a
       sym (no_part ms t u r (room c out) f.is_one f.well other.0 other.1 x.first x.event (λ d h b. x.days d b h) x.readings))
       gets
 
-pub demands : (c : Call) (a : Answer) (out after : List ℕ) → Gives c a out after → Demands c a out after
+pub demands : (c : Call) (a : Result Answer Refusal) (out after : List ℕ) → Gives c a out after → Demands c a out after
 demands c a out after gives =
     record {
       first = demand1 c a out after gives;

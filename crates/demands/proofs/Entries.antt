@@ -8,6 +8,7 @@ use lib.ListN.{length, replicate}
 use lib.Dec.{ltb, eqb}
 use lib.IntN.{ℤ, pos}
 use borrow.Author.Tests.{eq-eqb}
+use Rattle.std.specs.Prelude.{Result}
 use Rattle.base_lists.specs.Lists.{all}
 use Rattle.base_lists.proofs.Unique.{unique}
 use Rattle.calendar_groups.specs.Holidays.{group}
@@ -30,7 +31,7 @@ use Rattle.demands.proofs.Rooms.{room_enough}
 use Rattle.file_baseline.specs.Reply.{file_reply}
 use Rattle.host_answer.specs.Names.{by_name, refusal_row, row_from}
 use Rattle.host_answer.specs.Telling.{answer_row, told_by}
-use Rattle.host_entries.specs.Host.{most_bytes, FileCall, TableCall}
+use Rattle.host_entries.specs.Host.{or_nothing, most_bytes, FileCall, TableCall}
 use Rattle.demands.specs.Calls.{Call, over_table, of_file, moves, extract, request, room, result}
 use Rattle.demands.specs.Rows.{file_rows}
 use Rattle.demands.specs.Demands.{Demands}
@@ -89,7 +90,7 @@ seven (refused w) e = ap refused (seven_is w e)
 seven (answered n) e = absurd (omega arith)
 
 -- the number that is told under the name 0
-told_number : (x : Reply) → told_by (answer_of x) 0 ≡ pos 7 → number_in x ≡ 7
+told_number : (x : Reply) → or_nothing (told_by (answer_of x) 0) ≡ pos 7 → number_in x ≡ 7
 unfolding told_by answer_of by_name refusal_row answer_row row_from
 told_number (refused w) e = cc
 told_number (answered n) e = let z : ◌≡◌ {A = ℕ} 0 7 = cc in absurd (omega arith)
@@ -153,26 +154,26 @@ module _ (c : Call) where
       let n = passes is_seven (file_rows c) (verdict (moves c) (extract c) (request c) most_quarters) (file_other c) (eq-eqb (number_in roomy) 7 e) in
       not_seven (moves c) (extract c) (request c) (rw (none_early (file_rows c) (verdict (moves c) (extract c) (request c) most_quarters) n) at e)
 
-  tells : (name : ℕ) {told : ℤ} → told ≡ told_by (answer_of roomy) name → Tells c name told
+  tells : (name : ℕ) {told : ℤ} → told ≡ or_nothing (told_by (answer_of roomy) name) → Tells c name told
   tells name e =
       record {
         same = λ a out after d differs.
             let is = gets_answer c a out after (reply_of c out) d.first.one in
-            e ∙ ap (λ (x : Answer). told_by x name) (sym (is ∙ ap answer_of (same_reply out (λ k. differs (ap result is ∙ result_is (reply_of c out) ∙ k)))));
+            e ∙ ap (λ (x : Result Answer Refusal). or_nothing (told_by x name)) (sym (is ∙ ap answer_of (same_reply out (λ k. differs (ap result is ∙ result_is (reply_of c out) ∙ k)))));
         never_seven = λ z k. never (told_number roomy (sym (rw z at e) ∙ k));
       }
 
-pub table_tells : (list : List ℕ) (t : Table) (r : Request) (name : ℕ) {told : ℤ} → told ≡ told_by (answer_of (verdict list t r most_quarters)) name → Tells (over_table list t r) name told
+pub table_tells : (list : List ℕ) (t : Table) (r : Request) (name : ℕ) {told : ℤ} → told ≡ or_nothing (told_by (answer_of (verdict list t r most_quarters)) name) → Tells (over_table list t r) name told
 unfolding roomy file_rows first_of
 table_tells list t r name e = tells (over_table list t r) name e
 
-pub file_tells : (file : List ℕ) (place name : ℕ) {told : ℤ} → told ≡ told_by (answer_of (file_reply file place most_bytes)) name
+pub file_tells : (file : List ℕ) (place name : ℕ) {told : ℤ} → told ≡ or_nothing (told_by (answer_of (file_reply file place most_bytes)) name)
     → Tells (of_file file place) name told
 unfolding roomy
-file_tells file place name e = tells (of_file file place) name (e ∙ ap (λ (x : Reply). told_by (answer_of x) name) (file_rows_lem file place most_bytes))
+file_tells file place name e = tells (of_file file place) name (e ∙ ap (λ (x : Reply). or_nothing (told_by (answer_of x) name)) (file_rows_lem file place most_bytes))
 
 -- ---- one result: no two differing results meet a contract
-pub demands_unique : (c : Call) {a a' : Answer} {out after after' : List ℕ} → Demands c a out after → Demands c a' out after'
+pub demands_unique : (c : Call) {a a' : Result Answer Refusal} {out after after' : List ℕ} → Demands c a out after → Demands c a' out after'
     → (a ≡ a') × (after ≡ after')
 demands_unique (over_table list t r) p q = answers_unique p.first.one q.first.one
 demands_unique (of_file file place) p q = answers_in_bytes_unique p.first.one q.first.one
@@ -185,7 +186,7 @@ entry_unique c p q =
 
 -- a call with room for any event, whose answer is not 7
 pub record Roomy (c : Call) : Type 0 where
-  pub answer : Answer
+  pub answer : Result Answer Refusal
   pub out : List ℕ
   pub after : List ℕ
   pub meets : Demands c answer out after

@@ -7,6 +7,7 @@ use native.Mathlib.Omega.{arith}
 use native.Mathlib.Nat.{one-mul}
 use lib.ListN.{length, drop}
 use lib.Dec.{ltb, eqb}
+use Rattle.std.specs.Prelude.{Result, Ok, Err, IsOk}
 use Rattle.base_lists.specs.Lists.{member}
 use Rattle.method.specs.declared.Request.{Request}
 use Rattle.method.specs.declared.Refusal.{Refusal}
@@ -17,9 +18,8 @@ use Rattle.method.specs.Verdict.{Reply, Answer as Numbers, refused, answered, nu
 use Rattle.method.specs.CutTables.{is_margin, is_settled, reported as reported_in}
 use Rattle.engine_refusals.proofs.FirstRefusal.{first_append}
 use Rattle.file_record.specs.Reader.{request_at}
-use Rattle.engine_answer.specs.declared.Given.TheVariants.{Answered, Refused}
 use Rattle.engine_answer.specs.declared.Answer.{Answer}
-use Rattle.engine_answer.specs.Answer.{answer_of, Answers}
+use Rattle.engine_answer.specs.Answer.{in_five, answer_of, Answers}
 use Rattle.table_bytes.specs.Output.{AnswersInBytes, bytes_written}
 use Rattle.table_bytes.proofs.Laws.{below_four}
 use Rattle.file_baseline.specs.Reply.{file_reply}
@@ -62,42 +62,55 @@ over_extract c out =
     last : Reply
     last = first_of (day_rows (moves c) t r) (answered (answer_over (moves c) t r))
 
-pub gets_same : (c : Call) (a : Answer) (out after : List ℕ) {x y : Reply} → x ≡ y → Gets c x a out after → Gets c y a out after
+pub gets_same : (c : Call) (a : Result Answer Refusal) (out after : List ℕ) {x y : Reply} → x ≡ y → Gets c x a out after → Gets c y a out after
 gets_same c a out after e g = subst (λ (z : Reply). Gets c z a out after) e g
 
 -- what the contract of a call says
-abbrev pub Gives : Call → Answer → List ℕ → List ℕ → Type 0
+abbrev pub Gives : Call → Result Answer Refusal → List ℕ → List ℕ → Type 0
 Gives (over_table list t r) a out after = Answers (verdict list t r (length out)) a out after
 Gives (of_file file place) a out after = AnswersInBytes (file_reply file place (length out)) a out after
 
-pub gives_gets : (c : Call) (a : Answer) (out after : List ℕ) → Gives c a out after → Gets c (reply_of c out) a out after
+pub gives_gets : (c : Call) (a : Result Answer Refusal) (out after : List ℕ) → Gives c a out after → Gets c (reply_of c out) a out after
 unfolding file_rows first_of
 gives_gets (over_table list t r) a out after g = gets_same (over_table list t r) a out after (sym (over_extract (over_table list t r) out)) g
 gives_gets (of_file file place) a out after g =
     gets_same (of_file file place) a out after (file_rows_lem file place (length out) ∙ sym (over_extract (of_file file place) out)) g
 
 -- ---- the result
-pub gets_answer : (c : Call) (a : Answer) (out after : List ℕ) (x : Reply) → Gets c x a out after → a ≡ answer_of x
+pub gets_answer : (c : Call) (a : Result Answer Refusal) (out after : List ℕ) (x : Reply) → Gets c x a out after → a ≡ answer_of x
 gets_answer (over_table list t r) a out after x g = g.answer
 gets_answer (of_file file place) a out after x g = g.answer
 
-pub is_refused : (x : Reply) (w : Refusal) → (answer_of x).given ≡ Refused w → x ≡ refused w
+pub is_refused : (x : Reply) (w : Refusal) → answer_of x ≡ Err w → x ≡ refused w
 unfolding answer_of
 is_refused (refused v) w e = cc
 is_refused (answered n) w e = let z : ◌≡◌ {A = ℕ} 0 1 = cc in absurd (omega arith)
 
-pub is_answered : (x : Reply) → (answer_of x).given ≡ Answered → (n : Numbers) × (x ≡ answered n)
+pub is_answered : (x : Reply) → IsOk (answer_of x) → (n : Numbers) × (x ≡ answered n)
 unfolding answer_of
 is_answered (refused v) e = let z : ◌≡◌ {A = ℕ} 0 1 = cc in absurd (omega arith)
 is_answered (answered n) e = (n, refl)
 
-pub given_refused : (w : Refusal) → (answer_of (refused w)).given ≡ Refused w
+pub given_refused : (w : Refusal) → answer_of (refused w) ≡ Err w
 unfolding answer_of
 given_refused w = refl
 
-pub given_answered : (n : Numbers) → (answer_of (answered n)).given ≡ Answered
+pub given_answered : (n : Numbers) → IsOk (answer_of (answered n))
 unfolding answer_of
 given_answered n = refl
+
+-- what an answer has of numbers
+abbrev pub given_of : Numbers → Answer
+given_of n =
+    record {
+      chosen = record { days = in_five n.days; count = length n.days; reach = n.reach };
+      denominator = n.denominator;
+      adjustment = n.adjusted;
+    }
+
+pub is_given : {x : Answer} (n : Numbers) → Ok x ≡ answer_of (answered n) → x ≡ given_of n
+unfolding answer_of
+is_given n e = cc
 
 -- 0, or the number of the refusal
 abbrev pub number_in : Reply → ℕ
@@ -137,12 +150,12 @@ margin_is (refused w) = refl
 margin_is (answered n) = refl
 
 -- ---- the output
-pub gets_kept : (c : Call) (a : Answer) (out after : List ℕ) (w : Refusal) → Gets c (refused w) a out after → after ≡ out
+pub gets_kept : (c : Call) (a : Result Answer Refusal) (out after : List ℕ) (w : Refusal) → Gets c (refused w) a out after → after ≡ out
 unfolding written bytes_written
 gets_kept (over_table list t r) a out after w g = g.output
 gets_kept (of_file file place) a out after w g = g.output
 
-pub gets_output : (c : Call) (a : Answer) (out after : List ℕ) (n : Numbers) → Gets c (answered n) a out after
+pub gets_output : (c : Call) (a : Result Answer Refusal) (out after : List ℕ) (n : Numbers) → Gets c (answered n) a out after
     → after ≡ stand c n.numerators ++ drop (per_quarter c * length n.numerators) out
 unfolding written bytes_written
 gets_output (over_table list t r) a out after n g = rw one-mul g.output

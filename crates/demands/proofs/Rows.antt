@@ -23,8 +23,7 @@ use Rattle.method.specs.Rules.{method_by}
 use Rattle.method.specs.Requested.{rules_of, method_of}
 use Rattle.method.specs.Verdict.{Reply, Answer, refused, answered, table_refusals, good_request, request_refusals, closing, first_of, methodology, by_list, verdict}
 use Rattle.engine_baseline.proofs.Laws.{numerators_are}
-use Rattle.file_record.specs.declared.EventAt.TheVariants.{Event, NoEvent as NoneThere}
-use Rattle.file_record.specs.declared.Read.TheVariants.{File, Refused}
+use Rattle.std.specs.Prelude.{Ok, Err}
 use Rattle.file_record.specs.Reader.{is_pf, good_end, events_in, shape_in, read_file, list_in, table_in, request_at, event_at_place}
 use Rattle.file_baseline.specs.Reply.{reply_to, file_reply}
 use Rattle.demands.specs.Calls.{of_file}
@@ -161,13 +160,13 @@ module _ (file : List ℕ) (place room : ℕ) where
   its : Reply
   its = verdict (list_in file) (table_in file) (request_at file place) (room / 4)
 
-  at_place : (b : Bool) → reply_to (cond b (Event (request_at file place)) NoneThere) (list_in file) (table_in file) room ≡ cond (not b) (refused NoEvent) its
+  at_place : (b : Bool) → reply_to (cond b (Ok (request_at file place)) (Err NoEvent)) (list_in file) (table_in file) room ≡ cond (not b) (refused NoEvent) its
   unfolding its
   at_place true = refl
   at_place false = refl
 
   in_file : (p g : Bool)
-      → reply_to (event_at_place (cond p (cond g (File (shape_in file)) (Refused (good_end file))) (Refused 0)) file place) (list_in file) (table_in file) room
+      → reply_to (event_at_place (cond p (cond g (Ok (shape_in file)) (Err (BadFile (good_end file)))) (Err (BadFile 0))) file place) (list_in file) (table_in file) room
       ≡ cond (not (p && g)) (refused (BadFile (cond p (good_end file) 0))) (cond (leb (events_in file) place) (refused NoEvent) its)
   unfolding shape_in
   in_file true true = at_place (ltb place (events_in file)) ∙ rw (from_not (events_in file) place)

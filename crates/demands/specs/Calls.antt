@@ -1,11 +1,10 @@
 -- The calls that the demands speak of, and what they give back.
-use Rattle.std.specs.Prelude.{ℕ, ◌/◌, List, reverse, length, get_or}
+use Rattle.std.specs.Prelude.{ℕ, ◌/◌, List, reverse, length, get_or, Result, Ok, Err}
 use Rattle.method.specs.declared.Request.{Request}
+use Rattle.method.specs.declared.Refusal.{Refusal}
 use Rattle.method.specs.Table.{Table}
 use Rattle.method.specs.Verdict.{Reply, carries}
 use Rattle.file_record.specs.Reader.{list_in, table_in, request_at}
-use Rattle.engine_answer.specs.declared.Given.{Given}
-use Rattle.engine_answer.specs.declared.Given.TheVariants.{Answered, Refused}
 use Rattle.engine_answer.specs.declared.Answer.{Answer}
 use Rattle.engine_answer.specs.Answer.{Answers}
 use Rattle.table_bytes.specs.Output.{AnswersInBytes}
@@ -45,18 +44,15 @@ room (over_table list t r) out = length out
 room (of_file file place) out = length out / 4
 
 -- the result `a`, and the output that was `out` before and is `after` now, are those of a reply
-abbrev pub Gets : Call → Reply → Answer → List ℕ → List ℕ → Type 0
+abbrev pub Gets : Call → Reply → Result Answer Refusal → List ℕ → List ℕ → Type 0
 Gets (over_table list t r) reply a out after = Answers reply a out after
 Gets (of_file file place) reply a out after = AnswersInBytes reply a out after
 
 -- "it gets 0 or the refusal number"
-abbrev pub result : Answer → ℕ
-result a = number_of a.given
+abbrev pub result : Result Answer Refusal → ℕ
+result a = number_of a
 
 -- the reach that is reported: an answer's own, else the last number that 9 or 10 carries
-abbrev pub reach_in : Given → ℕ → ℕ
-reach_in Answered reach = reach
-reach_in (Refused w) reach = get_or (reverse (carries w)) 0 0
-
-abbrev pub reported : Answer → ℕ
-reported a = reach_in a.given a.chosen.reach
+abbrev pub reported : Result Answer Refusal → ℕ
+reported (Ok a) = a.chosen.reach
+reported (Err w) = get_or (reverse (carries w)) 0 0

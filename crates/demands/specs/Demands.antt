@@ -1,6 +1,6 @@
 -- The three demands of the order (document 00), sentence by sentence, about what a call gives back: its result `a`, and its output, `out` before
 -- the call and `after` it. The functions of `src/lib.rt` have them as their contracts, on every input: "Callers promise nothing beforehand."
-use Rattle.std.specs.Prelude.{ℕ, ◌-◌, ◌*◌, ◌≤◌, ◌<◌, ◌≡◌, ◌↔◌, true, false, List, [], ◌∷◌, length, take, drop, pos, leb}
+use Rattle.std.specs.Prelude.{ℕ, ◌-◌, ◌*◌, ◌≤◌, ◌<◌, ◌≡◌, ◌↔◌, true, false, List, [], ◌∷◌, length, take, drop, pos, leb, Result, Ok, Err, IsOk}
 use Rattle.base_lists.specs.Lists.{all, any, member}
 use Rattle.calendar_groups.specs.Holidays.{group}
 use Rattle.method.specs.declared.Request.{Request}
@@ -14,7 +14,6 @@ use Rattle.method.specs.Requested.{method_of}
 use Rattle.method.specs.Verdict.{answered, refused, first_of, by_list, verdict}
 use Rattle.method.specs.CutTables.{LongerFormed, held_before, cut_to, Undecided, Parted}
 use Rattle.engine_answer.specs.Answer.{in_five}
-use Rattle.engine_answer.specs.declared.Given.TheVariants.{Answered, Refused}
 use Rattle.engine_answer.specs.declared.Answer.{Answer}
 use Rattle.demands.specs.Calls.{Call, moves, extract, request, per_quarter, stand, room, Gets, result, reported}
 use Rattle.demands.specs.Rows.{file_rows, table_rows, earlier, rows, applies, FirstIn, answer_over, numerators_of, chosen_of, count_of, reach_of, a_of, b_of, n_of}
@@ -28,23 +27,25 @@ abbrev pub quarters : Call → ℕ
 quarters c = per_quarter c * ((request c).e - (request c).s)
 
 -- the result is an answer, "too few days" or "no adjustment window"
-abbrev pub Settled : Answer → Type 0
+abbrev pub Settled : Result Answer Refusal → Type 0
 Settled a = OneOf (result a) (0 ∷ 9 ∷ 10 ∷ [])
 
-module _ (c : Call) (a : Answer) (out after : List ℕ) where
+module _ (c : Call) (a : Result Answer Refusal) (out after : List ℕ) where
   pub record Demand1 : Type 0 where
     -- "For every table, file and request the call ends in an answer or in one refusal from the list in document 01, in its order.": the first of
     -- the rows of which the test holds; where none does, the answer
     pub one : Gets c (first_of (rows c (length out)) (answered (answer_over (moves c) (extract c) (request c)))) a out after
     -- "When, and only when"
-    pub refused_when : (w : Refusal) → (a.given ≡ Refused w) ↔ FirstIn (rows c (length out)) w
-    pub answered_when : (a.given ≡ Answered) ↔ (any applies (rows c (length out)) ≡ false)
+    pub refused_when : (w : Refusal) → (a ≡ Err w) ↔ FirstIn (rows c (length out)) w
+    pub answered_when : IsOk a ↔ (any applies (rows c (length out)) ≡ false)
     -- "A refusal changes no buffer": every other buffer is lent to be read only
-    pub kept : (w : Refusal) → a.given ≡ Refused w → after ≡ out
+    pub kept : (w : Refusal) → a ≡ Err w → after ≡ out
     -- "an answer writes only the quarters of the event"
     pub long : length after ≡ length out
-    pub rest : a.given ≡ Answered → drop (quarters c) after ≡ drop (quarters c) out
+    pub rest : IsOk a → drop (quarters c) after ≡ drop (quarters c) out
 
+-- of an answer `a`
+module _ (c : Call) (a : Answer) (out after : List ℕ) where
   -- of High X of Y: N days, numerators over 12N, and the adjustment
   pub record Adjusted : Type 0 where
     pub count : a.chosen.count ≡ n_of (moves c) (request c)
@@ -71,6 +72,7 @@ module _ (c : Call) (a : Answer) (out after : List ℕ) where
     pub high : is_average (request c) ≡ false → Adjusted
     pub average : is_average (request c) ≡ true → Averaged
 
+module _ (c : Call) (a : Result Answer Refusal) (out after : List ℕ) where
   pub record Demand3 : Type 0 where
     -- "Where an event over a well-formed extract gets an answer, 'too few days' or 'no adjustment window', every longer well-formed history
     -- that agrees with the extract, for the same portfolio and request, gets the same by the methodology, all numbers included.": 02, order 2, reads
@@ -96,14 +98,14 @@ pub record SameBefore (t u : Table) (r : Request) : Type 0 where
 
 -- "Day D's marks, its readings from s on, and all later days play no part beyond refusals 1 to 3.": where none of 11, 12 and 1 to 3 applies to the
 -- call, and none of 1 to 3 to `u`, `u` gets what the call gives
-abbrev pub NoPart : Call → Answer → List ℕ → List ℕ → Type 0
+abbrev pub NoPart : Call → Result Answer Refusal → List ℕ → List ℕ → Type 0
 NoPart c a out after =
     any applies (file_rows c) ≡ false → any applies (table_rows (extract c)) ≡ false
     → (u : Table) → SameBefore (extract c) u (request c) → any applies (table_rows u) ≡ false
     → Gets c (verdict (moves c) u (request c) (room c out)) a out after
 
-pub record Demands (c : Call) (a : Answer) (out after : List ℕ) : Type 0 where
+pub record Demands (c : Call) (a : Result Answer Refusal) (out after : List ℕ) : Type 0 where
   pub first : Demand1 c a out after
-  pub second : a.given ≡ Answered → Demand2 c a out after
+  pub second : (x : Answer) → a ≡ Ok x → Demand2 c x out after
   pub third : Demand3 c a out after
   pub no_part : NoPart c a out after

@@ -2,31 +2,30 @@
 // be read and proved; a caller needs none of them.
 #![tactic(auto)]
 
-ghost use Rattle.table_days.specs.Lent.{table_of};
+ghost use Rattle.table_days.specs.Lent.{table_of, lent};
 ghost use Rattle.host_entries.specs.Host.{request_of};
 ghost use Rattle.demands.specs.Calls.{over_table, of_file};
 ghost use Rattle.demands.specs.Demands.{Demands};
 ghost use Rattle.demands.specs.Entries.{EntryDemands, Tells};
 
 use engine_answer::Answer;
-use method::Request;
+use method::{Refusal, Request};
+use table_days::LentTable;
 
 // A request by a list of moves over a lent table.
 pub fn over_table(
-    first: u32,
-    marks: &[u8],
-    readings: &[u32],
+    table: &LentTable<'_, '_>,
     moves: &[u32],
     request: Request,
     out: &mut [u32],
-) -> Answer
-    ensures { Demands (over_table moves.now (table_of first marks.now readings.now) request) result out.old out.new }
+) -> Result<Answer, Refusal>
+    ensures { Demands (over_table moves.now (lent table.now) request) result out.old out.new }
 {
-    table_baseline::baseline(first, marks, readings, moves, request, out)
+    table_baseline::baseline(table, moves, request, out)
 }
 
 // The event at a place of a record file.
-pub fn of_file(file: &[u8], place: usize, out: &mut [u8]) -> Answer
+pub fn of_file(file: &[u8], place: usize, out: &mut [u8]) -> Result<Answer, Refusal>
     ensures { Demands (of_file file.now place) result out.old out.new }
 {
     file_baseline::file_baseline(file, place, out)
@@ -71,6 +70,7 @@ pub fn entry_of_file(file: &[u8], place: usize, out: &mut [u8]) -> u32
 }
 
 // What C is told of that request, by name.
+#[tactic(auto, using(demands::proofs::Entries::table_tells))]
 pub fn told_over_table(
     first: u32,
     marks: &[u8],
@@ -102,6 +102,7 @@ pub fn told_over_table(
 }
 
 // What C is told of that event, by name.
+#[tactic(auto, using(demands::proofs::Entries::file_tells))]
 pub fn told_of_file(file: &[u8], place: usize, name: u32) -> i64
     ensures { Tells (of_file file.now place) name result }
 {

@@ -3,21 +3,20 @@
 
 ghost use Rattle.std.specs.Prelude.{◌≡◌, ◌≤◌, ◌++◌, slice_index};
 ghost use Rattle.method.specs.Adjustment.{A as twelve_sum, window_ends, latest_end, adjustment_end};
-ghost use Rattle.engine_adjustment.specs.Steps.{RunBefore};
+ghost use Rattle.engine_adjustment.specs.Steps.{RunBefore, found};
 
-use base_numbers::sizes;
 use method::{MISSING, Request};
 
-// The reading at a place of the two-day ruler; 0 past its end.
+// The reading at a place of the two-day ruler; 0 past its end, as the definition has it.
 fn reading_at(place: u32, yesterday: &[u32], today: &[u32]) -> u32
     ensures { result ≡ slice_index (yesterday.now ++ today.now) place }
 {
     let at = place as usize;
     if at < yesterday.len() {
-        return yesterday[at];
+        yesterday[at]
+    } else {
+        today.get(at - yesterday.len()).copied().unwrap_or(0)
     }
-    let rest = at - yesterday.len();
-    if rest < today.len() { today[rest] } else { 0 }
 }
 
 // How many of the twelve readings before `end` are present, counted back from it up to a missing one.
@@ -25,48 +24,42 @@ fn present_before(end: u32, yesterday: &[u32], today: &[u32]) -> u32
     requires { 12 ≤ end }
     ensures { RunBefore (yesterday.now ++ today.now) end result }
 {
-    for run in 0..12 {
-        if reading_at(end - run - 1, yesterday, today) == MISSING {
-            return run;
-        }
-    }
-    12
+    (0..12)
+        .find(|run| reading_at(end - run - 1, yesterday, today) == MISSING)
+        .unwrap_or(12)
 }
 
 // Whether twelve quarters end at a place of the ruler, with all their readings present.
+#[tactic(auto, using(crate::proofs::Windows::run_says, crate::proofs::Windows::too_early))]
 fn window_ends(end: u32, yesterday: &[u32], today: &[u32]) -> bool
     ensures { result ≡ window_ends (yesterday.now ++ today.now) end }
 {
-    if end < 12 {
-        false
-    } else {
-        present_before(end, yesterday, today) == 12
-    }
+    end >= 12 && present_before(end, yesterday, today) == 12
 }
 
-// The latest place from `last` down where a window ends; 0 where there is none. No window reaches over a missing reading: the next that can
+// The latest place from `last` down where a window ends; none where there is none. No window reaches over a missing reading: the next that can
 // end does so before it.
-fn latest_end(last: u32, yesterday: &[u32], today: &[u32]) -> u32
-    ensures { result ≡ latest_end (yesterday.now ++ today.now) last }
+fn latest_end(last: u32, yesterday: &[u32], today: &[u32]) -> Option<u32>
+    ensures { result ≡ found (latest_end (yesterday.now ++ today.now) last) }
 {
     let mut end = last;
+    // no plainer as a chain: it goes down by as many places as it may
     while 12 <= end {
         let run = present_before(end, yesterday, today);
         if run == 12 {
-            return end;
+            return Some(end);
         }
         end -= run + 1;
     }
-    0
+    None
 }
 
-// Where the adjustment window ends on the ruler; 0 where there is none.
-pub fn adjustment_end(request: Request, yesterday: &[u32], today: &[u32]) -> u32
-    ensures { result ≡ adjustment_end request (yesterday.now ++ today.now) }
+// Where the adjustment window ends on the ruler, if there is one.
+pub fn adjustment_end(request: Request, yesterday: &[u32], today: &[u32]) -> Option<u32>
+    ensures { result ≡ found (adjustment_end request (yesterday.now ++ today.now)) }
 {
-    let n = request.n;
-    if window_ends(n, yesterday, today) {
-        n
+    if window_ends(request.n, yesterday, today) {
+        Some(request.n)
     } else {
         latest_end(request.s, yesterday, today)
     }
@@ -77,11 +70,10 @@ pub fn adjustment_end(request: Request, yesterday: &[u32], today: &[u32]) -> u32
 pub fn window_sum(end: u32, yesterday: &[u32], today: &[u32]) -> u64
     ensures { result ≡ twelve_sum (yesterday.now ++ today.now) end }
 {
-    let start = sizes::minus(end as usize, 12);
+    let start = (end as usize).saturating_sub(12);
     let last = start + 12;
     let day = yesterday.len();
-    std::num::wrapping_add_u64(
-        base_sums::sum_between(yesterday, start, last),
-        base_sums::sum_between(today, sizes::minus(start, day), sizes::minus(last, day)),
-    )
+    let first = base_sums::sum_between(yesterday, start, last);
+    let second = base_sums::sum_between(today, start.saturating_sub(day), last.saturating_sub(day));
+    first.wrapping_add(second)
 }

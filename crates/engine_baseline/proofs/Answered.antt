@@ -21,7 +21,7 @@ use Rattle.method.specs.Rules.{method_by}
 use Rattle.method.specs.Requested.{method_of}
 use Rattle.method.specs.Verdict.{Answer, answered, request_refusals, closing, methodology}
 use Rattle.base_lists.proofs.Places.{length_over}
-use Rattle.engine_refusals.specs.declared.Tested.TheVariants.{Passed}
+use Rattle.std.specs.Prelude.{Ok}
 use Rattle.engine_refusals.specs.Steps.{tested}
 use Rattle.engine_refusals.proofs.FirstRefusal.{GoodRequest, good_request_lem, Fits, request_passed}
 use Rattle.method.proofs.Replies.{never_both}
@@ -91,7 +91,7 @@ module _ (group : ℕ → Group) (h : History Day) (r : Request) where
   moved = adjusting_by r ch (h.day (r.event - 1)) (h.day r.event)
 
   module _ (room : ℕ) {a : Answer} (e : methodology group h r room ≡ answered a) where
-    past : (tested (request_refusals h r room) ≡ Passed) × (closing (outcome how h) ≡ answered a)
+    past : (tested (request_refusals h r room) ≡ Ok tt) × (closing (outcome how h) ≡ answered a)
     unfolding methodology
     past = answered_past (request_refusals h r room) (closing (outcome how h)) e
 

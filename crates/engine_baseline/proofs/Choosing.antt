@@ -11,7 +11,10 @@ use lib.Seq.{take-take, take-append_seam}
 use Rattle.base_lists.specs.Lists.{keep}
 use Rattle.base_lists.proofs.Bools.{both}
 use Rattle.calendar_groups.specs.declared.Group.{Group}
+use Rattle.std.specs.Prelude.{Result, Ok, Err}
 use Rattle.method.specs.declared.Request.{Request}
+use Rattle.method.specs.declared.Refusal.{Refusal}
+use Rattle.method.specs.declared.Refusal.TheVariants.{MarginTooShort, TooFew}
 use Rattle.method.specs.Table.{Day, History, held, event_bit, outage_bit}
 use Rattle.method.specs.Adjustment.{Baseline, is_average, baseline}
 use Rattle.method.specs.Eligible.{higher, insert_by, sort_by, eligible, spare, complete}
@@ -23,12 +26,10 @@ use Rattle.method.specs.Method.{Method, Outcome, short, few, chose, outcome, day
 use Rattle.method.specs.Method.{reach, is_short}
 use Rattle.method_laws.proofs.Requested.{lawful}
 use Rattle.method_laws.proofs.Stable.{yesterday_held}
-use Rattle.method.specs.Verdict.{closing}
+use Rattle.method.specs.Verdict.{refused, closing}
 use Rattle.engine_answer.specs.declared.Chosen.{Chosen}
-use Rattle.engine_choice.specs.declared.Choosing.TheVariants.{Short, Few, Days}
-use Rattle.engine_choice.specs.declared.Choice.{Choice}
 use Rattle.engine_answer.specs.Answer.{in_five}
-use Rattle.engine_choice.specs.Steps.{choice_of, no_days}
+use Rattle.engine_choice.specs.Steps.{choice_of}
 use Rattle.engine_choice.proofs.Requested.{chosen_five}
 use Rattle.engine_baseline.specs.Engine.{with_days}
 use Rattle.engine_baseline.specs.Steps.{Fit, Ready, reply_of}
@@ -38,10 +39,8 @@ module _ {A O : Type 0} (m : Method A O) (h : History A) where
   abbrev picked : Chosen
   picked = record { days = in_five (days_of (chosen m h)); count = length (chosen m h); reach = reach m h }
 
-  abbrev choice : Bool → Bool → Choice
-  choice s f =
-      cond s (no_days (Short (whole_reach m))) (cond f (no_days (Few (length (window m h)) (reach m h)))
-      (record { choosing = Days; chosen = picked }))
+  abbrev choice : Bool → Bool → Result Chosen Refusal
+  choice s f = cond s (Err (MarginTooShort (whole_reach m))) (cond f (Err (TooFew (length (window m h)) (reach m h))) (Ok picked))
 
   abbrev ending : Outcome O
   ending = chose (days_of (chosen m h)) (reach m h) (m.finish (chosen m h) (h.day (m.event - 1)) (h.day m.event))
@@ -49,69 +48,44 @@ module _ {A O : Type 0} (m : Method A O) (h : History A) where
   abbrev ended : Bool → Bool → Outcome O
   ended s f = cond s (short (whole_reach m)) (cond f (few (length (window m h)) (reach m h)) ending)
 
-  short_go : (s f : Bool) (d : ℕ) → (choice s f).choosing ≡ Short d → ended s f ≡ short d
-  short_go true f d e = cc
-  short_go false true d e = absurd (let z : ◌≡◌ {A = ℕ} 0 1 = cc in omega arith)
-  short_go false false d e = absurd (let z : ◌≡◌ {A = ℕ} 0 1 = cc in omega arith)
-
-  few_go : (s f : Bool) (n d : ℕ) → (choice s f).choosing ≡ Few n d → ended s f ≡ few n d
-  few_go true f n d e = absurd (let z : ◌≡◌ {A = ℕ} 0 1 = cc in omega arith)
-  few_go false true n d e = cc
-  few_go false false n d e = absurd (let z : ◌≡◌ {A = ℕ} 0 1 = cc in omega arith)
-
   -- whether days are chosen
   abbrev pub some : Bool → Bool → Bool
   some s f = not s && not f
 
-  none_short : (s f : Bool) (d : ℕ) → (choice s f).choosing ≡ Short d → some s f ≡ false
-  none_short true f d e = refl
-  none_short false true d e = refl
-  none_short false false d e = absurd (let z : ◌≡◌ {A = ℕ} 0 1 = cc in omega arith)
-
-  none_few : (s f : Bool) (n d : ℕ) → (choice s f).choosing ≡ Few n d → some s f ≡ false
-  none_few true f n d e = refl
-  none_few false true n d e = refl
-  none_few false false n d e = absurd (let z : ◌≡◌ {A = ℕ} 0 1 = cc in omega arith)
+  pub none_is : {w : Refusal} → choice_of m h ≡ Err w → some (is_short m h) (eqb (m.taken (length (window m h))) 0) ≡ false
+  unfolding choice_of
+  none_is {w} e = go (is_short m h) (eqb (m.taken (length (window m h))) 0) e
+    where
+      go : (s f : Bool) → choice s f ≡ Err w → some s f ≡ false
+      go true f k = refl
+      go false true k = refl
+      go false false k = absurd (let z : ◌≡◌ {A = ℕ} 0 1 = cc in omega arith)
 
   -- days are chosen, and these
-  pub record Chose (c : Choice) : Type 0 where
+  pub record Chose (c : Chosen) : Type 0 where
     pub enough : is_short m h ≡ false
     pub taken : eqb (m.taken (length (window m h))) 0 ≡ false
-    pub chosen : c.chosen ≡ picked
+    pub chosen : c ≡ picked
     pub outcome : outcome m h ≡ ending
 
-  module _ {c : Choice} (e : c ≡ choice_of m h) where
-    pub short_is : {d : ℕ} → c.choosing ≡ Short d → outcome m h ≡ short d
-    unfolding choice_of outcome
-    short_is {d} k = short_go (is_short m h) (eqb (m.taken (length (window m h))) 0) d (sym (ap (λ (x : Choice). x.choosing) e) ∙ k)
+  pub days_is : {c : Chosen} → choice_of m h ≡ Ok c → Chose c
+  unfolding choice_of outcome
+  days_is {c} e = go (is_short m h) (eqb (m.taken (length (window m h))) 0) refl refl e
+    where
+      go : (s f : Bool) → is_short m h ≡ s → eqb (m.taken (length (window m h))) 0 ≡ f → choice s f ≡ Ok c → Chose c
+      go true f x y k = absurd (let z : ◌≡◌ {A = ℕ} 0 1 = cc in omega arith)
+      go false true x y k = absurd (let z : ◌≡◌ {A = ℕ} 0 1 = cc in omega arith)
+      go false false x y k = record { enough = x; taken = y; chosen = cc; outcome = ap₂ ended x y }
 
-    pub few_is : {n d : ℕ} → c.choosing ≡ Few n d → outcome m h ≡ few n d
-    unfolding choice_of outcome
-    few_is {n} {d} k = few_go (is_short m h) (eqb (m.taken (length (window m h))) 0) n d (sym (ap (λ (x : Choice). x.choosing) e) ∙ k)
-
-    pub short_none : {d : ℕ} → c.choosing ≡ Short d → some (is_short m h) (eqb (m.taken (length (window m h))) 0) ≡ false
-    unfolding choice_of
-    short_none {d} k = none_short (is_short m h) (eqb (m.taken (length (window m h))) 0) d (sym (ap (λ (x : Choice). x.choosing) e) ∙ k)
-
-    pub few_none : {n d : ℕ} → c.choosing ≡ Few n d → some (is_short m h) (eqb (m.taken (length (window m h))) 0) ≡ false
-    unfolding choice_of
-    few_none {n} {d} k = none_few (is_short m h) (eqb (m.taken (length (window m h))) 0) n d (sym (ap (λ (x : Choice). x.choosing) e) ∙ k)
-
-    pub days_is : c.choosing ≡ Days → Chose c
-    unfolding choice_of outcome
-    days_is k = go (is_short m h) (eqb (m.taken (length (window m h))) 0) refl refl
-      where
-        go : (s f : Bool) → is_short m h ≡ s → eqb (m.taken (length (window m h))) 0 ≡ f → Chose c
-        go true f x y = absurd (let z : ◌≡◌ {A = ℕ} 0 1 = cc (k, e, ap (λ s. (choice s (eqb (m.taken (length (window m h))) 0)).choosing) x)
-            in omega arith)
-        go false true x y = absurd (let z : ◌≡◌ {A = ℕ} 0 1 = cc (k, e, ap₂ (λ s f. (choice s f).choosing) x y) in omega arith)
-        go false false x y =
-            record {
-              enough = x;
-              taken = y;
-              chosen = ap (λ (x : Choice). x.chosen) e ∙ ap₂ (λ s f. (choice s f).chosen) x y;
-              outcome = ap₂ ended x y;
-            }
+-- the reply of what is not chosen
+pub refused_is : (m : Method Day (Option Baseline)) (h : History Day) {w : Refusal} → choice_of m h ≡ Err w → closing (outcome m h) ≡ refused w
+unfolding choice_of outcome closing
+refused_is m h {w} e = go (is_short m h) (eqb (m.taken (length (window m h))) 0) e
+  where
+    go : (s f : Bool) → choice m h s f ≡ Err w → closing (ended m h s f) ≡ refused w
+    go true f k = cc
+    go false true k = cc
+    go false false k = absurd (let z : ◌≡◌ {A = ℕ} 0 1 = cc in omega arith)
 
 -- ---- a rule that holds of every element
 module _ {A : Type 0} (P : A → Type 0) where
@@ -247,27 +221,27 @@ five_take : (l : List ℕ) → length l ≤ 5 → take (length l) (in_five l) �
 five_take l h = take-take (length l) 5 (l ++ replicate 5 0) h ∙ take-append_seam l (replicate 5 0)
 
 -- the chosen days by value are those of the history
-module _ (group : ℕ → Group) (r : Request) (h : History Day) (c : Choice) (x : Chose (method_of group r) h c) where
+module _ (group : ℕ → Group) (r : Request) (h : History Day) (c : Chosen) (x : Chose (method_of group r) h c) where
   abbrev ch : List (ℕ × Day)
   ch = chosen (method_of group r) h
 
   same_count : length (days_of ch) ≡ length ch
   same_count = length-map ch (λ (p : ℕ × Day). p.0)
 
-  listed : take c.chosen.count c.chosen.days ≡ days_of ch
+  listed : take c.count c.days ≡ days_of ch
   listed = rw (x.chosen, ← same_count) (five_take (days_of ch) (omega (arith, same_count, chosen_five group r h)))
 
-  pub days_held : with_days h (take c.chosen.count c.chosen.days) ≡ ch
+  pub days_held : with_days h (take c.count c.days) ≡ ch
   days_held = ap (with_days h) listed ∙ chosen_again group r h
 
--- what `finish` asks, and its reply
-module _ (group : ℕ → Group) (r : Request) (h : History Day) (room : ℕ) (fit : Fit r h room) (c : Choice) (x : Chose (method_of group r) h c) where
+-- what is asked where days are chosen, and the reply
+module _ (group : ℕ → Group) (r : Request) (h : History Day) (room : ℕ) (fit : Fit r h room) (c : Chosen) (x : Chose (method_of group r) h c) where
   -- the event is not on day 0
   some_before : 0 < r.event
   unfolding method_of method_by
   some_before = (yesterday_held (method_of group r) (lawful group r) h fit.holds x.taken).0
 
-  pub ready : Ready r room c.chosen
+  pub ready : Ready r room c
   ready =
       record {
         request = fit.request;
@@ -277,15 +251,15 @@ module _ (group : ℕ → Group) (r : Request) (h : History Day) (room : ℕ) (f
         five = rw (listed group r h c x) (rw x.chosen);
       }
 
-  pub reply_is : reply_of r h c.chosen ≡ closing (outcome (method_of group r) h)
+  pub reply_is : reply_of r h c ≡ closing (outcome (method_of group r) h)
   unfolding method_of method_by
   reply_is = ap closing (same ∙ sym x.outcome)
     where
-      reaches : c.chosen.reach ≡ reach (method_of group r) h
+      reaches : c.reach ≡ reach (method_of group r) h
       reaches = ap (λ (k : Chosen). k.reach) x.chosen
 
-      same : chose (take c.chosen.count c.chosen.days) c.chosen.reach
-          (baseline r (with_days h (take c.chosen.count c.chosen.days)) (h.day (r.event - 1)) (h.day r.event))
+      same : chose (take c.count c.days) c.reach
+          (baseline r (with_days h (take c.count c.days)) (h.day (r.event - 1)) (h.day r.event))
           ≡ chose (days_of (chosen (method_of group r) h)) (reach (method_of group r) h)
           (baseline r (chosen (method_of group r) h) (h.day (r.event - 1)) (h.day r.event))
       same = λ i. chose (listed group r h c x i) (reaches i) (baseline r (days_held group r h c x i) (h.day (r.event - 1)) (h.day r.event))

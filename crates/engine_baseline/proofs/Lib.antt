@@ -4,3 +4,4 @@ pub mod Exact
 pub mod Store
 pub mod Steps
 pub mod Laws
+pub mod Chain

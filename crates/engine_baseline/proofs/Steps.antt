@@ -4,17 +4,11 @@ use mathlib.Core.Path.{◌≡◌, refl, sym, ap, ap₂, ◌∙◌}
 use mathlib.Core.Bool.{Bool, true, false}
 use mathlib.Core.List.{List, ◌++◌, map}
 use mathlib.Core.Option.{Option, some}
-use native.Mathlib.Nat.{mul-le-mul_right}
 use native.Mathlib.Omega.{arith}
-use borrow.Author.Rules.{sfits_of}
 use borrow.Author.Tests.{eq-eqb, ne_eqb}
 use lib.ListN.{length, get_or, take, drop, length-take, length-append, length-replicate, length-map}
 use lib.IntN.{ℤ, pos}
-use lib.Signed.{mag}
-use mir.Syntax.{w64}
-use mir.Val.{to_z, of_z}
-use mir.ValLaws.{to_z-of_z}
-use Rattle.base_lists.specs.Lists.{all, places}
+use Rattle.base_lists.specs.Lists.{places}
 use Rattle.base_lists.proofs.Maps.{map-take}
 use Rattle.calendar_groups.specs.Holidays.{good_moves, group}
 use Rattle.method.specs.declared.Request.{Request}
@@ -37,15 +31,12 @@ use Rattle.engine_sums.specs.QuarterSteps.{quarter_sum}
 use Rattle.engine_places.specs.declared.Places.{Places}
 use Rattle.engine_places.specs.PlaceSteps.{placed_of}
 use Rattle.engine_numerators.specs.NumeratorSteps.{window_sums, chosen_at, adjustment_of, numerators_of, Written}
-use Rattle.engine_numerators.proofs.Signed.{mag_difference}
-use Rattle.engine_numerators.proofs.Windows.{small, part_all, ruler_most, windows_most}
 use Rattle.engine_numerators.proofs.Standing.{S_placed, B_placed}
 use Rattle.engine_answer.specs.declared.Chosen.{Chosen}
-use Rattle.engine_refusals.specs.declared.Tested.TheVariants.{Passed, Failed}
+use Rattle.std.specs.Prelude.{Ok, Err}
 use Rattle.engine_refusals.specs.Steps.{tested}
 use Rattle.engine_refusals.proofs.FirstRefusal.{GoodRequest, good_request_lem, request_passed, first_failed, first_passed}
 use Rattle.engine_answer.specs.declared.Answer.{Answer}
-use Rattle.engine_answer.specs.declared.Given.TheVariants.{Answered}
 use Rattle.engine_answer.specs.Answer.{answer_of, Answers}
 use Rattle.engine_baseline.specs.Engine.{with_days, in_words, over_rooms}
 use Rattle.engine_baseline.specs.Steps.{start_of, Fit, Ready, reply_of}
@@ -71,20 +62,20 @@ module _ (moves : List ℕ) (r : Request) (rooms : Directory) (readings : List �
   unfolding over_rooms
   over_bad bad = words_refused r shown (by_bad moves shown r room bad)
 
-  pub over_refused : good_moves moves ≡ true → {w : Refusal} → Failed w ≡ tested (request_refusals shown r room)
+  pub over_refused : good_moves moves ≡ true → {w : Refusal} → tested (request_refusals shown r room) ≡ Err w
       → over_rooms moves r rooms readings room ≡ refused w
   unfolding over_rooms methodology
   over_refused good {w} e =
-      words_refused r shown (by_good moves shown r room good ∙ first_failed (request_refusals shown r room) w worked (sym e))
+      words_refused r shown (by_good moves shown r room good ∙ first_failed (request_refusals shown r room) w worked e)
 
-  module _ (e : Passed ≡ tested (request_refusals shown r room)) where
+  module _ (e : tested (request_refusals shown r room) ≡ Ok tt) where
     pub fit : Fit r shown room
-    fit = let f = request_passed shown r room (sym e) in record { request = f.request; holds = f.holds; enough = f.enough }
+    fit = let f = request_passed shown r room e in record { request = f.request; holds = f.holds; enough = f.enough }
 
     pub over_passed : good_moves moves ≡ true → in_words r shown worked ≡ over_rooms moves r rooms readings room
     unfolding over_rooms methodology
     over_passed good =
-        ap (in_words r shown) (sym (by_good moves shown r room good ∙ first_passed (request_refusals shown r room) worked (sym e)))
+        ap (in_words r shown) (sym (by_good moves shown r room good ∙ first_passed (request_refusals shown r room) worked e))
 
 -- ---- chosen days
 module _ (r : Request) (rooms : Directory) (readings : List ℕ) (room : ℕ) (chosen : Chosen) (k : Ready r room chosen) where
@@ -195,17 +186,16 @@ module _ (r : Request) (rooms : Directory) (readings : List ℕ) (room : ℕ) (c
     numbers_long = length_over (λ q. in_word adj (quarter_sum wide readings at (from + q))) (r.e - r.s) 0
 
     answers : {answer : Answer} {ys out : List ℕ} {over : ℕ} {given : ℤ} → ys ≡ numbers adj → over ≡ parts_of r * chosen.count → given ≡ adj
-        → answer ≡ record { given = Answered; chosen = chosen; denominator = over; adjustment = given }
-        → Answers (in_words r h (reply_of r h chosen)) answer out (ys ++ drop (r.e - r.s) out)
+        → answer ≡ record { chosen = chosen; denominator = over; adjustment = given }
+        → Answers (in_words r h (reply_of r h chosen)) (Ok answer) out (ys ++ drop (r.e - r.s) out)
     unfolding answer_of written
     answers {answer} {ys} {out} w o g e =
         record {
-          answer = e ∙ rw reply_is (λ i. record {
-            given = Answered;
+          answer = ap Ok e ∙ rw reply_is (λ i. Ok (record {
             chosen = record { days = k.five i; count = sym days_long i; reach = chosen.reach };
             denominator = o i;
             adjustment = g i;
-          });
+          }));
           output = rw (reply_is, numbers_long) (ap (λ l. l ++ drop (r.e - r.s) out) w);
         }
 
@@ -225,8 +215,8 @@ module _ (r : Request) (rooms : Directory) (readings : List ℕ) (room : ℕ) (c
 
     pub averages : {n : ℕ} {ys : List ℕ} {answer : Answer} (out : List ℕ) → n ≡ r.e - r.s
         → ys ≡ map (λ q. quarter_sum placed.quarters readings (chosen_at placed) (placed.start + q) % 2 ^ 32) (places n 0)
-        → answer ≡ record { given = Answered; chosen = chosen; denominator = chosen.count; adjustment = pos 0 }
-        → Answers (in_words r h (reply_of r h chosen)) answer out (ys ++ drop (r.e - r.s) out)
+        → answer ≡ record { chosen = chosen; denominator = chosen.count; adjustment = pos 0 }
+        → Answers (in_words r h (reply_of r h chosen)) (Ok answer) out (ys ++ drop (r.e - r.s) out)
     averages out l s e = answers unadjusted (sums_are l s) (rw average (omega arith)) refl e
 
   -- ---- High X of Y: yesterday's and today's readings, and the ruler
@@ -283,28 +273,11 @@ module _ (r : Request) (rooms : Directory) (readings : List ℕ) (room : ℕ) (c
         given_is = rw (es, placed_is end, count_is)
 
         module _ {length' : ℕ} {given : ℤ} {ys : List ℕ} (w : Written readings placed y z length' given ys) where
-          -- the adjustment as a number of 64 bits: the readings are numbers of 32
-          pub adjusted_back : all small readings ≡ true → to_z w64 (of_z w64 given) ≡ given
-          adjusted_back bits = to_z-of_z w64 given (sfits_of near)
-            where
-              own_most : own ≤ 51539607540
-              own_most =
-                  ruler_most y z end (rw ey (part_all small (size (r.event - 1)) readings (get_or rooms.at 1 0) bits))
-                  (rw ez (part_all small (size r.event) readings (get_or rooms.at 0 0) bits))
-
-              usual_most : usual < 2 ^ 63
-              usual_most = omega (arith, windows_most wide readings at end bits, length-map days start, days_long, k.few)
-
-              near : mag given < 2 ^ 63
-              near =
-                  rw (w.adjusted, given_is)
-                  (mag_difference (chosen.count * own) usual (2 ^ 63) (omega (arith, mul-le-mul_right own k.few, own_most)) usual_most)
-
           written_is : length' ≡ r.e - r.s → ys ≡ numbers adj
           unfolding numerators_of
           written_is e = w.output ∙ rw (e, given_is, es, placed_is end, high)
 
           pub adjusted_answers : {answer : Answer} {out : List ℕ} → length' ≡ r.e - r.s
-              → answer ≡ record { given = Answered; chosen = chosen; denominator = 12 * chosen.count; adjustment = given }
-              → Answers (in_words r h (reply_of r h chosen)) answer out (ys ++ drop (r.e - r.s) out)
+              → answer ≡ record { chosen = chosen; denominator = 12 * chosen.count; adjustment = given }
+              → Answers (in_words r h (reply_of r h chosen)) (Ok answer) out (ys ++ drop (r.e - r.s) out)
           adjusted_answers l e = answers adjusts (written_is l) (rw high) (w.adjusted ∙ given_is) e

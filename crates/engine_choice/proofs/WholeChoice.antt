@@ -17,7 +17,10 @@ use Rattle.base_lists.proofs.Maps.{map-take}
 use Rattle.base_lists.proofs.Parts.{take_within}
 use Rattle.calendar_groups.specs.declared.Group.{Group}
 use Rattle.base_lists.proofs.Keep.{all-keep}
+use Rattle.std.specs.Prelude.{Result, Ok, Err}
 use Rattle.method.specs.declared.Request.{Request}
+use Rattle.method.specs.declared.Refusal.{Refusal}
+use Rattle.method.specs.declared.Refusal.TheVariants.{MarginTooShort, TooFew}
 use Rattle.method.specs.Table.{Day, History}
 use Rattle.method.specs.Relevant.{relevant}
 use Rattle.method.specs.Method.{Method, days_of, whole_reach, seen, eligibles, spares, window, chosen, reach, is_short}
@@ -38,11 +41,10 @@ use Rattle.engine_rules.specs.declared.SpareOrder.{SpareOrder}
 use Rattle.engine_rules.specs.declared.SpareOrder.TheVariants.{Highest, Latest}
 use Rattle.engine_rules.specs.declared.Rules.{Rules as Numbers}
 use Rattle.engine_look_back.specs.declared.Found.{Found}
-use Rattle.engine_choice.specs.declared.Choosing.TheVariants.{Short, Few, Days}
-use Rattle.engine_choice.specs.declared.Choice.{Choice}
-use Rattle.engine_choice.specs.declared.Row.{Row}
+use Rattle.engine_ranking.specs.declared.Ranking.{Ranking}
+use Rattle.engine_answer.specs.declared.Chosen.{Chosen}
 use Rattle.engine_answer.specs.Answer.{in_five}
-use Rattle.engine_choice.specs.Steps.{choice_of, no_days}
+use Rattle.engine_choice.specs.Steps.{choice_of}
 use Rattle.engine_rules.specs.Steps.{Follows, Sound, in_order}
 use Rattle.engine_choice.specs.Steps.{days_in, picked, fillers, filled_of, among_few}
 use Rattle.engine_look_back.specs.Steps.{rooms_of, rooms_before, nearest, held_days, up_to, eligible_of, spare_of, row_of, spare_row, spares_of, Looked}
@@ -71,53 +73,34 @@ known_fill : (o : SpareOrder) (k n : ℕ) → k ≤ 10 → min k (spares_of o n)
 known_fill Highest k n h = refl
 known_fill Latest k n h = omega arith
 
--- The two ways out of a window
-
-module _ (event : ℕ) (numbers : Numbers) (row : List ℕ) (size reach : ℕ) where
-  pub picked_none : get_or numbers.taken size 0 ≡ 0 → no_days (Few size reach) ≡ picked event numbers row size reach
-  unfolding picked
-  picked_none e = rw (eq-eqb (get_or numbers.taken size 0) 0 e)
-
-  pub picked_some : (get_or numbers.taken size 0 ≡ 0 → ⊥)
-      → record {
-        choosing = Days;
-        chosen = record {
-          days = in_five (days_in event row (get_or numbers.passed size 0) (get_or numbers.taken size 0));
-          count = get_or numbers.taken size 0;
-          reach = reach;
-        };
-      } ≡ picked event numbers row size reach
-  unfolding picked
-  picked_some e = rw (ne_eqb (get_or numbers.taken size 0) 0 e)
-
 -- ten places hold a window that the eligible days do not fill
-pub filled_few : {numbers : Numbers} (found : Found) {row : Row} → Sound numbers → found.count < numbers.most → row ≡ filled_of numbers found → row.size ≤ 10
+pub filled_few : {numbers : Numbers} (found : Found) {row : Ranking} → Sound numbers → found.eligible.count < numbers.most → row ≡ filled_of numbers found → row.count ≤ 10
 filled_few {numbers} found sound less e = rw e (omega (arith, sound.ten, sound.fills))
 
 -- The two ways out where the eligible days do not fill the window
 
 module _ (r : Request) (numbers : Numbers) (found : Found) (before reach : ℕ) where
-  pub short_of_days : before < reach → no_days (Short reach) ≡ among_few r numbers found before reach
+  short_of_days : before < reach → Err (MarginTooShort reach) ≡ among_few r numbers found before reach
   unfolding among_few
   short_of_days h = rw (lt-ltb before reach h)
 
-  pub enough_days : reach ≤ before
-      → picked r.event numbers (filled_of numbers found).row (filled_of numbers found).size reach ≡ among_few r numbers found before reach
+  enough_days : reach ≤ before
+      → picked r.event numbers (filled_of numbers found).words (filled_of numbers found).count reach ≡ among_few r numbers found before reach
   unfolding among_few
   enough_days h = rw (le-ltb before reach h)
 
 -- The same of the definition
 
 module _ {A O : Type 0} (m : Method A O) (h : History A) where
-  choice_short : is_short m h ≡ true → choice_of m h ≡ no_days (Short (whole_reach m))
+  choice_short : is_short m h ≡ true → choice_of m h ≡ Err (MarginTooShort (whole_reach m))
   unfolding choice_of
   choice_short e = rw e
 
   -- the choice from a window
-  abbrev of_window : List ℕ → ℕ → Choice
+  abbrev of_window : List ℕ → ℕ → Result Chosen Refusal
   of_window days count =
-      cond (eqb (m.taken (length (window m h))) 0) (no_days (Few (length (window m h)) (reach m h)))
-      (record { choosing = Days; chosen = record { days = in_five days; count = count; reach = reach m h } })
+      cond (eqb (m.taken (length (window m h))) 0) (Err (TooFew (length (window m h)) (reach m h)))
+      (Ok (record { days = in_five days; count = count; reach = reach m h }))
 
   choice_window : is_short m h ≡ false → choice_of m h ≡ of_window (days_of (chosen m h)) (length (chosen m h))
   unfolding choice_of
@@ -207,7 +190,7 @@ module _ (group : ℕ → Group) {r : Request} {rules : Rules} {numbers : Number
     spare_back = all-keep (looked_back r) (λ (p : ℕ × Day). spare p.1) days back
 
     -- the eligible days fill the window
-    module _ (full : numbers.most ≤ found.count) where
+    module _ (full : numbers.most ≤ found.eligible.count) where
       many : m.most ≤ length (eligibles m h)
       unfolding method_by
       many = rw eligibles_are (omega (arith, q.count, f.most))
@@ -229,22 +212,22 @@ module _ (group : ℕ → Group) {r : Request} {rules : Rules} {numbers : Number
       full_back : all (looked_back r) (window m h) ≡ true
       full_back = rw full_window (all-take (looked_back r) numbers.most (eligible_of days) eligible_back)
 
-      full_row : found.eligible ≡ row_of r (window m h)
+      full_row : found.eligible.words ≡ row_of r (window m h)
       full_row = q.row ∙ ap (row_of r) (sym full_window)
 
-      pub full_shows : Shows m h r.event numbers found.eligible numbers.most false
+      pub full_shows : Shows m h r.event numbers found.eligible.words numbers.most false
       full_shows = row_shows full_row sized full_back (sym (full_enough m h many))
 
-      pub full_choice : picked r.event numbers found.eligible numbers.most found.oldest ≡ choice_of m h
+      pub full_choice : picked r.event numbers found.eligible.words numbers.most found.oldest ≡ choice_of m h
       full_choice =
           picked_is (omega (arith, sized, f.sound.ten)) full_row sized full_reach full_back (full_enough m h many)
 
     -- they do not
-    module _ (less : found.count < numbers.most) (before : h.first ≤ r.event + 1) where
+    module _ (less : found.eligible.count < numbers.most) (before : h.first ≤ r.event + 1) where
       fewer : length (eligible_of days) < numbers.most
       fewer = omega (arith, q.count)
 
-      count_eligible : found.count ≡ length (eligible_of days)
+      count_eligible : found.eligible.count ≡ length (eligible_of days)
       count_eligible = omega (arith, q.count, fewer)
 
       fillers_are : fillers numbers found ≡ min (rules.fill - length (eligible_of days)) (length (spare_of days))
@@ -267,7 +250,7 @@ module _ (group : ℕ → Group) {r : Request} {rules : Rules} {numbers : Number
           (λ i. take rules.most (eligibles_are i) ++ take (rules.fill - length (eligibles_are i)) (spares_are i))
           ∙ (λ i. take_all rules.most (eligible_of days) (omega (arith, fewer, f.most)) i ++ filling_is i)
 
-      sized_few : found.count + fillers numbers found ≡ length (window m h)
+      sized_few : found.eligible.count + fillers numbers found ≡ length (window m h)
       unfolding filling
       sized_few =
           rw (window_is, length-append, length-take, order_length r numbers.spares (spare_of days)) (omega (arith, count_eligible, fillers_are))
@@ -279,7 +262,7 @@ module _ (group : ℕ → Group) {r : Request} {rules : Rules} {numbers : Number
           (all-take (looked_back r) (fillers numbers found) (in_order r numbers.spares (spare_of days))
           (order_back r numbers.spares (spare_of days) spare_back))
 
-      row_is : insert_all (take (fillers numbers found) found.spare) found.eligible ≡ row_of r (window m h)
+      row_is : insert_all (take (fillers numbers found) found.spare.words) found.eligible.words ≡ row_of r (window m h)
       unfolding filling
       row_is =
           rw (q.sparing fewer, q.row, take_all numbers.most (eligible_of days) (omega (arith, fewer)), window_is)
@@ -305,7 +288,7 @@ module _ (group : ℕ → Group) {r : Request} {rules : Rules} {numbers : Number
       unfolding is_short whole_reach method_of method_by
       short_is = rw (lt-ltb (length (eligibles m h)) m.most few_eligible) (short_of_reach group r h.first before)
 
-      pub few_shows : Shows m h r.event numbers (filled_of numbers found).row (filled_of numbers found).size (ltb (r.event - h.first) (whole_reach m))
+      pub few_shows : Shows m h r.event numbers (filled_of numbers found).words (filled_of numbers found).count (ltb (r.event - h.first) (whole_reach m))
       few_shows = row_shows row_is sized_few few_back (sym short_is)
 
       pub few_choice : among_few r numbers found (r.event - h.first) (whole_reach m) ≡ choice_of m h
@@ -349,27 +332,27 @@ module _ (group : ℕ → Group) (r : Request) (rooms : Directory) (readings : L
 
   module _ {rules : Rules} {numbers : Numbers} (f : Follows r rules numbers) (found : Found)
       (q : Enough r numbers.most numbers.spares (nearest (relevant group r) r (rooms_of r rooms readings) (rooms_before r rooms)) found) where
-    pub choose_full : numbers.most ≤ found.count
-        → picked r.event numbers found.eligible numbers.most found.oldest ≡ choice_of (method_by group r rules) (room_history r rooms readings)
+    pub choose_full : numbers.most ≤ found.eligible.count
+        → picked r.event numbers found.eligible.words numbers.most found.oldest ≡ choice_of (method_by group r rules) (room_history r rooms readings)
     choose_full =
         full_choice group f (room_history r rooms readings) (nearest (relevant group r) r (rooms_of r rooms readings) (rooms_before r rooms)) found (seen_rooms rules)
         (nearest_back (relevant group r) r (rooms_of r rooms readings) (rooms_before r rooms) (before_most r rooms)) q
 
-    pub choose_few : found.count < numbers.most
+    pub choose_few : found.eligible.count < numbers.most
         → among_few r numbers found (rooms_before r rooms) (whole_reach (method_by group r rules)) ≡ choice_of (method_by group r rules) (room_history r rooms readings)
     choose_few less =
         ap (λ (n : ℕ). among_few r numbers found n (whole_reach (method_by group r rules))) (sym (before_first r rooms readings))
         ∙ few_choice group f (room_history r rooms readings) (nearest (relevant group r) r (rooms_of r rooms readings) (rooms_before r rooms)) found (seen_rooms rules)
         (nearest_back (relevant group r) r (rooms_of r rooms readings) (rooms_before r rooms) (before_most r rooms)) q less (not_after r rooms readings)
 
-    pub show_full : numbers.most ≤ found.count
-        → Shows (method_by group r rules) (room_history r rooms readings) r.event numbers found.eligible numbers.most false
+    pub show_full : numbers.most ≤ found.eligible.count
+        → Shows (method_by group r rules) (room_history r rooms readings) r.event numbers found.eligible.words numbers.most false
     show_full =
         full_shows group f (room_history r rooms readings) (nearest (relevant group r) r (rooms_of r rooms readings) (rooms_before r rooms)) found (seen_rooms rules)
         (nearest_back (relevant group r) r (rooms_of r rooms readings) (rooms_before r rooms) (before_most r rooms)) q
 
-    pub show_few : found.count < numbers.most
-        → Shows (method_by group r rules) (room_history r rooms readings) r.event numbers (filled_of numbers found).row (filled_of numbers found).size
+    pub show_few : found.eligible.count < numbers.most
+        → Shows (method_by group r rules) (room_history r rooms readings) r.event numbers (filled_of numbers found).words (filled_of numbers found).count
         (ltb (rooms_before r rooms) (whole_reach (method_by group r rules)))
     show_few less =
         rw (before_first r rooms readings) at
@@ -401,23 +384,23 @@ module _ (group : ℕ → Group) (r : Request) (rooms : Directory) (readings : L
   own_days : held_days group g r rooms readings ≡ nearest (relevant group r) r (rooms_of r rooms readings) (rooms_before r rooms)
   own_days i = nearest (λ d. relevant_to_lem group g r d own i) r (rooms_of r rooms readings) (rooms_before r rooms)
 
-  pub request_full : numbers.most ≤ found.count
-      → picked r.event numbers found.eligible numbers.most found.oldest ≡ choice_of (method_of group r) (room_history r rooms readings)
+  pub request_full : numbers.most ≤ found.eligible.count
+      → picked r.event numbers found.eligible.words numbers.most found.oldest ≡ choice_of (method_of group r) (room_history r rooms readings)
   unfolding method_of
   request_full = choose_full group r rooms readings (rw own at f) found (enough (rw own_days at q))
 
-  pub request_few : {before : ℕ} → before ≡ rooms.held - 1 → found.count < numbers.most
+  pub request_few : {before : ℕ} → before ≡ rooms.held - 1 → found.eligible.count < numbers.most
       → among_few r numbers found before (whole_reach (method_of group r)) ≡ choice_of (method_of group r) (room_history r rooms readings)
   unfolding method_of
   request_few held less = rw held (few_held group r rooms numbers found ∙ choose_few group r rooms readings (rw own at f) found (enough (rw own_days at q)) less)
 
-  pub request_shows_full : numbers.most ≤ found.count
-      → Shows (method_of group r) (room_history r rooms readings) r.event numbers found.eligible numbers.most false
+  pub request_shows_full : numbers.most ≤ found.eligible.count
+      → Shows (method_of group r) (room_history r rooms readings) r.event numbers found.eligible.words numbers.most false
   unfolding method_of
   request_shows_full = show_full group r rooms readings (rw own at f) found (enough (rw own_days at q))
 
-  pub request_shows_few : {before : ℕ} → before ≡ rooms.held - 1 → found.count < numbers.most
-      → Shows (method_of group r) (room_history r rooms readings) r.event numbers (filled_of numbers found).row (filled_of numbers found).size
+  pub request_shows_few : {before : ℕ} → before ≡ rooms.held - 1 → found.eligible.count < numbers.most
+      → Shows (method_of group r) (room_history r rooms readings) r.event numbers (filled_of numbers found).words (filled_of numbers found).count
       (ltb before (whole_reach (method_of group r)))
   unfolding method_of
   request_shows_few held less = rw (held, held_test group r rooms) (show_few group r rooms readings (rw own at f) found (enough (rw own_days at q)) less)

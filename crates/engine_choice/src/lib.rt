@@ -2,149 +2,103 @@
 // a shared store make a directory; the choice is the same function.
 #![tactic(auto)]
 
-ghost use Rattle.std.specs.Prelude.{◌≡◌, ◌+◌, ◌≤◌, ◌<◌};
+ghost use Rattle.std.specs.Prelude.{◌≡◌, ◌≤◌, ◌<◌, map};
 ghost use Rattle.calendar_groups.specs.Holidays.{group as group_of};
 ghost use Rattle.method.specs.Method.{whole_reach};
 ghost use Rattle.method.specs.Requested.{method_of};
-ghost use Rattle.engine_rooms.specs.Rooms.{room_history};
-ghost use Rattle.engine_answer.specs.Answer.{in_five};
-ghost use Rattle.engine_choice.specs.Steps.{choice_of, no_days};
+ghost use Rattle.engine_rooms.specs.Rooms.{history_of};
+ghost use Rattle.engine_ranking.specs.Steps.{padded};
 ghost use Rattle.engine_rules.specs.Steps.{Sound};
-ghost use Rattle.engine_choice.specs.Steps.{word_day, days_in, picked, filled_of, among_few};
+ghost use Rattle.engine_choice.specs.Steps.{choice_of, word_day, picked, filled_of, among_few};
 
-use base_numbers::counts;
 use calendar_groups::Group;
 use engine_answer::Chosen;
 use engine_look_back::Found;
-use engine_rooms::Directory;
+use engine_ranking::Ranking;
+use engine_rooms::Case;
 use engine_rules::Rules;
-use method::Request;
-
-// What the choice ends in: refusal 8 or 9 with what it carries, or days.
-#[derive(Clone, Copy)]
-pub enum Choosing {
-    Short(u32),
-    Few { size: u32, reach: u32 },
-    Days,
-}
-
-// The chosen days are all nought where the choice is refused.
-#[derive(Clone, Copy)]
-pub struct Choice {
-    pub choosing: Choosing,
-    pub chosen: Chosen,
-}
-
-// The row of a window with its spare days, and how many days they are.
-#[derive(Clone, Copy)]
-pub struct Row {
-    pub row: [u64; 10],
-    pub size: u32,
-}
+use method::Refusal;
 
 // The day of a word.
 pub fn day_of(event: u32, word: u64) -> u32
     ensures { result ≡ word_day event word }
 {
-    let back = counts::minus(engine_words::NEAREST, engine_words::nearness_of(word));
-    counts::minus(event, back)
+    let back = engine_words::NEAREST.saturating_sub(engine_words::nearness_of(word));
+    event.saturating_sub(back)
 }
 
-// The days of so many words of a row, up to five, after those passed over.
-fn days_in(event: u32, row: [u64; 10], passed: usize, count: usize) -> [u32; 5]
-    requires { (count ≤ 5) × (passed + count ≤ 10) }
-    ensures { result ≡ in_five (days_in event row passed count) }
+// The days of a row's words in so many places, with noughts after the last; words past the places have none.
+pub fn days_of<const N: usize>(event: u32, words: &[u64]) -> [u32; N]
+    ensures { result ≡ padded N (map (word_day event) words.now) }
 {
-    let mut days = [0; 5];
-    let mut i = 0;
-    while i < count {
-        days[i] = day_of(event, row[passed + i]);
-        i += 1;
+    let words = &words[..N.min(words.len())];
+    let mut days = [0; N];
+    for (i, &word) in words.iter().enumerate() {
+        days[i] = day_of(event, word);
     }
     days
 }
 
-// The choice that a refusal is.
-fn refused(choosing: Choosing) -> Choice
-    ensures { result ≡ no_days choosing }
-{
-    Choice {
-        choosing,
-        chosen: Chosen {
-            days: [0; 5],
-            count: 0,
-            reach: 0,
-        },
-    }
-}
-
 // The choice from the ranked row of a window of so many days.
-fn pick(event: u32, rules: Rules, row: [u64; 10], size: u32, reach: u32) -> Choice
+#[tactic(auto, unfolding(crate::specs::Steps::picked))]
+fn pick(event: u32, rules: Rules, row: [u64; 10], size: u32, reach: u32) -> Result<Chosen, Refusal>
     requires { Sound rules × (size ≤ 10) }
     ensures { result ≡ picked event rules row size reach }
 {
     let count = rules.taken[size as usize];
     if count == 0 {
-        return refused(Choosing::Few { size, reach });
+        return Err(Refusal::TooFew { size, reach });
     }
-    let passed = rules.passed[size as usize];
-    Choice {
-        choosing: Choosing::Days,
-        chosen: Chosen {
-            days: days_in(event, row, passed as usize, count as usize),
-            count,
-            reach,
-        },
-    }
+    let passed = rules.passed[size as usize] as usize;
+    Ok(Chosen {
+        days: days_of(event, &row[passed..passed + (count as usize)]),
+        count,
+        reach,
+    })
 }
 
 // The eligible days found, with the spare days that fill a shortage.
-pub fn filled(rules: Rules, found: Found) -> Row
+pub fn filled(rules: Rules, found: Found) -> Ranking
     ensures { result ≡ filled_of rules found }
 {
-    let fillers = counts::least(counts::minus(rules.fill, found.count), found.spares);
-    let spare = found.spare;
-    let eligible = found.eligible;
-    Row {
-        row: engine_ranking::insert_all(spare, fillers as usize, eligible),
-        size: found.count + fillers,
-    }
+    let shortage = rules.fill.saturating_sub(found.eligible.count);
+    let fillers = shortage.min(found.spare.count);
+    let mut window = found.eligible;
+    window.insert_all(&found.spare, fillers as usize);
+    window
 }
 
 // The choice where the eligible days do not fill the window: spare days are put in, and the reach is that of all relevant days.
+#[tactic(auto, unfolding(crate::specs::Steps::among_few))]
 fn choose_among_few(
-    moves: &[u32],
-    request: Request,
+    case: &Case<'_>,
     rules: Rules,
     found: Found,
     before: u32,
-) -> Choice
-    requires { Sound rules × (found.count < rules.most) }
-    ensures { result ≡ among_few request rules found before (whole_reach (method_of (group_of moves.now) request)) }
+) -> Result<Chosen, Refusal>
+    requires { Sound rules × (found.eligible.count < rules.most) }
+    ensures { result ≡ among_few case.now.request rules found before (whole_reach (method_of (group_of case.now.moves.now) case.now.request)) }
 {
-    let reach = engine_relevant::whole_reach(moves, request);
+    let reach = engine_relevant::whole_reach(case.moves, case.request);
     if before < reach {
-        return refused(Choosing::Short(reach));
+        return Err(Refusal::MarginTooShort(reach));
     }
     let window = filled(rules, found);
-    let row = window.row;
-    pick(request.event, rules, row, window.size, reach)
+    pick(case.request.event, rules, window.words, window.count, reach)
 }
 
 // The choice of days: refusal 8 or 9, or the chosen days and the reach.
-pub fn choose(moves: &[u32], request: Request, rooms: Directory, readings: &[u32]) -> Choice
-    ensures { result ≡ choice_of (method_of (group_of moves.now) request) (room_history request rooms readings.now) }
+pub fn choose(case: &Case<'_>) -> Result<Chosen, Refusal>
+    ensures { result ≡ choice_of (method_of (group_of case.now.moves.now) case.now.request) (history_of case.now) }
 {
-    let event = request.event;
-    let before = counts::minus(rooms.held, 1);
-    let group = calendar_groups::group_of(moves, event);
-    let rules = engine_rules::rules_of(request, group);
-    let spares = rules.spares;
-    let found = engine_look_back::look(moves, request, group, rules.most, spares, rooms, readings);
-    if found.count < rules.most {
-        choose_among_few(moves, request, rules, found, before)
+    let event = case.request.event;
+    let before = case.rooms.held.saturating_sub(1);
+    let group = calendar_groups::group_of(case.moves, event);
+    let rules = engine_rules::rules_of(case.request, group);
+    let found = engine_look_back::look(case, group, rules.most, rules.spares);
+    if found.eligible.count < rules.most {
+        choose_among_few(case, rules, found, before)
     } else {
-        let eligible = found.eligible;
-        pick(event, rules, eligible, rules.most, found.oldest)
+        pick(event, rules, found.eligible.words, rules.most, found.oldest)
     }
 }

@@ -10,8 +10,8 @@ ghost use Rattle.engine_baseline.specs.Engine.{in_words};
 ghost use Rattle.engine_example.specs.Apart.{apart};
 
 use engine_answer::Answer;
-use engine_rooms::Directory;
-use method::Request;
+use engine_rooms::{Case, Directory};
+use method::{Refusal, Request};
 
 // Where two days stand that lie apart: the event day's readings first, and after a gap those of the day before.
 fn rooms_apart(request: Request, before: u8, today: u8, gap: u16, readings: &[u32]) -> Directory
@@ -31,11 +31,7 @@ fn rooms_apart(request: Request, before: u8, today: u8, gap: u16, readings: &[u3
             held = 2;
         }
     }
-    Directory {
-        at: at,
-        marks: marks,
-        held: held,
-    }
+    Directory { at, marks, held }
 }
 
 // The baseline over two days that lie apart: what the methodology gives, by a list of moves, over the table that they are in the right
@@ -48,9 +44,15 @@ pub fn baseline_apart(
     gap: u16,
     readings: &[u32],
     out: &mut [u32],
-) -> Answer
+) -> Result<Answer, Refusal>
     ensures { Answers (in_words request (history (apart request.event before today gap readings.now)) (by_list moves.now (history (apart request.event before today gap readings.now)) request (length out.old))) result out.old out.new }
 {
     let rooms = rooms_apart(request, before, today, gap, readings);
-    engine_baseline::baseline_over(moves, request, rooms, readings, out)
+    let case = Case {
+        moves,
+        request,
+        rooms: &rooms,
+        readings,
+    };
+    engine_baseline::baseline_over(&case, out)
 }

@@ -1,10 +1,10 @@
 -- 01, "Choosing the days": what a relevant day is, with the word by which it is ranked.
-use Rattle.std.specs.Prelude.{ℕ, ◌+◌, ◌-◌, ◌*◌, ◌%◌, ◌^◌, cond, List}
+use Rattle.std.specs.Prelude.{ℕ, ◌+◌, ◌-◌, ◌*◌, ◌%◌, ◌^◌, cond, List, Option, Some, None}
 use Rattle.method.specs.declared.Request.{Request}
 use Rattle.method.specs.Table.{Day}
 use Rattle.method.specs.Eligible.{eligible, spare, event_sum}
 use Rattle.engine_judging.specs.declared.Judged.{Judged}
-use Rattle.engine_judging.specs.declared.Judged.TheVariants.{Eligible, Spare, Neither}
+use Rattle.engine_judging.specs.declared.Judged.TheVariants.{Eligible, Spare}
 
 -- what a mark and readings say of a day
 abbrev pub day_from : ℕ → List ℕ → Day
@@ -14,6 +14,6 @@ day_from mark readings = record { mark = mark; readings = readings }
 unfoldable pub word_at : Request → ℕ → Day → ℕ
 word_at request back day = (64 * event_sum request day + (46 - back)) % 2 ^ 64
 
-unfoldable pub judged_at : Request → ℕ → Day → Judged
+unfoldable pub judged_at : Request → ℕ → Day → Option Judged
 judged_at request back day =
-    cond (eligible day) (Eligible (word_at request back day)) (cond (spare day) (Spare (word_at request back day)) Neither)
+    cond (eligible day) (Some (Eligible (word_at request back day))) (cond (spare day) (Some (Spare (word_at request back day))) None)

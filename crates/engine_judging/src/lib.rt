@@ -1,48 +1,56 @@
 // What a day's mark and readings make of it: eligible or spare with its word, or neither (document 01, "Choosing the days").
 #![tactic(auto)]
 
-ghost use Rattle.std.specs.Prelude.{◌≡◌, ◌%◌, ◌^◌};
+ghost use Rattle.std.specs.Prelude.{◌≡◌, ◌-◌, ◌%◌, ◌^◌, take, drop};
+ghost use Rattle.method.specs.Ruler.{against};
 ghost use Rattle.method.specs.Eligible.{event_sum};
 ghost use Rattle.engine_judging.specs.Steps.{day_from, judged_at};
 
-use base_numbers::counts;
 use method::Request;
 
-// What the readings and marks of a relevant day make of it, with its word.
-#[derive(Clone, Copy)]
+// What the readings and marks of a relevant day can make of it, with its word.
+#[derive(Clone, Copy, Debug, PartialEq, Eq)]
 pub enum Judged {
     Eligible(u64),
     Spare(u64),
-    Neither,
+}
+
+// The readings of a day over the event's own quarters, as far as it has them.
+pub fn event_quarters<'a>(request: Request, part: &'a [u32]) -> &'a [u32]
+    ensures { result.now ≡ take (request.e - request.s) (drop (against request.event request.s) part.now) }
+{
+    let start = day_ruler::against(request.event, request.s) as usize;
+    let count = request.e.saturating_sub(request.s) as usize;
+    let end = (start + count).min(part.len());
+    if start < end {
+        &part[start..end]
+    } else {
+        &part[..0]
+    }
 }
 
 // The sum of a day's readings over the event's own quarters, as a number of 64 bits.
+#[tactic(auto, unfolding(method::specs::Eligible::event_sum))]
 fn event_sum(request: Request, part: &[u32]) -> u64
     ensures { result ≡ event_sum request (day_from 0 part.now) % 2 ^ 64 }
 {
-    let start = day_ruler::against(request.event, request.s) as usize;
-    let end = start + counts::minus(request.e, request.s) as usize;
-    base_sums::sum_between(part, start, end)
+    let quarters = event_quarters(request, part);
+    base_sums::sum(quarters)
 }
 
-// What the mark and the readings of the day `back` days before the event make of it.
-pub fn judge(request: Request, mark: u8, part: &[u32], back: u32) -> Judged
+// What the mark and the readings of the day `back` days before the event make of it; nothing where it is out or a reading is missing.
+#[tactic(auto, using(crate::proofs::Judging::judged_out, crate::proofs::Judging::judged_lacking))]
+pub fn judge(request: Request, mark: u8, part: &[u32], back: u32) -> Option<Judged>
     ensures { result ≡ judged_at request back (day_from mark part.now) }
 {
-    if day_marks::is_out(mark) {
-        return Judged::Neither;
+    if day_marks::is_out(mark) || !day_readings::complete(part) {
+        return None;
     }
-    if day_readings::complete(part) {
-        let word = engine_words::word(
-            event_sum(request, part),
-            counts::minus(engine_words::NEAREST, back),
-        );
-        if day_marks::is_event(mark) {
-            Judged::Spare(word)
-        } else {
-            Judged::Eligible(word)
-        }
+    let nearness = engine_words::NEAREST.saturating_sub(back);
+    let word = engine_words::word(event_sum(request, part), nearness);
+    if day_marks::is_event(mark) {
+        Some(Judged::Spare(word))
     } else {
-        Judged::Neither
+        Some(Judged::Eligible(word))
     }
 }

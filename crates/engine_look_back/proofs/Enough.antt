@@ -19,11 +19,9 @@ pub looked_unique : {r : Request} {order : SpareOrder} {days : List (ℕ × Day)
     → Looked r order days found → Looked r order days found' → found ≡ found'
 looked_unique p q i =
     record {
-      eligible = unique p.row q.row i;
-      count = unique p.count q.count i;
+      eligible = record { words = unique p.row q.row i; count = unique p.count q.count i };
       oldest = unique p.oldest q.oldest i;
-      spare = unique p.sparing q.sparing i;
-      spares = unique p.spares q.spares i;
+      spare = record { words = unique p.sparing q.sparing i; count = unique p.spares q.spares i };
     }
 
 -- the eligible days up to the `n`th are the first `n`
@@ -54,11 +52,11 @@ all_days (suc n) (p ∷ days) h = go (eligible p.1) (all_days n days) (all_days 
 
 -- the most recent eligible days up to `most`, and the spare days where there are fewer
 pub record Enough (r : Request) (most : ℕ) (order : SpareOrder) (days : List (ℕ × Day)) (found : Found) : Type 0 where
-  pub row : found.eligible ≡ row_of r (take most (eligible_of days))
-  pub count : found.count ≡ min most (length (eligible_of days))
+  pub row : found.eligible.words ≡ row_of r (take most (eligible_of days))
+  pub count : found.eligible.count ≡ min most (length (eligible_of days))
   pub oldest : found.oldest ≡ oldest_of r (take most (eligible_of days))
-  pub sparing : length (eligible_of days) < most → found.spare ≡ spare_row r order (spare_of days)
-  pub spares : length (eligible_of days) < most → found.spares ≡ spares_of order (length (spare_of days))
+  pub sparing : length (eligible_of days) < most → found.spare.words ≡ spare_row r order (spare_of days)
+  pub spares : length (eligible_of days) < most → found.spare.count ≡ spares_of order (length (spare_of days))
 
 pub enough : {r : Request} {most : ℕ} {order : SpareOrder} {days : List (ℕ × Day)} {found : Found} → Looked r order (up_to most days) found
     → Enough r most order days found

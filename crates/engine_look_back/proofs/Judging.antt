@@ -1,6 +1,6 @@
 -- What is judged of the day so far back is what the dated day is.
 use Prim.Native.Nat.{ℕ, ◌-◌, ◌*◌, ◌^◌, ◌≤◌, ◌<◌}
-use mathlib.Core.Path.{◌≡◌}
+use mathlib.Core.Path.{◌≡◌, sym, ◌∙◌}
 use mathlib.Core.List.{List}
 use native.Mathlib.Omega.{arith}
 use lib.Dec.{leb}
@@ -9,28 +9,17 @@ use borrow.Author.Tests.{le-leb}
 use Rattle.base_lists.proofs.All.{all_of, all-take, all-drop}
 use Rattle.base_lists.proofs.Sums.{sum_most}
 use Rattle.method.specs.declared.Request.{Request}
-use Rattle.method.specs.Table.{size, most_quarters, missing}
+use Rattle.method.specs.Table.{most_quarters, missing}
 use Rattle.method.specs.Ruler.{against}
 use Rattle.method.specs.Eligible.{event_sum}
-use Rattle.method.proofs.Tables.{size_most}
 use Rattle.engine_ranking.specs.Steps.{word}
-use Rattle.engine_rooms.specs.declared.Directory.{Directory}
-use Rattle.engine_rooms.specs.Rooms.{readings_at, room_day}
-use Rattle.engine_rooms.proofs.Parts.{part_few}
 use Rattle.engine_judging.specs.Steps.{day_from, word_at, judged_at}
-use Rattle.engine_look_back.specs.Steps.{rooms_of, judged}
+use Rattle.engine_judging.specs.declared.Judged.{Judged}
+use Rattle.engine_look_back.specs.declared.Found.{Found}
+use Rattle.engine_look_back.specs.Steps.{judged, Further}
+use Rattle.std.specs.Prelude.{Option}
 
--- the room of the day so far back
-pub room_back : (r : Request) (rooms : Directory) (readings : List ℕ) (back : ℕ) → back ≤ r.event
-    → day_from (get_or rooms.marks back 0) (readings_at (size (r.event - back)) readings (get_or rooms.at back 0)) ≡ rooms_of r rooms readings (r.event - back)
-unfolding room_day
-room_back r rooms readings back h = let e : r.event - (r.event - back) ≡ back = omega arith in rw e
-
--- it has no more readings than a day
-pub part_most : (readings : List ℕ) (at d : ℕ) {k : ℕ} → k ≡ size d → length (readings_at k readings at) ≤ most_quarters
-part_most readings at d {k} e = omega (arith, part_few k readings at, size_most d)
-
-module _ (r : Request) (back mark : ℕ) (part : List ℕ) (some : 1 ≤ back) (most : back ≤ 45) (within : back ≤ r.event) (few : length part ≤ most_quarters)
+module _ {r : Request} {back : ℕ} {found : Found} (next : Further r back found) (mark : ℕ) (part : List ℕ) (few : length part ≤ most_quarters)
     (small : (i : ℕ) → get_or part i 0 < 2 ^ 32) where
   sum_few : event_sum r (day_from mark part) ≤ missing * most_quarters
   unfolding event_sum
@@ -42,8 +31,13 @@ module _ (r : Request) (back mark : ℕ) (part : List ℕ) (some : 1 ≤ back) (
 
   same_word : word_at r back (day_from mark part) ≡ word r (r.event - back, day_from mark part)
   unfolding word_at word
-  same_word = omega (arith, sum_few)
+  same_word = omega (arith, sum_few, next.some, next.most, next.within)
 
-  pub same_judged : judged_at r back (day_from mark part) ≡ judged r (r.event - back, day_from mark part)
+  judged_so : {x : Option Judged} → x ≡ judged_at r back (day_from mark part) → judged r (r.event - back, day_from mark part) ≡ x
   unfolding judged_at judged
-  same_judged = rw same_word
+  judged_so e = sym (e ∙ rw same_word)
+
+-- the same of the day in its room
+pub judged_in : {r : Request} {back : ℕ} {found : Found} {part room : List ℕ} {x : Option Judged} (mark : ℕ) → Further r back found → part ≡ room → length part ≤ most_quarters
+    → ((i : ℕ) → get_or part i 0 < 2 ^ 32) → x ≡ judged_at r back (day_from mark part) → judged r (r.event - back, day_from mark room) ≡ x
+judged_in {part = part} mark next e few small j = rw e at (judged_so next mark part few small j)

@@ -8,6 +8,7 @@ use native.Mathlib.Omega.{arith}
 use lib.ListN.{length, set, replicate, length-append, length-map}
 use lib.Dec.{leb}
 use borrow.Author.Tests.{leb-true, leb-false}
+use Rattle.std.specs.Prelude.{Some, None}
 use Rattle.base_lists.specs.Lists.{keep, least_of}
 use Rattle.base_lists.proofs.Bools.{bool_cases, clash, and_left, and_right, and_cases}
 use Rattle.base_lists.proofs.Keep.{keep-append, keep_yes, keep_no, least_of_top}
@@ -15,9 +16,10 @@ use Rattle.method.specs.declared.Request.{Request}
 use Rattle.method.specs.Table.{Day, event_bit, outage_bit}
 use Rattle.method.specs.Method.{days_of}
 use Rattle.method.specs.Eligible.{complete, eligible, spare, sort_by}
-use Rattle.engine_ranking.specs.Steps.{word, sort_down, padded, pushed}
+use Rattle.engine_ranking.specs.declared.Ranking.{Ranking}
+use Rattle.engine_ranking.specs.Steps.{word, sort_down, padded, pushed, most_words, no_words}
 use Rattle.engine_ranking.proofs.Rank.{insert_sorts}
-use Rattle.engine_judging.specs.declared.Judged.TheVariants.{Eligible, Spare, Neither}
+use Rattle.engine_judging.specs.declared.Judged.TheVariants.{Eligible, Spare}
 use Rattle.engine_rules.specs.declared.SpareOrder.{SpareOrder}
 use Rattle.engine_rules.specs.declared.SpareOrder.TheVariants.{Highest, Latest}
 use Rattle.engine_look_back.specs.declared.Found.{Found}
@@ -73,29 +75,29 @@ all_known Latest d n {count} s u c =
     below k h = (omega arith, omega arith)
 
 module _ (r : Request) (p : ℕ × Day) where
-  pub judged-eligible : {w : ℕ} → judged r p ≡ Eligible w → (eligible p.1 ≡ true) × (w ≡ word r p)
+  pub judged-eligible : {w : ℕ} → judged r p ≡ Some (Eligible w) → (eligible p.1 ≡ true) × (w ≡ word r p)
   unfolding judged
   judged-eligible {w} = go (eligible p.1) (spare p.1) (word r p)
     where
-      go : (a b : Bool) (x : ℕ) → cond a (Eligible x) (cond b (Spare x) Neither) ≡ Eligible w → (a ≡ true) × (w ≡ x)
+      go : (a b : Bool) (x : ℕ) → cond a (Some (Eligible x)) (cond b (Some (Spare x)) None) ≡ Some (Eligible w) → (a ≡ true) × (w ≡ x)
       go true b x e = (refl, cc)
       go false true x e = let z : ◌≡◌ {A = ℕ} 0 1 = cc in absurd (omega arith)
       go false false x e = let z : ◌≡◌ {A = ℕ} 0 1 = cc in absurd (omega arith)
 
-  pub judged-spare : {w : ℕ} → judged r p ≡ Spare w → (eligible p.1 ≡ false) × (spare p.1 ≡ true) × (w ≡ word r p)
+  pub judged-spare : {w : ℕ} → judged r p ≡ Some (Spare w) → (eligible p.1 ≡ false) × (spare p.1 ≡ true) × (w ≡ word r p)
   unfolding judged
   judged-spare {w} = go (eligible p.1) (spare p.1) (word r p)
     where
-      go : (a b : Bool) (x : ℕ) → cond a (Eligible x) (cond b (Spare x) Neither) ≡ Spare w → (a ≡ false) × (b ≡ true) × (w ≡ x)
+      go : (a b : Bool) (x : ℕ) → cond a (Some (Eligible x)) (cond b (Some (Spare x)) None) ≡ Some (Spare w) → (a ≡ false) × (b ≡ true) × (w ≡ x)
       go true b x e = let z : ◌≡◌ {A = ℕ} 0 1 = cc in absurd (omega arith)
       go false true x e = (refl, refl, cc)
       go false false x e = let z : ◌≡◌ {A = ℕ} 0 1 = cc in absurd (omega arith)
 
-  pub judged_neither : judged r p ≡ Neither → (eligible p.1 ≡ false) × (spare p.1 ≡ false)
+  pub judged_neither : judged r p ≡ None → (eligible p.1 ≡ false) × (spare p.1 ≡ false)
   unfolding judged
   judged_neither = go (eligible p.1) (spare p.1) (word r p)
     where
-      go : (a b : Bool) (x : ℕ) → cond a (Eligible x) (cond b (Spare x) Neither) ≡ Neither → (a ≡ false) × (b ≡ false)
+      go : (a b : Bool) (x : ℕ) → cond a (Some (Eligible x)) (cond b (Some (Spare x)) None) ≡ None → (a ≡ false) × (b ≡ false)
       go true b x e = let z : ◌≡◌ {A = ℕ} 0 1 = cc in absurd (omega arith)
       go false true x e = let z : ◌≡◌ {A = ℕ} 0 1 = cc in absurd (omega arith)
       go false false x e = (refl, refl)
@@ -165,24 +167,24 @@ module _ {r : Request} {order : SpareOrder} {days : List (ℕ × Day)} {found : 
   looked_none = rw (append-nil days) q
 
   module _ (p : ℕ × Day) where
-    pub looked_eligible : (back : ℕ) {row : List ℕ} → eligible p.1 ≡ true → p.0 ≡ r.event - back → back ≤ r.event → found.oldest ≤ back
-        → row ≡ pushed (word r p) found.eligible
-        → Looked r order (days ++ (p ∷ [])) (record { eligible = row; count = found.count + 1; oldest = back; spare = found.spare; spares = found.spares })
-    looked_eligible back {row} e d h o n =
+    pub looked_eligible : (back : ℕ) {row : Ranking} → eligible p.1 ≡ true → p.0 ≡ r.event - back → back ≤ r.event → found.oldest ≤ back
+        → row.words ≡ pushed (word r p) found.eligible.words → row.count ≡ found.eligible.count + 1
+        → Looked r order (days ++ (p ∷ [])) (record { eligible = row; oldest = back; spare = found.spare })
+    looked_eligible back {row} e d h o n m =
         let x = eligible_more days p e in
         let y = spare_same days p (exclusive p.1 e) in
         record {
           row = rw x (row_more r (eligible_of days) p q.row n);
-          count = rw x (count_more r (eligible_of days) p q.count);
+          count = rw (x, m) (count_more r (eligible_of days) p q.count);
           oldest = rw x (oldest_more r (eligible_of days) p back d h q.oldest o);
           sparing = rw y q.sparing;
           spares = rw y q.spares;
         }
 
-    pub looked_spare : {row : List ℕ} → needless order found.spares p.1.mark ≡ false → eligible p.1 ≡ false → spare p.1 ≡ true
-        → row ≡ with_spare order found.spare found.spares (word r p)
-        → Looked r order (days ++ (p ∷ [])) (record { eligible = found.eligible; count = found.count; oldest = found.oldest; spare = row; spares = found.spares + 1 })
-    looked_spare {row} u e s n =
+    pub looked_spare : {row : Ranking} → needless order found.spare.count p.1.mark ≡ false → eligible p.1 ≡ false → spare p.1 ≡ true
+        → row.words ≡ with_spare order found.spare.words found.spare.count (word r p) → row.count ≡ found.spare.count + 1
+        → Looked r order (days ++ (p ∷ [])) (record { eligible = found.eligible; oldest = found.oldest; spare = row })
+    looked_spare {row} u e s n m =
         let x = eligible_same days p e in
         let y = spare_more days p s in
         let known = all_known order p.1 (length (spare_of days)) s u q.spares in
@@ -191,7 +193,7 @@ module _ {r : Request} {order : SpareOrder} {days : List (ℕ × Day)} {found : 
           count = rw x q.count;
           oldest = rw x q.oldest;
           sparing = rw y (spare_row_more r (spare_of days) p order q.sparing known.0 n);
-          spares = rw (y, length-append) known.1;
+          spares = rw (y, length-append, m) known.1;
         }
 
     pub looked_neither : eligible p.1 ≡ false → spare p.1 ≡ false → Looked r order (days ++ (p ∷ [])) found
@@ -200,11 +202,11 @@ module _ {r : Request} {order : SpareOrder} {days : List (ℕ × Day)} {found : 
         let y = spare_same days p s in
         record { row = rw x q.row; count = rw x q.count; oldest = rw x q.oldest; sparing = rw y q.sparing; spares = rw y q.spares }
 
-    pub looked_needless : needless order found.spares p.1.mark ≡ true → Looked r order (days ++ (p ∷ [])) found
+    pub looked_needless : needless order found.spare.count p.1.mark ≡ true → Looked r order (days ++ (p ∷ [])) found
     looked_needless u = ⊎_elim one_more (looked_neither no) (bool_cases (spare p.1))
       where
         no : eligible p.1 ≡ false
-        no = event_not p.1 (needless_event order found.spares p.1.mark u)
+        no = event_not p.1 (needless_event order found.spare.count p.1.mark u)
 
         one_more : spare p.1 ≡ true → Looked r order (days ++ (p ∷ [])) found
         one_more s =
@@ -231,35 +233,39 @@ module _ (test : ℕ → Bool) (p : ℕ × Day) {r : Request} {order : SpareOrde
   pub adds_none : test p.0 ≡ false → Adds r order back (if_relevant test p) found found
   adds_none e = rw (none test p e) (same (λ days q. looked_none q))
 
-  pub adds_needless : needless order found.spares p.1.mark ≡ true → Adds r order back (if_relevant test p) found found
+  pub adds_needless : needless order found.spare.count p.1.mark ≡ true → Adds r order back (if_relevant test p) found found
   adds_needless u = ⊎_elim (λ e. rw (some test p e) (same (λ days q. looked_needless q p u))) adds_none (bool_cases (test p.0))
 
   module _ (e : test p.0 ≡ true) where
-    pub adds_eligible : {w : ℕ} {row : List ℕ} → judged r p ≡ Eligible w → row ≡ pushed w found.eligible
+    pub adds_eligible : {w : ℕ} {row : Ranking} → judged r p ≡ Some (Eligible w) → row.words ≡ pushed w found.eligible.words
+        → row.count ≡ min (found.eligible.count + 1) most_words
         → Adds r order back (if_relevant test p) found
-        (record { eligible = row; count = found.count + 1; oldest = back; spare = found.spare; spares = found.spares })
-    adds_eligible {w} {row} j n =
+        (record { eligible = row; oldest = back; spare = found.spare })
+    adds_eligible {w} {row} j n m =
         let k = judged-eligible r p j in
+        let one : row.count ≡ found.eligible.count + 1 = omega (arith, m, f.count, f.most) in
         record {
-          then = λ days q. rw (some test p e) (looked_eligible q p back k.0 here f.within f.oldest (rw k.1 at n));
+          then = λ days q. rw (some test p e) (looked_eligible q p back k.0 here f.within f.oldest (rw k.1 at n) one);
           oldest = omega arith;
           count = omega arith;
           spares = omega arith;
         }
 
-    pub adds_spare : {w : ℕ} {row : List ℕ} → needless order found.spares p.1.mark ≡ false → judged r p ≡ Spare w → row ≡ with_spare order found.spare found.spares w
+    pub adds_spare : {w : ℕ} {row : Ranking} → needless order found.spare.count p.1.mark ≡ false → judged r p ≡ Some (Spare w)
+        → row.words ≡ with_spare order found.spare.words found.spare.count w → row.count ≡ min (found.spare.count + 1) most_words
         → Adds r order back (if_relevant test p) found
-        (record { eligible = found.eligible; count = found.count; oldest = found.oldest; spare = row; spares = found.spares + 1 })
-    adds_spare {w} {row} u j n =
+        (record { eligible = found.eligible; oldest = found.oldest; spare = row })
+    adds_spare {w} {row} u j n m =
         let k = judged-spare r p j in
+        let one : row.count ≡ found.spare.count + 1 = omega (arith, m, f.spares, f.most) in
         record {
-          then = λ days q. rw (some test p e) (looked_spare q p u k.0 k.1 (rw k.2 at n));
+          then = λ days q. rw (some test p e) (looked_spare q p u k.0 k.1 (rw k.2 at n) one);
           oldest = f.oldest;
           count = omega arith;
           spares = omega arith;
         }
 
-    pub adds_neither : judged r p ≡ Neither → Adds r order back (if_relevant test p) found found
+    pub adds_neither : judged r p ≡ None → Adds r order back (if_relevant test p) found found
     adds_neither j = let k = judged_neither r p j in rw (some test p e) (same (λ days q. looked_neither q p k.0 k.1))
 
 -- The end of the look back
@@ -307,14 +313,14 @@ pub record Back (test : ℕ → Bool) (r : Request) (day : ℕ → Day) (most : 
   pub within : back ≤ held
   pub looked : Looked r order (nearest test r day back) found
   pub oldest : found.oldest ≤ back
-  pub count : found.count ≤ back
-  pub spares : found.spares ≤ back
-  pub filled : found.count ≤ most
-  pub ahead : (more : List (ℕ × Day)) → up_to most (nearest test r day back ++ more) ≡ nearest test r day back ++ up_to (most - found.count) more
+  pub count : found.eligible.count ≤ back
+  pub spares : found.spare.count ≤ back
+  pub filled : found.eligible.count ≤ most
+  pub ahead : (more : List (ℕ × Day)) → up_to most (nearest test r day back ++ more) ≡ nearest test r day back ++ up_to (most - found.eligible.count) more
 
 module _ (test : ℕ → Bool) (r : Request) (day : ℕ → Day) (most : ℕ) (order : SpareOrder) (held : ℕ) where
   pub back_start : Back test r day most order held 0
-      (record { eligible = replicate 10 0; count = 0; oldest = 0; spare = replicate 10 0; spares = 0 })
+      (record { eligible = no_words; oldest = 0; spare = no_words })
   unfolding eligible_of spare_of keep least_of sort_by
   back_start =
       let e = nearest_none test r day in
@@ -333,8 +339,8 @@ module _ (test : ℕ → Bool) (r : Request) (day : ℕ → Day) (most : ℕ) (o
       no_spare Latest = (refl, refl)
 
 module _ {test : ℕ → Bool} {r : Request} {day : ℕ → Day} {most : ℕ} {order : SpareOrder} {held back : ℕ} {found : Found} (b : Back test r day most order held back found) where
-  pub back_further : back < held → held ≤ 45 → held ≤ r.event → Further r (back + 1) found
-  back_further h m e =
+  pub back_further : {far : ℕ} → far ≡ back + 1 → far ≤ held → held ≤ 45 → held ≤ r.event → Further r far found
+  back_further is h m e =
       record {
         some = omega arith;
         most = omega arith;
@@ -344,10 +350,10 @@ module _ {test : ℕ → Bool} {r : Request} {day : ℕ → Day} {most : ℕ} {o
         spares = omega (arith, b.spares);
       }
 
-  pub back_more : {next : Found} → back < held → held ≤ r.event → (found.count ≡ most → ⊥)
+  one_further : {next : Found} → back < held → held ≤ r.event → (found.eligible.count ≡ most → ⊥)
       → Adds r order (back + 1) (if_relevant test (r.event - (back + 1), day (r.event - (back + 1)))) found next
       → Back test r day most order held (back + 1) next
-  back_more {next} h e n a =
+  one_further {next} h e n a =
       let one = nearest_one test r day back (omega arith) in
       let then = a.then (nearest test r day back) b.looked in
       record {
@@ -364,24 +370,28 @@ module _ {test : ℕ → Bool} {r : Request} {day : ℕ → Day} {most : ℕ} {o
       p = (r.event - (back + 1), day (r.event - (back + 1)))
 
       left : Looked r order (nearest test r day back ++ if_relevant test p) next
-          → most - next.count ≡ most - found.count - length (eligible_of (if_relevant test p))
+          → most - next.eligible.count ≡ most - found.eligible.count - length (eligible_of (if_relevant test p))
       left then =
-          let size : next.count ≡ length (eligible_of (nearest test r day back)) + length (eligible_of (if_relevant test p)) =
+          let size : next.eligible.count ≡ length (eligible_of (nearest test r day back)) + length (eligible_of (if_relevant test p)) =
           then.count ∙ ap length (eligible_then (nearest test r day back) (if_relevant test p)) ∙ length-append (eligible_of (nearest test r day back)) (eligible_of (if_relevant test p)) in
           omega (arith, size, b.looked.count)
 
       further : Looked r order (nearest test r day back ++ if_relevant test p) next → (more : List (ℕ × Day))
-          → up_to most ((nearest test r day back ++ if_relevant test p) ++ more) ≡ (nearest test r day back ++ if_relevant test p) ++ up_to (most - next.count) more
+          → up_to most ((nearest test r day back ++ if_relevant test p) ++ more) ≡ (nearest test r day back ++ if_relevant test p) ++ up_to (most - next.eligible.count) more
       further then more =
-          rw (append_assoc (nearest test r day back) (if_relevant test p) more, append_assoc (nearest test r day back) (if_relevant test p) (up_to (most - next.count) more), left then)
+          rw (append_assoc (nearest test r day back) (if_relevant test p) more, append_assoc (nearest test r day back) (if_relevant test p) (up_to (most - next.eligible.count) more), left then)
           (b.ahead (if_relevant test p ++ more)
-          ∙ ap (λ (l : List (ℕ × Day)). nearest test r day back ++ l) (up_to_next p more test (most - found.count) (omega (arith, b.filled, n))))
+          ∙ ap (λ (l : List (ℕ × Day)). nearest test r day back ++ l) (up_to_next p more test (most - found.eligible.count) (omega (arith, b.filled, n))))
+
+  pub back_more : {far : ℕ} {next : Found} → far ≡ back + 1 → far ≤ held → held ≤ r.event → (found.eligible.count ≡ most → ⊥)
+      → Adds r order far (if_relevant test (r.event - far, day (r.event - far))) found next → Back test r day most order held far next
+  back_more {far} {next} is h e n a = rw is (one_further (omega arith) e n (rw is at a))
 
   -- the window is full
-  pub back_full : found.count ≡ most → Looked r order (up_to most (nearest test r day held)) found
+  pub back_full : found.eligible.count ≡ most → Looked r order (up_to most (nearest test r day held)) found
   back_full h =
       let m = nearest_more test r day back held b.within in
-      let z : most - found.count ≡ 0 = omega arith in
+      let z : most - found.eligible.count ≡ 0 = omega arith in
       let e : up_to most (nearest test r day held) ≡ nearest test r day back =
       ap (up_to most) m.1 ∙ b.ahead m.0 ∙ rw (z, up_to_none m.0) (append-nil (nearest test r day back)) in
       rw e b.looked
@@ -391,5 +401,5 @@ module _ {test : ℕ → Bool} {r : Request} {day : ℕ → Day} {most : ℕ} {o
   back_end h =
       let k : held ≡ back = omega (arith, b.within) in
       let e : up_to most (nearest test r day held) ≡ nearest test r day back =
-      rw k (ap (up_to most) (sym (append-nil (nearest test r day back))) ∙ b.ahead [] ∙ rw (up_to_end (most - found.count)) (append-nil (nearest test r day back))) in
+      rw k (ap (up_to most) (sym (append-nil (nearest test r day back))) ∙ b.ahead [] ∙ rw (up_to_end (most - found.eligible.count)) (append-nil (nearest test r day back))) in
       rw e b.looked

@@ -1,5 +1,5 @@
 -- What looking back from an event finds: the eligible and the spare days, as words.
-use Rattle.std.specs.Prelude.{ℕ, zero, suc, ◌+◌, ◌-◌, ◌≤◌, ◌<◌, min, ◌≡◌, Bool, false, ◌&&◌, cond, List, [], ◌∷◌, ◌++◌, map, length, set, leb}
+use Rattle.std.specs.Prelude.{ℕ, zero, suc, ◌+◌, ◌-◌, ◌≤◌, ◌<◌, min, ◌≡◌, Bool, false, ◌&&◌, cond, List, [], ◌∷◌, ◌++◌, map, length, set, leb, Option, Some, None}
 use Rattle.base_lists.specs.Lists.{keep, least_of}
 use Rattle.calendar_groups.specs.declared.Group.{Group}
 use Rattle.method.specs.declared.Request.{Request}
@@ -10,7 +10,7 @@ use Rattle.method.specs.Eligible.{eligible, spare}
 use Rattle.engine_relevant.specs.Steps.{relevant_to}
 use Rattle.engine_ranking.specs.Steps.{word, sort_down, padded, pushed}
 use Rattle.engine_judging.specs.declared.Judged.{Judged}
-use Rattle.engine_judging.specs.declared.Judged.TheVariants.{Eligible, Spare, Neither}
+use Rattle.engine_judging.specs.declared.Judged.TheVariants.{Eligible, Spare}
 use Rattle.engine_rooms.specs.declared.Directory.{Directory}
 use Rattle.engine_rooms.specs.Rooms.{room_day, held_rooms}
 use Rattle.engine_rules.specs.declared.SpareOrder.{SpareOrder}
@@ -22,8 +22,8 @@ abbrev pub rooms_of : Request → Directory → List ℕ → ℕ → Day
 rooms_of r rooms readings d = room_day r.event rooms readings (r.event - d)
 
 -- what a day is, by what is held of it, with its word
-unfoldable pub judged : Request → ℕ × Day → Judged
-judged r p = cond (eligible p.1) (Eligible (word r p)) (cond (spare p.1) (Spare (word r p)) Neither)
+unfoldable pub judged : Request → ℕ × Day → Option Judged
+judged r p = cond (eligible p.1) (Some (Eligible (word r p))) (cond (spare p.1) (Some (Spare (word r p))) None)
 
 -- how many days are held before the event
 unfoldable pub rooms_before : Request → Directory → ℕ
@@ -84,11 +84,11 @@ oldest_of r days = r.event - least_of r.event (days_of days)
 
 -- what was found in the days looked at
 pub record Looked (r : Request) (order : SpareOrder) (days : List (ℕ × Day)) (found : Found) : Type 0 where
-  pub row : found.eligible ≡ row_of r (eligible_of days)
-  pub count : found.count ≡ length (eligible_of days)
+  pub row : found.eligible.words ≡ row_of r (eligible_of days)
+  pub count : found.eligible.count ≡ length (eligible_of days)
   pub oldest : found.oldest ≡ oldest_of r (eligible_of days)
-  pub sparing : found.spare ≡ spare_row r order (spare_of days)
-  pub spares : found.spares ≡ spares_of order (length (spare_of days))
+  pub sparing : found.spare.words ≡ spare_row r order (spare_of days)
+  pub spares : found.spare.count ≡ spares_of order (length (spare_of days))
 
 -- the day `back` days before the event is the next to look at: it lies no nearer than what was found
 pub record Further (r : Request) (back : ℕ) (found : Found) : Type 0 where
@@ -96,12 +96,12 @@ pub record Further (r : Request) (back : ℕ) (found : Found) : Type 0 where
   pub most : back ≤ 45
   pub within : back ≤ r.event
   pub oldest : found.oldest ≤ back
-  pub count : found.count < back
-  pub spares : found.spares < back
+  pub count : found.eligible.count < back
+  pub spares : found.spare.count < back
 
 -- `next` is what was found once some more is looked at, `back` days before the event
 pub record Adds (r : Request) (order : SpareOrder) (back : ℕ) (more : List (ℕ × Day)) (found next : Found) : Type 0 where
   pub then : (days : List (ℕ × Day)) → Looked r order days found → Looked r order (days ++ more) next
   pub oldest : next.oldest ≤ back
-  pub count : next.count ≤ found.count + 1
-  pub spares : next.spares ≤ found.spares + 1
+  pub count : next.eligible.count ≤ found.eligible.count + 1
+  pub spares : next.spare.count ≤ found.spare.count + 1

@@ -2,51 +2,36 @@
 // days"). Total: for any group and any number of days asked for.
 #![tactic(auto)]
 
-ghost use Rattle.std.specs.Prelude.{◌≡◌, ◌-◌, ◌≤◌, min, length, set};
+ghost use Rattle.std.specs.Prelude.{◌≡◌, ◌+◌, ◌-◌, min};
 ghost use Rattle.calendar_groups.specs.Holidays.{group as group_of};
-ghost use Rattle.method.specs.Table.{most_quarters};
 ghost use Rattle.engine_relevant.specs.Steps.{relevant_to};
-ghost use Rattle.engine_judging.specs.Steps.{day_from};
+ghost use Rattle.engine_ranking.specs.Steps.{most_words};
+ghost use Rattle.engine_rooms.specs.Rooms.{room_day};
 ghost use Rattle.engine_look_back.specs.Steps.{held_days, up_to, if_relevant, with_spare, needless, Looked, Further, Adds};
 
-use base_numbers::counts;
 use calendar_groups::Group;
 use engine_judging::Judged;
-use engine_rooms::Directory;
+use engine_ranking::Ranking;
+use engine_rooms::Case;
 use engine_rules::SpareOrder;
-use method::Request;
 
-// What was found looking back: the words of eligible days, how many there are, how far back the last of them lies, and the same of spare
-// days but for their place; of spares that fill latest first the ten latest alone.
-#[derive(Clone, Copy)]
+// What was found looking back: the eligible days by rank, how far back the last of them lies, and the spare days in the order that they fill a shortage
+// in; of those that fill latest first the ten latest alone.
+#[derive(Clone, Copy, Debug, PartialEq, Eq)]
 pub struct Found {
-    pub eligible: [u64; 10],
-    pub count: u32,
+    pub eligible: Ranking,
     pub oldest: u32,
-    pub spare: [u64; 10],
-    pub spares: u32,
+    pub spare: Ranking,
 }
 
-// A row with one more word after the `count` that stand there; it is lost where there is no place for it.
-fn append(row: [u64; 10], count: u32, word: u64) -> [u64; 10]
-    ensures { result ≡ set row count word }
-{
-    if count < 10 {
-        let mut next = row;
-        next[count as usize] = word;
-        next
-    } else {
-        row
-    }
-}
-
-// A row of `count` spare days with one more.
-fn with_spare(spares: SpareOrder, row: [u64; 10], count: u32, word: u64) -> [u64; 10]
-    ensures { result ≡ with_spare spares row count word }
+// A spare day's word, put to those that are known.
+fn add_spare(spares: SpareOrder, known: &mut Ranking, word: u64)
+    ensures words { known.new.words ≡ with_spare spares known.old.words known.old.count word }
+    ensures count { known.new.count ≡ min (known.old.count + 1) most_words }
 {
     match spares {
-        SpareOrder::Highest => engine_ranking::insert(row, word),
-        SpareOrder::Latest => append(row, count, word),
+        SpareOrder::Highest => known.insert(word),
+        SpareOrder::Latest => known.append(word),
     }
 }
 
@@ -56,52 +41,30 @@ fn is_needless(spares: SpareOrder, count: u32, mark: u8) -> bool
 {
     match spares {
         SpareOrder::Highest => false,
-        SpareOrder::Latest => if 10 <= count {
-            day_marks::is_event(mark)
-        } else {
-            false
-        },
+        SpareOrder::Latest => 10 <= count && day_marks::is_event(mark),
     }
 }
 
-// What was found once one more day is looked at, `back` days before the event.
-fn with_day(
-    moves: &[u32],
-    request: Request,
-    group: Group,
-    spares: SpareOrder,
-    back: u32,
-    mark: u8,
-    part: &[u32],
-    found: Found,
-) -> Found
-    requires { Further request back found × (length part.now ≤ most_quarters) }
-    ensures { Adds request spares back (if_relevant (relevant_to (group_of moves.now) group request) (request.event - back, day_from mark part.now)) found result }
+// One more day is looked at, `back` days before the event.
+fn look_at(case: &Case<'_>, group: Group, spares: SpareOrder, back: u32, found: &mut Found)
+    requires next { Further case.now.request back found.old }
+    ensures { Adds case.now.request spares back (if_relevant (relevant_to (group_of case.now.moves.now) group case.now.request) (case.now.request.event - back, room_day case.now.request.event case.now.rooms.now case.now.readings.now back)) found.old found.new }
 {
-    if is_needless(spares, found.spares, mark) {
-        found
-    } else if engine_relevant::relevant(moves, request, group, request.event - back) {
-        let eligible = found.eligible;
-        let spare = found.spare;
-        match engine_judging::judge(request, mark, part, back) {
-            Judged::Eligible(word) => Found {
-                eligible: engine_ranking::insert(eligible, word),
-                count: found.count + 1,
-                oldest: back,
-                spare,
-                spares: found.spares,
-            },
-            Judged::Spare(word) => Found {
-                eligible,
-                count: found.count,
-                oldest: found.oldest,
-                spare: with_spare(spares, spare, found.spares, word),
-                spares: found.spares + 1,
-            },
-            Judged::Neither => found,
+    let request = case.request;
+    let mark = case.rooms.marks[back as usize];
+    if is_needless(spares, found.spare.count, mark)
+        || !engine_relevant::relevant(case.moves, request, group, request.event - back)
+    {
+        return;
+    }
+    let part = case.part(back);
+    match engine_judging::judge(request, mark, part, back) {
+        Some(Judged::Eligible(word)) => {
+            found.eligible.insert(word);
+            found.oldest = back;
         }
-    } else {
-        found
+        Some(Judged::Spare(word)) => add_spare(spares, &mut found.spare, word),
+        None => {}
     }
 }
 
@@ -109,44 +72,25 @@ fn with_day(
 fn held_before(event: u32, held: u32) -> u32
     ensures { result ≡ min (held - 1) (min 45 event) }
 {
-    counts::least(
-        counts::minus(held, 1),
-        counts::least(method::LOOK_BACK, event),
-    )
+    held.saturating_sub(1).min(method::LOOK_BACK.min(event))
 }
 
 // The look back over the days held before an event of this group, nearest first. It ends at the `most`th eligible day.
-pub fn look(
-    moves: &[u32],
-    request: Request,
-    group: Group,
-    most: u32,
-    spares: SpareOrder,
-    rooms: Directory,
-    readings: &[u32],
-) -> Found
-    ensures { Looked request spares (up_to most (held_days (group_of moves.now) group request rooms readings.now)) result }
+pub fn look(case: &Case<'_>, group: Group, most: u32, spares: SpareOrder) -> Found
+    ensures { Looked case.now.request spares (up_to most (held_days (group_of case.now.moves.now) group case.now.request case.now.rooms.now case.now.readings.now)) result }
 {
-    let before = held_before(request.event, rooms.held);
+    let before = held_before(case.request.event, case.rooms.held);
     let mut found = Found {
-        eligible: [0; 10],
-        count: 0,
+        eligible: Ranking::new(),
         oldest: 0,
-        spare: [0; 10],
-        spares: 0,
+        spare: Ranking::new(),
     };
-    let mut back = 0;
-    while back < before {
-        if found.count == most {
+    // `1..=before` was tried, and is slower by a twentieth
+    for nearer in 0..before {
+        if found.eligible.count == most {
             return found;
         }
-        back += 1;
-        let place = back as usize;
-        let size = day_ruler::size(request.event - back);
-        let part = engine_rooms::readings_at(readings, rooms.at[place], size);
-        let mark = rooms.marks[place];
-        let next = with_day(moves, request, group, spares, back, mark, part, found);
-        found = next;
+        look_at(case, group, spares, nearer + 1, &mut found);
     }
     found
 }

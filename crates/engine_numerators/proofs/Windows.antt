@@ -9,7 +9,7 @@ use native.Mathlib.Omega.{arith}
 use borrow.Author.Tests.{le-leb}
 use lib.Dec.{leb}
 use lib.IntN.{ℤ}
-use lib.ListN.{length, get_or, take, drop, length-take}
+use lib.ListN.{length, get_or, take, drop}
 use mir.Syntax.{w32}
 use mir.Val.{Fits}
 use Rattle.base_lists.specs.Lists.{all, sum_of, places}
@@ -60,8 +60,8 @@ windows_most size readings (a ∷ at) end h =
     let p = part_all small size readings a h in
     omega (arith, ruler_most (readings_at size readings a) (readings_at size readings a) end p p, windows_most size readings at end h, mul-suc 51539607540 (length at))
 
-pub windows_few : (size : ℕ) (readings at : List ℕ) (end k : ℕ) → all small readings ≡ true → k ≤ 5 → window_sums size readings (take k at) end ≤ 257698037700
-windows_few size readings at end k h few = omega (arith, windows_most size readings (take k at) end h, length-take k at)
+pub windows_few : (size : ℕ) (readings at : List ℕ) (end : ℕ) → all small readings ≡ true → length at ≤ 5 → window_sums size readings at end ≤ 257698037700
+windows_few size readings at end h few = omega (arith, windows_most size readings at end h)
 
 -- ---- one day more
 module _ (size : ℕ) (readings at : List ℕ) (end : ℕ) where
@@ -73,14 +73,13 @@ module _ (size : ℕ) (readings at : List ℕ) (end : ℕ) where
       rw (add-one k) (omega (arith, m, e, rw o at f))
 
 -- ---- the whole of it
-pub written : (readings : List ℕ) (chosen : Places) (ys ts : List ℕ) (n : ℕ) {count own : ℕ} {adj : ℤ} {sums out : List ℕ}
-    → count ≡ counted chosen → own ≡ A (ys ++ ts) chosen.end
-    → adj ≡ adjustment count own (window_sums chosen.quarters readings (take count chosen.at) chosen.end)
+pub written : (readings : List ℕ) (chosen : Places) (ys ts : List ℕ) (n : ℕ) {own : ℕ} {adj : ℤ} {sums out : List ℕ}
+    → own ≡ A (ys ++ ts) chosen.end → adj ≡ adjustment (counted chosen) own (window_sums chosen.quarters readings (chosen_at chosen) chosen.end)
     → sums ≡ map (λ q. quarter_sum chosen.quarters readings (chosen_at chosen) (chosen.start + q) % 2 ^ 32) (places n 0)
     → out ≡ map (λ q. floored (unfloored 12 (get_or sums q 0) adj) % 2 ^ 32) (places (length sums) 0) → Written readings chosen ys ts n adj out
 unfolding adjustment_of numerators_of
-written readings chosen ys ts n {count} {own} {adj} {sums} {out} c o a s f =
-    let e : adj ≡ adjustment_of readings chosen ys ts = rw (c, o) at a in
+written readings chosen ys ts n {own} {adj} {sums} {out} o a s f =
+    let e : adj ≡ adjustment_of readings chosen ys ts = rw o at a in
     record { adjusted = e; output = f ∙ rw size (over_same _ _ n 0 each) ∙ ap (λ z. numerators_of chosen.quarters readings (chosen_at chosen) chosen.start z n) e }
   where
     size : length sums ≡ n

@@ -1,34 +1,16 @@
--- The readings of a day where its room is, and sums over chosen days that are taken one after the other.
-use Prim.Native.Nat.{ℕ, zero, suc, ◌+◌, ◌-◌, ◌<◌, min}
+-- Sums over chosen days that are taken one after the other.
+use Prim.Native.Nat.{ℕ, zero, suc, ◌+◌, ◌<◌}
 use mathlib.Core.Path.{◌≡◌, refl, sym, ap, ap₂, ◌∙◌}
-use mathlib.Core.Bool.{true}
 use mathlib.Core.List.{List, [], ◌∷◌, map}
 use native.Mathlib.Numerals.{add-one}
 use native.Mathlib.Omega.{arith}
 use lib.ListN.{length, get_or, take}
-use Rattle.base_lists.proofs.Parts.{take_within}
-use Rattle.base_lists.specs.Lists.{all, sum_of, places}
-use Rattle.method.specs.declared.Request.{Request}
-use Rattle.method.specs.Table.{Day, History, size}
+use Rattle.base_lists.specs.Lists.{sum_of, places}
+use Rattle.method.specs.Table.{Day, History}
 use Rattle.method.specs.Ruler.{against}
 use Rattle.method.specs.Adjustment.{S}
-use Rattle.engine_rooms.specs.declared.Directory.{Directory}
-use Rattle.engine_rooms.specs.Rooms.{readings_at, room_day, room_history}
 use Rattle.engine_sums.proofs.Adding.{sum_more}
-use Rattle.engine_numerators.proofs.Windows.{small, part_all}
 use Rattle.engine_baseline.specs.Engine.{with_days}
-
-module _ (r : Request) (rooms : Directory) (readings : List ℕ) where
-  -- what is held of a day stands where its room says
-  pub day_stands : (d back wide : ℕ) {part : List ℕ} → back ≡ r.event - d → wide ≡ size (r.event - back)
-      → part ≡ readings_at wide readings (get_or rooms.at back 0) → part ≡ ((room_history r rooms readings).day d).readings
-  unfolding room_history room_day
-  day_stands d back wide b w e = rw (w, b) at e
-
-  -- its readings are numbers of 32 bits where the lent ones are
-  pub day_small : all small readings ≡ true → (d : ℕ) → all small ((room_history r rooms readings).day d).readings ≡ true
-  unfolding room_history room_day
-  day_small bits d = part_all small (size (r.event - (r.event - d))) readings (get_or rooms.at (r.event - d) 0) bits
 
 -- S(t) of days with what a history holds of them, as a sum over their numbers
 abbrev pub reads : ℕ → History Day → ℕ → ℕ → ℕ
@@ -48,10 +30,6 @@ pub S_more : (event : ℕ) (h : History Day) (t : ℕ) (days : List ℕ) (k : �
 S_more event h t days k o e f =
     ap₂ (λ (x y : ℕ). x + y) (e ∙ S_over event h t (take k days)) f
     ∙ rw (add-one, S_over event h t (take (suc k) days)) (sym (sum_more (reads event h t) days k o))
-
--- of five days no more than five are taken
-pub take_five : (days : List ℕ) (count : ℕ) → length days ≡ 5 → take (min count 5) days ≡ take count days
-take_five days count e = rw (sym e) (take_within count days)
 
 -- S over so many quarters, and over one more
 abbrev pub sums_from : ℕ → List (ℕ × Day) → ℕ → ℕ → ℕ

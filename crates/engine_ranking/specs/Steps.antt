@@ -1,6 +1,7 @@
 -- Days by rank as falling words (01, "Choosing the days": "Highest").
 use Rattle.std.specs.Prelude.{ℕ, ◌+◌, ◌-◌, ◌*◌, max, min, Bool, List, [], ◌∷◌, ◌++◌, take, replicate, ltb}
 use Rattle.method.specs.declared.Request.{Request}
+use Rattle.engine_ranking.specs.declared.Ranking.{Ranking}
 use Rattle.method.specs.Table.{Day}
 use Rattle.method.specs.Eligible.{event_sum, insert_by, sort_by}
 
@@ -33,3 +34,11 @@ pushed w (x ∷ row) = max w x ∷ pushed (min w x) row
 unfoldable pub insert_all : List ℕ → List ℕ → List ℕ
 insert_all [] row = row
 insert_all (x ∷ xs) row = insert_all xs (pushed x row)
+
+-- as many words as a ranking can count
+abbrev pub most_words : ℕ
+most_words = 4294967295
+
+-- a ranking of no words
+abbrev pub no_words : Ranking
+no_words = record { words = replicate 10 0; count = 0 }

@@ -10,9 +10,12 @@ use Rattle.method.specs.declared.Request.{Request}
 use Rattle.method.specs.Table.{size, held}
 use Rattle.method.proofs.Histories.{is_held}
 use Rattle.engine_rooms.specs.declared.Directory.{Directory}
-use Rattle.engine_rooms.specs.Rooms.{readings_at, held_rooms, room_history}
+use Rattle.engine_rooms.specs.Rooms.{readings_at, room_day, held_rooms, room_history}
 use Rattle.engine_judging.specs.Steps.{day_from}
-use Rattle.engine_look_back.proofs.Judging.{room_back}
+use Rattle.method_working.specs.declared.Reason.{Reason}
+use Rattle.method_working.specs.declared.Reason.TheVariants.{NotHeld}
+use Rattle.method_working.specs.Working.{reason_of}
+use Rattle.engine_reasons.specs.Steps.{held_reason}
 
 module _ (r : Request) (rooms : Directory) (readings : List ℕ) (back : ℕ) where
   pub back_held : {n : ℕ} → n ≡ held_rooms r rooms → back < n → held (room_history r rooms readings) (r.event - back) ≡ true
@@ -26,7 +29,15 @@ module _ (r : Request) (rooms : Directory) (readings : List ℕ) (back : ℕ) wh
       let o : r.event - back < (room_history r rooms readings).first = omega arith in
       rw (lt-leb (room_history r rooms readings).first (r.event - back) o)
 
-  pub back_day : {k : ℕ} {part : List ℕ} → back ≤ r.event → k ≡ size (r.event - back) → part ≡ readings_at k readings (get_or rooms.at back 0)
+  pub back_day : {part : List ℕ} → back ≤ r.event → part ≡ readings_at (size (r.event - back)) readings (get_or rooms.at back 0)
       → day_from (get_or rooms.marks back 0) part ≡ (room_history r rooms readings).day (r.event - back)
-  unfolding room_history
-  back_day h e p = ap (day_from (get_or rooms.marks back 0)) (rw e at p) ∙ room_back r rooms readings back h
+  unfolding room_history room_day
+  back_day h e = let w : r.event - (r.event - back) ≡ back = omega arith in rw (e, w)
+
+  pub when_held : {n : ℕ} {part : List ℕ} {x : Reason} → n ≡ held_rooms r rooms → back < n → back ≤ r.event
+      → part ≡ readings_at (size (r.event - back)) readings (get_or rooms.at back 0)
+      → x ≡ reason_of (day_from (get_or rooms.marks back 0) part) → x ≡ held_reason r (room_history r rooms readings) back
+  when_held n h w p e = rw (back_held n h) (e ∙ ap reason_of (back_day w p))
+
+  pub not_held : {n : ℕ} → n ≡ held_rooms r rooms → n ≤ back → back ≤ r.event → NotHeld ≡ held_reason r (room_history r rooms readings) back
+  not_held n h w = rw (back_not n h w)

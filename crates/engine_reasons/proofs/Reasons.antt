@@ -1,71 +1,75 @@
 -- Why a day is used or is not, one law a way out of the code.
-use Prim.Native.Nat.{ℕ, ◌+◌, ◌-◌, ◌≤◌}
-use mathlib.Core.Path.{◌≡◌}
-use mathlib.Core.Bool.{true, false, ◌&&◌, ◌||◌}
+use Prim.Native.Nat.{ℕ, ◌+◌, ◌-◌, ◌≤◌, ◌<◌}
+use mathlib.Core.Path.{◌≡◌, refl}
+use mathlib.Core.Bool.{Bool, true, false, cond, not, ◌&&◌, ◌||◌}
 use native.Mathlib.Omega.{arith}
 use lib.Dec.{ltb, eqb}
-use borrow.Author.Tests.{eq-eqb, ne_eqb, ltb-false}
-use Rattle.base_lists.specs.Lists.{all}
-use Rattle.base_lists.proofs.Bools.{same_eqb, or_none_left}
+use borrow.Author.Tests.{eq-eqb, ne_eqb, lt-ltb, le-ltb}
+use denote.Enum.Bare.{sameb}
+use Rattle.base_lists.proofs.Bools.{same_eqb}
 use Rattle.calendar_groups.specs.declared.Group.{Group}
+use Rattle.calendar_groups.specs.declared.Group.TheVariants.{Weekday, Saturday, HolidayGroup}
+use Rattle.calendar_groups.specs.contracts.Group.{the_type}
 use Rattle.method.specs.declared.Request.{Request}
-use Rattle.method.specs.Table.{Day, History, held, present, event_bit, outage_bit}
-use Rattle.method.specs.Relevant.{group_number}
-use Rattle.method.specs.Eligible.{complete}
-use Rattle.method_working.specs.declared.Reason.TheVariants.{TooEarly, AnotherGroup, DayBefore, NotHeld, ReadingMissing, Outage, EventRecorded, Eligible}
-use Rattle.method_working.specs.Working.{reason, reason_of}
+use Rattle.method.specs.Table.{Day, History}
+use Rattle.method.specs.Relevant.{same_group}
+use Rattle.method_working.specs.declared.Reason.TheVariants.{TooEarly, AnotherGroup, DayBefore}
+use Rattle.method_working.specs.Working.{reason}
 use Rattle.engine_reasons.specs.Steps.{held_reason}
 
-module _ (d : Day) where
-  pub lacking : all present d.readings ≡ false → ReadingMissing ≡ reason_of d
-  unfolding reason_of complete
-  lacking a = rw a
-
-  module _ (a : all present d.readings ≡ true) where
-    pub out : outage_bit d.mark ≡ true → Outage ≡ reason_of d
-    unfolding reason_of complete
-    out b = rw (a, b)
-
-    pub recorded : outage_bit d.mark ≡ false → event_bit d.mark ≡ true → EventRecorded ≡ reason_of d
-    unfolding reason_of complete
-    recorded b c = rw (a, b, c)
-
-    pub as_eligible : outage_bit d.mark ≡ false → event_bit d.mark ≡ false → Eligible ≡ reason_of d
-    unfolding reason_of complete
-    as_eligible b c = rw (a, b, c)
-
-module _ (r : Request) (h : History Day) (back : ℕ) where
-  pub not_held : held h (r.event - back) ≡ false → NotHeld ≡ held_reason r h back
-  not_held e = rw e
-
-  pub when_held : held h (r.event - back) ≡ true → reason_of (h.day (r.event - back)) ≡ held_reason r h back
-  when_held e = rw e
-
--- a day that is not too early lies at or after day 0
-pub lies : (r : Request) (back : ℕ) → (ltb r.event back || ltb (r.event - back) r.participation) ≡ false → back ≤ r.event
-lies r back n = ltb-false r.event back (or_none_left (ltb r.event back) (ltb (r.event - back) r.participation) n)
+-- groups that are told apart by code
+told_apart : (a b : Group) → sameb the_type a b ≡ same_group a b
+told_apart Weekday Weekday = refl
+told_apart Weekday Saturday = refl
+told_apart Weekday HolidayGroup = refl
+told_apart Saturday Weekday = refl
+told_apart Saturday Saturday = refl
+told_apart Saturday HolidayGroup = refl
+told_apart HolidayGroup Weekday = refl
+told_apart HolidayGroup Saturday = refl
+told_apart HolidayGroup HolidayGroup = refl
 
 module _ (group : ℕ → Group) (r : Request) (h : History Day) (back : ℕ) where
-  pub too_early : (ltb r.event back || ltb (r.event - back) r.participation) ≡ true → TooEarly ≡ reason group r h back
+  pub below_0 : r.event < back → TooEarly ≡ reason group r h back
   unfolding reason
-  too_early t = rw t
+  below_0 o = rw (lt-ltb r.event back o)
 
-  module _ (n : (ltb r.event back || ltb (r.event - back) r.participation) ≡ false) where
-    pub another : (group_number (group (r.event - back)) ≡ group_number (group r.event) → ⊥) → AnotherGroup ≡ reason group r h back
-    unfolding reason
-    another o = rw (n, ne_eqb (group_number (group (r.event - back))) (group_number (group r.event)) o)
+  pub before_p : r.event - back < r.participation → TooEarly ≡ reason group r h back
+  unfolding reason
+  before_p o = rw (lt-ltb (r.event - back) r.participation o) (go (ltb r.event back))
+    where
+      go : (b : Bool) → TooEarly ≡ cond (b || true) TooEarly (cond (not (same_group (group (r.event - back)) (group r.event))) AnotherGroup
+          (cond (same_group (group r.event) Weekday && eqb (r.event - back + 1) r.event) DayBefore (held_reason r h back)))
+      go true = refl
+      go false = refl
+
+  module _ (a : back ≤ r.event) (b : r.participation ≤ r.event - back) where
+    in_time : (ltb r.event back || ltb (r.event - back) r.participation) ≡ false
+    in_time = rw (le-ltb r.event back a, le-ltb (r.event - back) r.participation b)
 
     -- D-1 is the day 1 day before D
     eve : eqb (r.event - back + 1) r.event ≡ eqb back 1
-    eve =
-        let w = lies r back n in
-        same_eqb (r.event - back + 1) r.event back 1 (λ e. omega arith) (λ e. omega arith)
+    eve = same_eqb (r.event - back + 1) r.event back 1 (λ e. omega arith) (λ e. omega arith)
 
-    module _ (same : group_number (group (r.event - back)) ≡ group_number (group r.event)) where
-      pub day_before : (eqb (group_number (group r.event)) 0 && eqb back 1) ≡ true → DayBefore ≡ reason group r h back
-      unfolding reason
-      day_before t = rw (n, eq-eqb (group_number (group (r.event - back))) (group_number (group r.event)) same, eve, t)
+    pub another : not (sameb the_type (group (r.event - back)) (group r.event)) ≡ true → AnotherGroup ≡ reason group r h back
+    unfolding reason
+    another o = rw (in_time, ← told_apart (group (r.event - back)) (group r.event), o)
 
-      pub by_room : (eqb (group_number (group r.event)) 0 && eqb back 1) ≡ false → held_reason r h back ≡ reason group r h back
+    module _ (same : not (sameb the_type (group (r.event - back)) (group r.event)) ≡ false) where
+      pub day_before : sameb the_type (group r.event) Weekday ≡ true → back ≡ 1 → DayBefore ≡ reason group r h back
       unfolding reason
-      by_room t = rw (n, eq-eqb (group_number (group (r.event - back))) (group_number (group r.event)) same, eve, t)
+      day_before w e = rw (in_time, ← told_apart (group (r.event - back)) (group r.event), same, ← told_apart (group r.event) Weekday, w, eve, eq-eqb back 1 e)
+
+      pub other_day : (back ≡ 1 → ⊥) → held_reason r h back ≡ reason group r h back
+      unfolding reason
+      other_day n = rw (in_time, ← told_apart (group (r.event - back)) (group r.event), same, eve, ne_eqb back 1 n) (go (same_group (group r.event) Weekday))
+        where
+          go : (b : Bool) → held_reason r h back ≡ cond (b && false) DayBefore (held_reason r h back)
+          go true = refl
+          go false = refl
+
+      pub no_weekday : sameb the_type (group r.event) Weekday ≡ false → held_reason r h back ≡ reason group r h back
+      unfolding reason
+      no_weekday w = rw (in_time, ← told_apart (group (r.event - back)) (group r.event), same, ← told_apart (group r.event) Weekday, w)
+
+pub ruleset ways_out = (below_0, before_p, another, day_before, other_day, no_weekday)

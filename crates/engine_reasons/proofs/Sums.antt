@@ -1,70 +1,54 @@
 -- The sum of a day over the event's own quarters.
-use Prim.Native.Nat.{ℕ, ◌+◌, ◌-◌, ◌^◌, ◌≤◌, ◌<◌, min}
+use Prim.Native.Nat.{ℕ, ◌-◌, ◌^◌, ◌≤◌, ◌<◌}
 use mathlib.Core.Path.{◌≡◌, ap, ◌∙◌}
 use mathlib.Core.Bool.{true, false}
 use mathlib.Core.List.{List}
 use mathlib.Core.Logic.{⊎_elim}
 use native.Mathlib.Omega.{arith}
-use lib.IntN.{pos}
-use mir.Syntax.{w64}
-use mir.Val.{to_z}
-use mir.ValLaws.{to_z_pos}
-use lib.ListN.{length, take, drop, get_or, length-take, length-drop}
+use lib.ListN.{length, get_or, length-take, length-drop}
 use borrow.Author.Tests.{le-leb, lt-leb}
+use Rattle.std.specs.Prelude.{Option, Some, None}
 use Rattle.base_lists.specs.Lists.{all, sum_of}
 use Rattle.base_lists.proofs.Bools.{lt-or-le}
-use Rattle.base_lists.proofs.Parts.{drop_within, part_within}
 use Rattle.base_sums.specs.Steps.{Summed as SummedTo}
 use Rattle.base_sums.proofs.Exact.{exact}
 use Rattle.method.specs.declared.Request.{Request}
 use Rattle.method.specs.Table.{size, most_quarters, present}
-use Rattle.method.specs.Ruler.{against}
 use Rattle.method.specs.Eligible.{event_sum}
 use Rattle.method_working.specs.Working.{event_quarters, summed}
 use Rattle.engine_rooms.specs.declared.Directory.{Directory}
 use Rattle.engine_rooms.specs.Rooms.{readings_at, held_rooms, room_history}
 use Rattle.engine_judging.specs.Steps.{day_from}
-use Rattle.engine_reasons.specs.declared.Summed.TheVariants.{Sum, Unsummed}
 use Rattle.engine_reasons.specs.Steps.{held_sum, sum_found}
 use Rattle.engine_reasons.proofs.Held.{back_held, back_not, back_day}
 
-module _ (r : Request) (part : List ℕ) {first start count end : ℕ} (f : first ≡ against r.event r.s) (s : start ≡ min first (length part))
-    (n : count ≡ r.e - r.s) (e : end ≡ min (start + count) (length part)) where
-  -- the event's own quarters of a day, as far as it has them
-  quarters_are : take (end - start) (drop start part) ≡ event_quarters r (day_from 0 part)
-  quarters_are =
-      let k : start + count - start ≡ r.e - r.s = omega arith in
-      rw e (part_within start (start + count) part ∙ rw (k, s, f) (ap (take (r.e - r.s)) (drop_within (against r.event r.s) part)))
-
-  pub summed_missing : all present (take (end - start) (drop start part)) ≡ false
-      → Unsummed ≡ sum_found (held_sum r (day_from 0 part))
+module _ (r : Request) (part : List ℕ) {quarters : List ℕ} (q : quarters ≡ event_quarters r (day_from 0 part)) where
+  pub summed_missing : all present quarters ≡ false → ◌≡◌ {A = Option ℕ} None (sum_found (held_sum r (day_from 0 part)))
   unfolding sum_found
-  summed_missing t = rw (rw quarters_are at t)
+  summed_missing t = rw (rw q at t)
 
-  -- a sum of so few readings is a number of 63 bits
-  few_long : length part ≤ most_quarters → length (take (end - start) (drop start part)) ≤ 2 ^ 31
-  few_long few = rw (length-take, length-drop) (omega arith)
+  module _ {x : ℕ} (few : length part ≤ most_quarters) (is : SummedTo quarters x) where
+    -- a sum of so few readings is a number of 63 bits
+    few_long : length quarters ≤ 2 ^ 31
+    few_long = rw (q, length-take, length-drop) (omega arith)
 
-  pub summed_small : {x : ℕ} → length part ≤ most_quarters → SummedTo (take (end - start) (drop start part)) x → x < 2 ^ 63
-  summed_small few is = omega (arith, exact is (few_long few), is.bound, few_long few)
+    pub summed_small : x < 2 ^ 63
+    summed_small = omega (arith, exact is few_long, is.bound, few_long)
 
-  pub summed_whole : {x : ℕ} → length part ≤ most_quarters → all present (take (end - start) (drop start part)) ≡ true
-      → SummedTo (take (end - start) (drop start part)) x
-      → Sum (to_z w64 x) ≡ sum_found (held_sum r (day_from 0 part))
-  unfolding sum_found event_sum
-  summed_whole {x} few t is =
-      rw (rw quarters_are at t) (ap Sum (to_z_pos w64 x (summed_small few is) ∙ ap pos (exact is (few_long few) ∙ ap sum_of quarters_are)))
+    pub summed_whole : all present quarters ≡ true → Some x ≡ sum_found (held_sum r (day_from 0 part))
+    unfolding sum_found event_sum
+    summed_whole t = rw (rw q at t) (ap Some (exact is few_long ∙ ap sum_of q))
 
 module _ (r : Request) (rooms : Directory) (readings : List ℕ) (back : ℕ) {n : ℕ} (e : n ≡ held_rooms r rooms) where
-  pub sum_held : {k : ℕ} {part : List ℕ} → back < n → k ≡ size (r.event - back) → part ≡ readings_at k readings (get_or rooms.at back 0)
+  pub sum_held : {part : List ℕ} → back < n → part ≡ readings_at (size (r.event - back)) readings (get_or rooms.at back 0)
       → sum_found (held_sum r (day_from 0 part))
       ≡ sum_found (summed r (room_history r rooms readings) back)
   unfolding summed event_sum held_rooms
-  sum_held h s p =
+  sum_held h p =
       let w : back ≤ r.event = omega arith in
-      rw (le-leb back r.event w, back_held r rooms readings back e h, ← back_day r rooms readings back w s p)
+      rw (le-leb back r.event w, back_held r rooms readings back e h, ← back_day r rooms readings back w p)
 
-  pub sum_none : n ≤ back → Unsummed ≡ sum_found (summed r (room_history r rooms readings) back)
+  pub sum_none : n ≤ back → ◌≡◌ {A = Option ℕ} None (sum_found (summed r (room_history r rooms readings) back))
   unfolding sum_found summed
   sum_none h =
       ⊎_elim (λ (o : r.event < back). rw (lt-leb back r.event o))

@@ -5,16 +5,15 @@ use mathlib.Core.List.{List}
 use Rattle.method.specs.declared.Refusal.{Refusal}
 use Rattle.method.specs.Verdict.{Answer, Reply, answered, first_of}
 use Rattle.method.proofs.Replies.{never_both}
-use Rattle.engine_refusals.specs.declared.Tested.{Tested}
-use Rattle.engine_refusals.specs.declared.Tested.TheVariants.{Passed, Failed}
+use Rattle.std.specs.Prelude.{Result, Ok, Err}
 use Rattle.engine_refusals.specs.Steps.{tested}
 use Rattle.engine_refusals.proofs.FirstRefusal.{first_failed, first_passed}
 
 -- what is answered passed the tests before it, and is the answer of what comes after them
 pub answered_past : (ts : List (Bool × Refusal)) (reply : Reply) {a : Answer} → first_of ts reply ≡ answered a
-    → (tested ts ≡ Passed) × (reply ≡ answered a)
+    → (tested ts ≡ Ok tt) × (reply ≡ answered a)
 answered_past ts reply {a} e = go (tested ts) refl
   where
-    go : (x : Tested) → tested ts ≡ x → (tested ts ≡ Passed) × (reply ≡ answered a)
-    go (Failed w) p = absurd (never_both (first_failed ts w reply p) e)
-    go Passed p = (p, rw (first_passed ts reply p) at e)
+    go : (x : Result (Unit {0}) Refusal) → tested ts ≡ x → (tested ts ≡ Ok tt) × (reply ≡ answered a)
+    go (Err w) p = absurd (never_both (first_failed ts w reply p) e)
+    go (Ok tt) p = (p, rw (first_passed ts reply p) at e)

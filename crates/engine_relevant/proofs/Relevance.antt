@@ -1,11 +1,13 @@
 -- Which days are relevant, in the order in which the code asks.
 use Prim.Native.Nat.{ℕ, ◌+◌, ◌%◌, ◌≤◌, ◌<◌}
 use mathlib.Core.Path.{◌≡◌, refl, sym, ◌∙◌}
-use mathlib.Core.Bool.{Bool, true, false, cond, not, ◌&&◌, ◌||◌, and-true, and-false}
+use mathlib.Core.Bool.{Bool, true, false, cond, not, ◌||◌, and-true, and-false}
 use mathlib.Core.List.{List}
 use native.Mathlib.Omega.{arith}
 use lib.Dec.{eqb}
 use borrow.Author.Tests.{le-leb, lt-leb, eq-eqb, ne_eqb, eqb-false}
+use denote.Enum.Bare.{sameb}
+use Rattle.calendar_groups.specs.contracts.Group.{the_type}
 use Rattle.calendar_groups.specs.Holidays.{group, is_holiday}
 use Rattle.calendar_groups.specs.declared.Group.{Group}
 use Rattle.calendar_groups.specs.declared.Group.TheVariants.{Weekday, Saturday, HolidayGroup}
@@ -13,19 +15,29 @@ use Rattle.method.specs.declared.Request.{Request}
 use Rattle.method.specs.Relevant.{same_group, relevant}
 use Rattle.engine_relevant.specs.Steps.{relevant_to}
 
+weekdays : (g : Group) → sameb the_type g Weekday ≡ same_group g Weekday
+weekdays Weekday = refl
+weekdays Saturday = refl
+weekdays HolidayGroup = refl
+
 module _ (group : ℕ → Group) (own : Group) (r : Request) (d : ℕ) where
   pub too_early : d < r.participation → false ≡ relevant_to group own r d
   unfolding relevant_to
   too_early h = rw (lt-leb r.participation d h)
 
-  pub the_eve : (same_group own Weekday && eqb (d + 1) r.event) ≡ true → false ≡ relevant_to group own r d
+  -- an event of weekdays leaves the day before it out: `same` is what a comparison of the two groups tells
+  pub the_eve : {same : Bool} → same ≡ sameb the_type own Weekday → same ≡ true → d + 1 ≡ r.event → false ≡ relevant_to group own r d
   unfolding relevant_to
-  the_eve t = rw (t, and-false)
+  the_eve s t e = rw (sym (weekdays own) ∙ sym s ∙ t, eq-eqb (d + 1) r.event e, and-false)
 
-  pub by_group : r.participation ≤ d → (same_group own Weekday && eqb (d + 1) r.event) ≡ false
-      → same_group (group d) own ≡ relevant_to group own r d
-  unfolding relevant_to
-  by_group h t = rw (le-leb r.participation d h, t, and-true)
+  module _ (h : r.participation ≤ d) {same : Bool} (s : same ≡ sameb the_type own Weekday) where
+    pub no_eve : (d + 1 ≡ r.event → ⊥) → same_group (group d) own ≡ relevant_to group own r d
+    unfolding relevant_to
+    no_eve e = rw (le-leb r.participation d h, ne_eqb (d + 1) r.event e, and-false, and-true)
+
+    pub no_weekday : same ≡ false → same_group (group d) own ≡ relevant_to group own r d
+    unfolding relevant_to
+    no_weekday t = rw (le-leb r.participation d h, sym (weekdays own) ∙ sym s ∙ t, and-true)
 
 -- for the event's own group it is the methodology's
 pub relevant_to_lem : (group : ℕ → Group) (own : Group) (r : Request) (d : ℕ) → own ≡ group r.event → relevant_to group own r d ≡ relevant group r d

@@ -7,6 +7,8 @@ use native.Mathlib.Omega.{arith}
 use borrow.Author.Tests.{le-leb, lt-leb}
 use lib.Dec.{leb}
 use lib.ListN.{length, take, drop, length-take}
+use Rattle.method.specs.Table.{size, most_quarters}
+use Rattle.method.proofs.Tables.{size_most}
 use Rattle.engine_rooms.specs.Rooms.{readings_at}
 use Rattle.engine_rooms.specs.Steps.{readings_start, ReadingsAt}
 use Rattle.base_lists.proofs.Unique.{unique}
@@ -19,6 +21,10 @@ part_few size readings at = go (leb (at + size) (length readings))
     go : (b : Bool) → length (cond b (take size (drop at readings)) []) ≤ size
     go true = rw length-take (omega arith)
     go false = omega arith
+
+-- a day's part has no more readings than a day
+pub part_most : (readings : List ℕ) (at d : ℕ) {k : ℕ} → k ≡ size d → length (readings_at k readings at) ≤ most_quarters
+part_most readings at d {k} e = omega (arith, part_few k readings at, size_most d)
 
 module _ {size : ℕ} {readings : List ℕ} {at : ℕ} {whole : ℕ × ℕ} {part : List ℕ} {stands : ℕ × ℕ} (block : stands.0 ≡ whole.0) where
   pub part_inside : at + size ≤ length readings → part ≡ take size (drop at readings) → stands.1 ≡ whole.1 + 4 * at → ReadingsAt size readings at whole part stands

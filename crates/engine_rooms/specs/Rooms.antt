@@ -3,6 +3,7 @@ use Rattle.std.specs.Prelude.{ℕ, ◌+◌, ◌-◌, min, cond, List, [], length
 use Rattle.method.specs.declared.Request.{Request}
 use Rattle.method.specs.Table.{size, Day, History}
 use Rattle.engine_rooms.specs.declared.Directory.{Directory}
+use Rattle.engine_rooms.specs.declared.Case.{Case}
 
 -- the `size` readings that start at a place; none where they run past the end
 unfoldable pub readings_at : ℕ → List ℕ → ℕ → List ℕ
@@ -24,3 +25,7 @@ room_history r rooms readings =
       count = held_rooms r rooms;
       day = λ d. room_day r.event rooms readings (r.event - d);
     }
+
+-- the history that a case's rooms and readings are
+abbrev pub history_of : Case → History Day
+history_of c = room_history c.request c.rooms.now c.readings.now

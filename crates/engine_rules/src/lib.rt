@@ -5,20 +5,19 @@ ghost use Rattle.std.specs.Prelude.{◌≡◌, cond};
 ghost use Rattle.method.specs.AverageXofY.{seven_days};
 ghost use Rattle.engine_rules.specs.Steps.{first_ranks, middle_ranks, in_high, in_average, in_numbers};
 
-use base_numbers::counts;
 use calendar_groups::Group;
-use method::Request;
+use method::{Method, Request};
 
 // The order in which spare days fill a shortage: the highest first, or the latest.
-#[derive(Clone, Copy)]
+#[derive(Clone, Copy, Debug, PartialEq, Eq)]
 pub enum SpareOrder {
     Highest,
     Latest,
 }
 
 // The rules of a request as numbers: Y; up to how many days spares fill the window, and in which order; and by the window's size, 0 to 10, the
-// ranks passed over and the days taken.
-#[derive(Clone, Copy)]
+// ranks passed over and the days taken. Two tables, and no functions of a size: `rules_of` promises them, whole.
+#[derive(Clone, Copy, Debug, PartialEq, Eq)]
 pub struct Rules {
     pub most: u32,
     pub fill: u32,
@@ -59,8 +58,9 @@ fn high_x_of_y(group: Group) -> Rules
 {
     match group {
         Group::Weekday => first_ranks(10, 5, [0, 0, 0, 0, 0, 5, 5, 5, 5, 5, 5]),
-        Group::Saturday => first_ranks(3, 2, [0, 0, 2, 2, 2, 2, 2, 2, 2, 2, 2]),
-        Group::HolidayGroup => first_ranks(3, 2, [0, 0, 2, 2, 2, 2, 2, 2, 2, 2, 2]),
+        Group::Saturday | Group::HolidayGroup => {
+            first_ranks(3, 2, [0, 0, 2, 2, 2, 2, 2, 2, 2, 2, 2])
+        },
     }
 }
 
@@ -68,7 +68,7 @@ fn high_x_of_y(group: Group) -> Rules
 fn after_seven_days(request: Request, days: u32) -> u32
     ensures { result ≡ cond (seven_days request) days 0 }
 {
-    if 7 <= counts::minus(request.event, request.participation) {
+    if 7 <= request.event.saturating_sub(request.participation) {
         days
     } else {
         0
@@ -83,18 +83,19 @@ fn average_x_of_y(request: Request, group: Group) -> Rules
     let one = after_seven_days(request, 1);
     match group {
         Group::Weekday => middle_ranks(10, 4, [0, 0, two, two, 2, 2, 2, 2, 2, 2, 2]),
-        Group::Saturday => middle_ranks(4, 0, [0, one, 2, 2, 2, 2, 2, 2, 2, 2, 2]),
-        Group::HolidayGroup => middle_ranks(4, 0, [0, one, 2, 2, 2, 2, 2, 2, 2, 2, 2]),
+        Group::Saturday | Group::HolidayGroup => {
+            middle_ranks(4, 0, [0, one, 2, 2, 2, 2, 2, 2, 2, 2, 2])
+        },
     }
 }
 
 // The rules of a request on a day of this group.
+#[tactic(auto, using(method::proofs::Asked::asked_average, method::proofs::Asked::asked_high), unfolding(crate::specs::Steps::in_numbers))]
 pub fn rules_of(request: Request, group: Group) -> Rules
     ensures { result ≡ in_numbers group request }
 {
-    if request.method == method::AVERAGE_X_OF_Y {
-        average_x_of_y(request, group)
-    } else {
-        high_x_of_y(group)
+    match request.method() {
+        Method::HighXOfY => high_x_of_y(group),
+        Method::AverageXOfY => average_x_of_y(request, group),
     }
 }

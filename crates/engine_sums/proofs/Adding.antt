@@ -1,11 +1,13 @@
 -- Sums over days that are taken one after the other.
-use Rattle.std.proofs.Common.{◌≡◌, ℕ, zero, suc, ◌+◌, ◌-◌, ◌%◌, ◌^◌, ◌<◌, ◌≤◌, min, List, [], ◌∷◌, ◌++◌, map, length, get_or, take, drop, sym, ap, ◌∙◌, ⊎_elim, add-one, arith, length-append, length-drop, length-take, get_or-drop, get_or-take, ext_get_or, w32, Fits}
+use Rattle.std.proofs.Common.{◌≡◌, ℕ, zero, suc, ◌+◌, ◌-◌, ◌%◌, ◌^◌, ◌<◌, ◌≤◌, min, List, [], ◌∷◌, ◌++◌, map, replicate, length, get_or, take, drop, sym, ap, ◌∙◌, ⊎_elim, add-one, arith, length-append, length-drop, length-take, get_or-drop, get_or-take, ext_get_or, w32, Fits}
 use lib.ListN.{get_or-append, get_or-eq_default}
 use Rattle.base_lists.specs.Lists.{sum_of, places}
 use Rattle.base_lists.proofs.Bools.{lt-or-le}
 use Rattle.base_lists.proofs.Parts.{get_or-append_past}
 use Rattle.engine_rooms.specs.Rooms.{readings_at}
-use Rattle.base_lists.proofs.Places.{length_over, at_place, over_same}
+use Rattle.std.proofs.lemmas.List.{take_all}
+use Rattle.std.proofs.lemmas.Simd.{splat_is_map}
+use Rattle.base_lists.proofs.Places.{length-places, length_over, at_place, over_same}
 use Rattle.engine_sums.specs.QuarterSteps.{quarter_sum}
 
 -- ---- one day more
@@ -22,9 +24,11 @@ module _ (size : ℕ) (readings at : List ℕ) (start n : ℕ) where
     pub long : length sums ≡ n
     pub done : sums ≡ map (λ q. quarter_sum size readings (take k at) (start + q) % 2 ^ 32) (places n 0)
 
-  pub added_begin : {sums : List ℕ} → sums ≡ map (λ q. 0) (places n 0) → Added sums 0
+  pub added_begin : {sums : List ℕ} → sums ≡ replicate n 0 → Added sums 0
   unfolding quarter_sum sum_of
-  added_begin e = record { long = ap length e ∙ length_over (λ q. 0) n 0; done = e }
+  added_begin e =
+      let f = e ∙ splat_is_map (places n 0) n 0 (length-places n 0) in
+      record { long = ap length f ∙ length_over (λ q. 0) n 0; done = f }
 
   module _ {sums : List ℕ} {k : ℕ} (w : Added sums k) where
     pub added_next : {next day : List ℕ} → k < length at → day ≡ readings_at size readings (get_or at k 0)
@@ -46,10 +50,13 @@ module _ (size : ℕ) (readings at : List ℕ) (start n : ℕ) where
             let day_is = ap (λ l. get_or l (start + q) 0) p in
             rw (add-one k) (omega (arith, m, day_is, rw z at here))
 
--- ---- the part of a day that meets the sums
-module _ (sums day : List ℕ) (start from n : ℕ) (bound : (i : ℕ) → Fits w32 (get_or sums i 0)) (f : from ≡ min start (length day))
-    (m : n ≡ min (length day - from) (length sums)) {ys : List ℕ}
-    (e : ys ≡ map (λ q. (get_or (take n sums) q 0 + get_or (take (from + n - from) (drop from day)) q 0) % 2 ^ 32) (places (length (take n sums)) 0)) where
+    pub added_end : length at ≤ k → sums ≡ map (λ q. quarter_sum size readings at (start + q) % 2 ^ 32) (places n 0)
+    added_end h = rw (take_all k at h) at w.done
+
+-- ---- the part of a day that meets the sums: `ys` is what its first `n` become
+module _ (sums day : List ℕ) (start from n : ℕ) (f : from ≡ min start (length day)) (m : n ≡ min (length day - from) (length sums)) {ys : List ℕ}
+    (e : ys ≡ map (λ q. (get_or (take n sums) q 0 + get_or (take (from + n - from) (drop from day)) q 0) % 2 ^ 32) (places (length (take n sums)) 0))
+    (bound : (i : ℕ) → Fits w32 (get_or (ys ++ drop n sums) i 0)) where
   part_size : length (take n sums) ≡ n
   part_size = rw length-take (omega arith)
 
@@ -95,4 +102,5 @@ module _ (sums day : List ℕ) (start from n : ℕ) (bound : (i : ℕ) → Fits 
               let o : length ys ≤ q = omega (arith, long) in
               let z : n + (q - length ys) ≡ q = omega (arith, long) in
               let none : get_or day (start + q) 0 ≡ 0 = get_or-eq_default day 0 (omega (arith, inside)) in
-              get_or-append_past ys (drop n sums) q 0 o ∙ get_or-drop n sums (q - length ys) 0 ∙ rw z (omega (arith, none, bound q))
+              let stays = rw z at (get_or-append_past ys (drop n sums) q 0 o ∙ get_or-drop n sums (q - length ys) 0) in
+              omega (arith, stays, none, bound q)

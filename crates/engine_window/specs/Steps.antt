@@ -39,4 +39,4 @@ row_window event numbers row size short =
 -- the window where the eligible days do not fill it
 abbrev pub few_window : Request → Numbers → Found → ℕ → ℕ → Window
 few_window r numbers found before reach =
-    row_window r.event numbers (filled_of numbers found).row (filled_of numbers found).size (ltb before reach)
+    row_window r.event numbers (filled_of numbers found).words (filled_of numbers found).count (ltb before reach)

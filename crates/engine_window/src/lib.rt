@@ -2,23 +2,20 @@
 // from the same row.
 #![tactic(auto)]
 
-ghost use Rattle.std.specs.Prelude.{◌≡◌, ◌≤◌, ◌<◌};
+ghost use Rattle.std.specs.Prelude.{◌≡◌, ◌≤◌, length};
 ghost use Rattle.calendar_groups.specs.Holidays.{group as group_of};
 ghost use Rattle.method.specs.Method.{whole_reach};
 ghost use Rattle.method.specs.Requested.{method_of};
-ghost use Rattle.engine_rooms.specs.Rooms.{room_history};
-ghost use Rattle.engine_rules.specs.Steps.{Sound};
-ghost use Rattle.engine_window.specs.Steps.{window_of, ranked, row_window, few_window};
+ghost use Rattle.engine_rooms.specs.Rooms.{history_of};
+ghost use Rattle.engine_window.specs.Steps.{window_of, row_window};
 
-use base_numbers::counts;
-use engine_look_back::Found;
-use engine_rooms::Directory;
+use engine_rooms::Case;
 use engine_rules::Rules;
-use method::Request;
 
 // The window of an event: whether the days held can't tell it (refusal 8), Y, its days by rank, how many they are, and of its ranks how many are passed
-// over and taken.
-#[derive(Clone, Copy)]
+// over and taken. It is not an Option by `short`: days and ranks of a short window are promised too, and ten places for the days
+// (`window_of`). It begins as `engine_choice::choose` does: one function for both would hand rules and what was found on by value, and be no plainer.
+#[derive(Clone, Copy, Debug, PartialEq, Eq)]
 pub struct Window {
     pub short: bool,
     pub most: u32,
@@ -28,60 +25,42 @@ pub struct Window {
     pub taken: u32,
 }
 
-// The days of the first words of a row.
-fn days_of(event: u32, row: [u64; 10], size: usize) -> [u32; 10]
-    requires { size ≤ 10 }
-    ensures { result ≡ ranked event row size }
+// The window of the words of its days, by rank.
+fn of_row(event: u32, rules: Rules, row: &[u64], short: bool) -> Window
+    requires { length row.now ≤ 10 }
+    ensures { result ≡ row_window event rules row.now (length row.now) short }
 {
-    let mut days = [0; 10];
-    let mut i = 0;
-    while i < size {
-        days[i] = engine_choice::day_of(event, row[i]);
-        i += 1;
-    }
-    days
-}
-
-// The window of a ranked row of so many days.
-fn of_row(event: u32, rules: Rules, row: [u64; 10], size: u32, short: bool) -> Window
-    requires { size ≤ 10 }
-    ensures { result ≡ row_window event rules row size short }
-{
+    let size = row.len();
     Window {
         short,
         most: rules.most,
-        days: days_of(event, row, size as usize),
-        size,
-        passed: rules.passed[size as usize],
-        taken: rules.taken[size as usize],
+        days: engine_choice::days_of(event, row),
+        size: size as u32,
+        passed: rules.passed[size],
+        taken: rules.taken[size],
     }
 }
 
-// The window where the eligible days do not fill it: spare days are put in, and a relevant day that is not held may have been eligible.
-fn among_few(moves: &[u32], request: Request, rules: Rules, found: Found, before: u32) -> Window
-    requires { Sound rules × (found.count < rules.most) }
-    ensures { result ≡ few_window request rules found before (whole_reach (method_of (group_of moves.now) request)) }
+// The window of an event, by rank. Where the eligible days do not fill it, spare days are put in, and a relevant day that is not held may have been
+// eligible.
+pub fn of_event(case: &Case<'_>) -> Window
+    ensures { result ≡ window_of (method_of (group_of case.now.moves.now) case.now.request) (history_of case.now) }
 {
-    let short = before < engine_relevant::whole_reach(moves, request);
-    let filled = engine_choice::filled(rules, found);
-    let row = filled.row;
-    of_row(request.event, rules, row, filled.size, short)
-}
-
-// The window of an event, by rank.
-pub fn of_event(moves: &[u32], request: Request, rooms: Directory, readings: &[u32]) -> Window
-    ensures { result ≡ window_of (method_of (group_of moves.now) request) (room_history request rooms readings.now) }
-{
-    let event = request.event;
-    let before = counts::minus(rooms.held, 1);
-    let group = calendar_groups::group_of(moves, event);
-    let rules = engine_rules::rules_of(request, group);
-    let spares = rules.spares;
-    let found = engine_look_back::look(moves, request, group, rules.most, spares, rooms, readings);
-    if found.count < rules.most {
-        among_few(moves, request, rules, found, before)
+    let event = case.request.event;
+    let group = calendar_groups::group_of(case.moves, event);
+    let rules = engine_rules::rules_of(case.request, group);
+    let found = engine_look_back::look(case, group, rules.most, rules.spares);
+    if found.eligible.count < rules.most {
+        let before = case.rooms.held.saturating_sub(1);
+        let short = before < engine_relevant::whole_reach(case.moves, case.request);
+        let window = engine_choice::filled(rules, found);
+        of_row(event, rules, &window.words[..window.count as usize], short)
     } else {
-        let eligible = found.eligible;
-        of_row(event, rules, eligible, rules.most, false)
+        of_row(
+            event,
+            rules,
+            &found.eligible.words[..rules.most as usize],
+            false,
+        )
     }
 }

@@ -14,7 +14,7 @@ pub const NEAREST: u32 = method::LOOK_BACK + 1;
 pub fn word(sum: u64, nearness: u32) -> u64
     ensures { result ≡ (64 * sum + nearness) % 2 ^ 64 }
 {
-    std::num::wrapping_add_u64(64 * (sum % TWO_TO_58), nearness as u64)
+    (64 * (sum % TWO_TO_58)).wrapping_add(u64::from(nearness))
 }
 
 // A day's nearness, out of its word.

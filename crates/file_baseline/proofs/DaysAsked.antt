@@ -5,7 +5,7 @@ use mathlib.Core.Bool.{Bool, true, false, ◌&&◌}
 use mathlib.Core.List.{List}
 use mathlib.Core.Logic.{⊎_elim}
 use native.Mathlib.Omega.{arith}
-use borrow.Author.Tests.{leb-true, ltb-true, le-leb, lt-leb, lt-ltb, le-ltb}
+use borrow.Author.Tests.{leb-true, ltb-true, le-leb, lt-ltb}
 use lib.Dec.{leb, ltb}
 use lib.ListN.{length}
 use Rattle.base_lists.proofs.Bools.{both, bool_cases, clash}
@@ -20,20 +20,12 @@ use Rattle.file_record.specs.declared.Span.{Span}
 use Rattle.file_record.specs.Steps.{table_within, span_within}
 use Rattle.file_record.proofs.Lengths.{marks_within}
 use Rattle.file_record.proofs.Spans.{span_marks_length, span_readings_length, span_longer}
+use Rattle.file_loading.proofs.Loading.{place, place_is}
 use Rattle.file_baseline.specs.Steps.{asked}
 
 module _ (shape : Shape) (event : ℕ) where
-  -- by each way out of the code
-  pub asked_early : event < shape.first → record { start = 0; end = 0 } ≡ asked shape event
-  unfolding asked
-  asked_early h = rw (lt-leb shape.first event h)
-
   module _ (since : shape.first ≤ event) where
-    pub asked_late : shape.days ≤ event - shape.first → record { start = 0; end = 0 } ≡ asked shape event
-    unfolding asked
-    asked_late h = rw (le-leb shape.first event since, le-ltb (event - shape.first) shape.days h)
-
-    pub asked-held : event - shape.first < shape.days → {start : ℕ} → start ≡ event - shape.first - 45
+    asked-held : event - shape.first < shape.days → {start : ℕ} → start ≡ event - shape.first - 45
         → record { start = start; end = event - shape.first + 1 } ≡ asked shape event
     unfolding asked
     asked-held h s = rw (s, le-leb shape.first event since, lt-ltb (event - shape.first) shape.days h)
@@ -73,6 +65,11 @@ module _ (shape : Shape) (event : ℕ) where
 
 pub asks_of : (shape : Shape) {event : ℕ} {s : Span} → s ≡ asked shape event → Asks shape event s
 asks_of shape {event} e = rw e (asks shape event)
+
+-- how many readings they have
+pub asked_count : (shape : Shape) (event : ℕ) {from to : ℕ} {s : Span} → s ≡ asked shape event → to ≡ offset shape.first s.end → from ≡ offset shape.first s.start
+    → (from ≤ to) × (to - from ≡ place shape s s.end)
+asked_count shape event {s = s} is t f = rw (t, f) (place_is shape s s.end (asks_of shape is).low)
 
 -- a day that does not lie within a table is not held
 never_held : (t : Table) {d : ℕ} → (t.first ≤ d → d < t.first + held_days t → ⊥) → held (history t) d ≡ false

@@ -10,12 +10,12 @@ use Rattle.base_lists.proofs.Bools.{clash}
 use Rattle.base_lists.proofs.Leading.{leading_most, leading_stops, leading_goes_on}
 use Rattle.calendar_dates.specs.Days.{last_day}
 use Rattle.method.specs.declared.Request.{Request}
-use Rattle.method.specs.declared.Refusal.TheVariants.{BadFile, NoEvent}
+use Rattle.method.specs.declared.Refusal.{Refusal}
 use Rattle.method.specs.Table.{Table, offset, most_quarters, good_reading, history, is_extract}
 use Rattle.method.specs.Verdict.{refused, table_refusals, verdict}
 use Rattle.method.proofs.Tables.{offset_most}
 use Rattle.engine_rooms.specs.Agree.{Agree}
-use Rattle.engine_refusals.specs.declared.Tested.TheVariants.{Passed}
+use Rattle.std.specs.Prelude.{Result, Ok, Err}
 use Rattle.engine_refusals.specs.Steps.{tested}
 use Rattle.engine_baseline.specs.Engine.{over_rooms}
 use Rattle.table_days.specs.Lent.{table_of}
@@ -26,9 +26,6 @@ use Rattle.table_engine.specs.Steps.{over_table}
 use Rattle.table_baseline.proofs.Tables.{over_rooms_lem}
 use Rattle.file_record.specs.declared.Shape.{Shape}
 use Rattle.file_record.specs.declared.Span.{Span}
-use Rattle.file_record.specs.declared.Read.TheVariants.{Refused as RefusedRead}
-use Rattle.file_record.specs.declared.EventAt.{EventAt}
-use Rattle.file_record.specs.declared.EventAt.TheVariants.{Event, NoEvent as NoneThere, Refused as RefusedEvent}
 use Rattle.file_record.specs.Reader.{read_file, list_in, table_in, event_at_place}
 use Rattle.file_record.specs.Steps.{table_within, span_within}
 use Rattle.file_record.proofs.Files.{shape_fits}
@@ -41,23 +38,19 @@ use Rattle.file_baseline.specs.Reply.{file_reply}
 use Rattle.file_baseline.specs.Steps.{LaidDown, Loaded, asked}
 use Rattle.file_baseline.proofs.DaysAsked.{asks, asks_of, rooms_agree}
 
--- ---- the event at a place
-module _ (file : List ℕ) (place room : ℕ) {at : EventAt} (s : at ≡ event_at_place (read_file file) file place) where
-  pub refused_there : {n : ℕ} → at ≡ RefusedEvent n → file_reply file place room ≡ refused (BadFile n)
+-- ---- the file, and the event at a place
+pub refused_file : (file : List ℕ) (place room : ℕ) {w : Refusal} → read_file file ≡ Err w → file_reply file place room ≡ refused w
+unfolding file_reply
+refused_file file place room e = rw e
+
+module _ (file : List ℕ) (place room : ℕ) {at : Result Request Refusal} (s : at ≡ event_at_place (read_file file) file place) where
+  pub refused_there : {w : Refusal} → at ≡ Err w → file_reply file place room ≡ refused w
   unfolding file_reply
   refused_there e = rw (← s, e)
 
-  pub none_there : at ≡ NoneThere → file_reply file place room ≡ refused NoEvent
-  unfolding file_reply
-  none_there e = rw (← s, e)
-
-  pub event_there : {request : Request} → at ≡ Event request → file_reply file place room ≡ verdict (list_in file) (table_in file) request (room / 4)
+  pub event_there : {request : Request} → at ≡ Ok request → file_reply file place room ≡ verdict (list_in file) (table_in file) request (room / 4)
   unfolding file_reply
   event_there e = rw (← s, e)
-
-pub refused_file : (file : List ℕ) (place room : ℕ) {at : ℕ} → read_file file ≡ RefusedRead at → file_reply file place room ≡ refused (BadFile at)
-unfolding file_reply
-refused_file file place room e = rw e
 
 -- ---- loading
 module _ {file : List ℕ} {shape : Shape} (q : LaidDown file shape) where
@@ -151,9 +144,16 @@ module _ {file : List ℕ} {shape : Shape} {marks : List ℕ} (q : LaidDown file
   pub its_table : table_of shape.first marks (table_in file).readings ≡ table_in file
   its_table = rw (m, ← own_table q) (unfold table_within in refl)
 
+  -- 1 and 2 of it, as the code finds them
+  pub of_early : {count : ℕ} {found : Result (Unit {0}) Refusal} → count ≡ offset shape.first shape.days
+      → ((readings : List ℕ) → length readings ≡ count → found ≡ tested (take 2 (table_refusals (table_of shape.first marks readings))))
+      → tested (take 2 (table_refusals (table_in file))) ≡ found
+  of_early n f =
+      sym (f (table_in file).readings (its_count q ∙ sym n) ∙ ap (λ (t : Table). tested (take 2 (table_refusals t))) its_table)
+
 -- ---- the file as a store: the engine over the rooms of what an event can ask for gives the verdict
 module _ {file : List ℕ} {shape : Shape} {s : Span} {rooms marks : List ℕ} (q : Loaded file shape s rooms) (m : marks ≡ (table_in file).marks) (r : Request)
-    (is : s ≡ asked shape r.event) (passed : tested (table_refusals (table_in file)) ≡ Passed) where
+    (is : s ≡ asked shape r.event) (passed : tested (table_refusals (table_in file)) ≡ Ok tt) where
   extract : is_extract (table_within shape file) ≡ true
   extract = rw (own_table q.laid_down) (table_passed (table_in file) passed).extract
 

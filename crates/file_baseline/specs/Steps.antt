@@ -1,14 +1,13 @@
 -- What the private functions of a file's baseline ask.
-use Rattle.std.specs.Prelude.{ℕ, ◌+◌, ◌-◌, ◌≤◌, ◌≡◌, cond, ◌&&◌, List, leb, ltb}
+use Rattle.std.specs.Prelude.{ℕ, ◌+◌, ◌-◌, ◌≤◌, ◌≡◌, cond, ◌&&◌, List, leb, ltb, Ok}
 use Rattle.file_record.specs.declared.Shape.{Shape}
 use Rattle.file_record.specs.declared.Span.{Span}
-use Rattle.file_record.specs.declared.Read.TheVariants.{File}
 use Rattle.file_record.specs.Reader.{read_file}
 use Rattle.file_record.specs.Steps.{span_within}
 
 -- the file is as laid down, and of this shape
 pub record LaidDown (file : List ℕ) (shape : Shape) : Type 0 where
-  pub accepted : read_file file ≡ File shape
+  pub accepted : read_file file ≡ Ok shape
 
 -- the days that an event can ask for: D and the 45 days before it, as far as the file holds them; none where it does not hold D
 unfoldable pub asked : Shape → ℕ → Span

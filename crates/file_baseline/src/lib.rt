@@ -10,30 +10,27 @@ ghost use Rattle.engine_refusals.specs.Steps.{tested};
 ghost use Rattle.file_record.specs.Reader.{list_in, table_in};
 ghost use Rattle.table_bytes.specs.Output.{AnswersInBytes};
 ghost use Rattle.file_baseline.specs.Reply.{file_reply};
-ghost use Rattle.file_baseline.specs.Steps.{LaidDown, Loaded, asked as asked_of};
+ghost use Rattle.file_baseline.specs.Steps.{LaidDown, Loaded, asked as days_asked};
 
-use base_numbers::counts;
 use calendar_groups::MOST_MOVES;
 use engine_answer::Answer;
-use engine_refusals::Tested;
-use file_record::{EventAt, Read, Shape, Span};
+use file_record::{Shape, Span};
 use method::{QUARTERS, Refusal, Request};
+use table_days::LentTable;
 
 // Room for the readings of any days that an event can ask for, and for two more: the compiler then places the buffer at a multiple of 16 bytes, and
 // where it does not a call takes a tenth longer (docs/BENCHMARKS.md).
 const ROOM: usize = QUARTERS * engine_rooms::DAYS + 2;
 
 // The days that an event can ask for: D and the 45 days before it, as far as the file holds them; none where it does not hold D.
+#[tactic(auto, unfolding(crate::specs::Steps::asked))]
 fn asked(shape: Shape, event: u32) -> Span
-    ensures { result ≡ asked_of shape event }
+    ensures { result ≡ days_asked shape event }
 {
-    if event < shape.first {
-        return Span { start: 0, end: 0 };
-    }
-    let before = event - shape.first;
-    if before < shape.days {
+    if shape.first <= event && event - shape.first < shape.days {
+        let before = event - shape.first;
         Span {
-            start: counts::minus(before, method::LOOK_BACK),
+            start: before.saturating_sub(method::LOOK_BACK),
             end: before + 1,
         }
     } else {
@@ -41,7 +38,8 @@ fn asked(shape: Shape, event: u32) -> Span
     }
 }
 
-// The place of the first bad reading of a file's table, of which the readings of a span are loaded.
+// The place of the first bad reading of a file's table, of which the readings of a span are loaded; their number where there is none, as `leading` has
+// it.
 fn first_bad_reading(file: &[u8], shape: Shape, span: Span, rooms: &[u32]) -> usize
     requires { Loaded file.now shape span rooms.now }
     ensures { result ≡ leading good_reading (table_in file.now).readings }
@@ -67,23 +65,23 @@ fn first_bad_reading(file: &[u8], shape: Shape, span: Span, rooms: &[u32]) -> us
 }
 
 // Refusals 1 to 3 over the whole table of a file, of which the marks and the readings of a span are loaded.
-fn of_file(file: &[u8], shape: Shape, span: Span, marks: &[u8], rooms: &[u32]) -> Tested
+fn of_file(
+    file: &[u8],
+    shape: Shape,
+    span: Span,
+    marks: &[u8],
+    rooms: &[u32],
+) -> Result<(), Refusal>
     requires { Loaded file.now shape span rooms.now × (marks.now ≡ (table_in file.now).marks) }
     ensures { result ≡ tested (table_refusals (table_in file.now)) }
 {
     let count = day_ruler::offset(shape.first, shape.days);
-    let of_marks = table_refusals::of_marks(shape.first, marks, count);
-    match of_marks {
-        Tested::Failed(refusal) => Tested::Failed(refusal),
-        Tested::Passed => {
-            let reading = first_bad_reading(file, shape, span, rooms);
-            if reading < count {
-                Tested::Failed(Refusal::BadReading(reading as u32))
-            } else {
-                Tested::Passed
-            }
-        }
+    table_refusals::of_marks(shape.first, marks, count)?;
+    let reading = first_bad_reading(file, shape, span, rooms);
+    if reading < count {
+        return Err(Refusal::BadReading(reading as u32));
     }
+    Ok(())
 }
 
 // The baseline of an event over the table of a file of this shape, whose marks and the days that the event can ask for are loaded. Its
@@ -96,77 +94,61 @@ fn loaded_baseline(
     marks: &[u8],
     rooms: &[u32],
     out: &mut [u8],
-) -> Answer
-    requires { Loaded file.now shape span rooms.now × (marks.now ≡ (table_in file.now).marks) × (span ≡ asked_of shape request.event) }
+) -> Result<Answer, Refusal>
+    requires { Loaded file.now shape span rooms.now × (marks.now ≡ (table_in file.now).marks) × (span ≡ days_asked shape request.event) }
     ensures { AnswersInBytes (verdict (list_in file.now) (table_in file.now) request (length out.old / 4)) result out.old out.new }
 {
-    let of_file = of_file(file, shape, span, marks, rooms);
-    match of_file {
-        Tested::Failed(refusal) => engine_answer::refuse(refusal),
-        Tested::Passed => {
-            let start = span.start as usize;
-            let end = span.end as usize;
-            let mut moves = [0u32; 2 * MOST_MOVES];
-            file_moves::load_list(file, shape, &mut moves);
-            let numbers = 2 * (shape.moves as usize);
-            table_bytes::over_table_in_bytes(
-                shape.first + span.start,
-                &marks[start..end],
-                rooms,
-                &moves[..numbers],
-                request,
-                out,
-            )
-        }
-    }
+    of_file(file, shape, span, marks, rooms)?;
+    let start = span.start as usize;
+    let end = span.end as usize;
+    let mut moves = [0u32; 2 * MOST_MOVES];
+    file_moves::load_list(file, shape, &mut moves);
+    let numbers = 2 * (shape.moves as usize);
+    let part = LentTable {
+        first: shape.first + span.start,
+        marks: &marks[start..end],
+        readings: rooms,
+    };
+    table_bytes::over_table_in_bytes(&part, &moves[..numbers], request, out)
 }
 
 // The baseline of an event over the table of a file of this shape: what the event can ask for goes into rooms, and the other days are only
 // tested.
-fn event_baseline(file: &[u8], shape: Shape, request: Request, out: &mut [u8]) -> Answer
+fn event_baseline(
+    file: &[u8],
+    shape: Shape,
+    request: Request,
+    out: &mut [u8],
+) -> Result<Answer, Refusal>
     requires { LaidDown file.now shape }
     ensures { AnswersInBytes (verdict (list_in file.now) (table_in file.now) request (length out.old / 4)) result out.old out.new }
 {
     let span = asked(shape, request.event);
     let mut marks = [0u8; 128];
     let mut rooms = [0u32; ROOM];
-    if file_loading::load_within(file, shape, span, &mut marks, &mut rooms) {
-        let days = shape.days as usize;
-        let count = day_ruler::offset(shape.first, span.end)
-            - day_ruler::offset(shape.first, span.start);
-        loaded_baseline(
-            file,
-            shape,
-            request,
-            span,
-            &marks[..days],
-            &rooms[..count],
-            out,
-        )
-    } else {
-        engine_answer::refuse(Refusal::BadTable)
+    if !file_loading::load_within(file, shape, span, &mut marks, &mut rooms) {
+        return Err(Refusal::BadTable);
     }
-}
-
-// The baseline of the event at a place of a file of this shape. Refusal 12 fills no buffers.
-fn place_baseline(file: &[u8], shape: Shape, place: usize, out: &mut [u8]) -> Answer
-    requires { LaidDown file.now shape }
-    ensures { AnswersInBytes (file_reply file.now place (length out.old)) result out.old out.new }
-{
-    match file_events::event_within(file, shape, place) {
-        EventAt::Refused(at) => engine_answer::refuse(Refusal::BadFile(at)),
-        EventAt::NoEvent => engine_answer::refuse(Refusal::NoEvent),
-        EventAt::Event(request) => event_baseline(file, shape, request, out),
-    }
+    let days = shape.days as usize;
+    let count = day_ruler::offset(shape.first, span.end)
+        - day_ruler::offset(shape.first, span.start);
+    loaded_baseline(
+        file,
+        shape,
+        request,
+        span,
+        &marks[..days],
+        &rooms[..count],
+        out,
+    )
 }
 
 // The baseline of the event at a place, counted from 0: the first refusal that applies, or the answer, with the numerators in the first bytes of
 // the output. The file is read once.
-pub fn file_baseline(file: &[u8], place: usize, out: &mut [u8]) -> Answer
+pub fn file_baseline(file: &[u8], place: usize, out: &mut [u8]) -> Result<Answer, Refusal>
     ensures { AnswersInBytes (file_reply file.now place (length out.old)) result out.old out.new }
 {
-    match file_reading::read_file(file) {
-        Read::Refused(at) => engine_answer::refuse(Refusal::BadFile(at)),
-        Read::File(shape) => place_baseline(file, shape, place, out),
-    }
+    let shape = file_reading::read_file(file)?;
+    let request = file_events::event_within(file, shape, place)?;
+    event_baseline(file, shape, request, out)
 }

@@ -1,5 +1,5 @@
 -- A day of a file by its record, and one law for each way out of asking for a number of it.
-use Prim.Native.Nat.{ℕ, zero, suc, ◌+◌, ◌-◌, ◌*◌, ◌<◌, ◌≤◌}
+use Prim.Native.Nat.{ℕ, ◌+◌, ◌-◌, ◌*◌, ◌<◌, ◌≤◌}
 use mathlib.Core.Path.{◌≡◌, refl, ap, ◌∙◌}
 use mathlib.Core.Bool.{true, false}
 use mathlib.Core.List.{List, []}
@@ -12,26 +12,17 @@ use Rattle.base_lists.proofs.Bools.{both}
 use Rattle.method.specs.Table.{Table, Day, size, offset, day_of, held, history}
 use Rattle.method.proofs.Histories.{is_held}
 use Rattle.file_record.specs.declared.Shape.{Shape}
-use Rattle.file_record.specs.declared.Read.TheVariants.{File, Refused}
 use Rattle.file_record.specs.Reader.{number_at, dy_length, shape_base, day_start, marks_from, numbers, readings_from, read_file}
 use Rattle.file_record.specs.Steps.{table_within, span_within}
 use Rattle.file_record.proofs.Numbers.{number_drop}
 use Rattle.file_record.proofs.Starts.{day_start_within}
-use Rattle.file_record.proofs.Lengths.{numbers-length, marks_within, table_within_lem}
+use Rattle.file_record.proofs.Lengths.{numbers-length, numbers_at, marks_within, table_within_lem}
 use Rattle.file_record.proofs.Spans.{span, span_marks_length, span_longer}
 use Rattle.file_record.proofs.Files.{shape_fits}
-use Rattle.file_days.specs.declared.Found.TheVariants.{Number, NotThere}
 use Rattle.file_days.specs.Steps.{holds_day}
 use Rattle.file_days.specs.HeldDay.{mark_of, reading_of, mark_in, reading_in}
-
--- the numbers of four bytes that stand one after the other
-numbers_at : (count q : ℕ) (left : List ℕ) → q < count → get_or (numbers count left) q 0 ≡ number_at 4 (4 * q) left
-unfolding numbers
-numbers_at zero q left h = absurd (omega arith)
-numbers_at (suc count) zero left h = refl
-numbers_at (suc count) (suc q) left h =
-    let far : 4 * suc q ≡ 4 + 4 * q = omega arith in
-    rw far (numbers_at count q (drop 4 left) (omega arith) ∙ number_drop 4 4 (4 * q) left)
+use Rattle.std.specs.Prelude.{Some, None, Ok, Err}
+use Rattle.method.specs.declared.Refusal.{Refusal}
 
 -- what a record says of its day
 abbrev recorded : ℕ → List ℕ → Day
@@ -79,6 +70,10 @@ module _ (shape : Shape) (file : List ℕ) (d : ℕ) where
   pub holding_high : holds_day shape d ≡ true → d < shape.first + shape.days
   holding_high t = ltb-true d (shape.first + shape.days) (both (leb shape.first d) (ltb d (shape.first + shape.days)) t).1
 
+  -- so its record stands within the file
+  pub held_within : holds_day shape d ≡ true → day_start (shape_base shape) shape.first shape.days ≤ length file → place + dy_length d ≤ length file
+  held_within t = record_within (holding_low t) (holding_high t)
+
   pub holding_is : held (history (table_within shape file)) d ≡ holds_day shape d
   unfolding held
   holding_is = rw (marks_within shape file) (unfold table_within in refl)
@@ -86,30 +81,30 @@ module _ (shape : Shape) (file : List ℕ) (d : ℕ) where
   of_held : holds_day shape d ≡ true → day_of (table_within shape file) d ≡ recorded d (drop place file)
   of_held t = of_record (holding_low t) (holding_high t)
 
-  pub mark_there : holds_day shape d ≡ true → {x : ℕ} → x ≡ get_or file (place + 4) 0 → Number x ≡ mark_of (table_within shape file) d
+  pub mark_there : holds_day shape d ≡ true → {x : ℕ} → x ≡ get_or file (place + 4) 0 → Some x ≡ mark_of (table_within shape file) d
   unfolding mark_of
   mark_there t e = rw (holding_is, t, of_held t, get_or-drop place file 4 0, e)
 
-  pub mark_none : holds_day shape d ≡ false → NotThere ≡ mark_of (table_within shape file) d
+  pub mark_none : holds_day shape d ≡ false → None ≡ mark_of (table_within shape file) d
   unfolding mark_of
   mark_none t = rw (holding_is, t)
 
   module _ (q : ℕ) where
-    pub reading_there : holds_day shape d ≡ true → q < size d → {x : ℕ} → x ≡ number_at 4 (place + 6 + 4 * q) file → Number x ≡ reading_of (table_within shape file) d q
+    pub reading_there : holds_day shape d ≡ true → q < size d → {x : ℕ} → x ≡ number_at 4 (place + 6 + 4 * q) file → Some x ≡ reading_of (table_within shape file) d q
     unfolding reading_of
     reading_there t h e =
         rw (holding_is, t, lt-ltb q (size d) h, of_held t, numbers_at (size d) q (drop 6 (drop place file)) h, drop-drop 6 place file, number_drop 4 (place + 6) (4 * q) file, e)
 
-    pub reading_past : holds_day shape d ≡ true → size d ≤ q → NotThere ≡ reading_of (table_within shape file) d q
+    pub reading_past : holds_day shape d ≡ true → size d ≤ q → None ≡ reading_of (table_within shape file) d q
     unfolding reading_of
     reading_past t h = rw (holding_is, t, le-ltb q (size d) h)
 
-    pub reading_none : holds_day shape d ≡ false → NotThere ≡ reading_of (table_within shape file) d q
+    pub reading_none : holds_day shape d ≡ false → None ≡ reading_of (table_within shape file) d q
     unfolding reading_of
     reading_none t = rw (holding_is, t)
 
 -- the file that was read
-module _ (file : List ℕ) {shape : Shape} (r : read_file file ≡ File shape) where
+module _ (file : List ℕ) {shape : Shape} (r : read_file file ≡ Ok shape) where
   pub days_within : day_start (shape_base shape) shape.first shape.days ≤ length file
   days_within = omega (arith, (shape_fits file shape r).whole)
 
@@ -119,8 +114,8 @@ module _ (file : List ℕ) {shape : Shape} (r : read_file file ≡ File shape) w
   pub reading_is : (d q : ℕ) → reading_of (table_within shape file) d q ≡ reading_in (read_file file) file d q
   reading_is d q = rw r (ap (λ (t : Table). reading_of t d q) (table_within_lem file r))
 
-pub mark_refused : (file : List ℕ) (d : ℕ) {at : ℕ} → read_file file ≡ Refused at → NotThere ≡ mark_in (read_file file) file d
+pub mark_refused : (file : List ℕ) (d : ℕ) {refusal : Refusal} → read_file file ≡ Err refusal → None ≡ mark_in (read_file file) file d
 mark_refused file d r = rw r
 
-pub reading_refused : (file : List ℕ) (d q : ℕ) {at : ℕ} → read_file file ≡ Refused at → NotThere ≡ reading_in (read_file file) file d q
+pub reading_refused : (file : List ℕ) (d q : ℕ) {refusal : Refusal} → read_file file ≡ Err refusal → None ≡ reading_in (read_file file) file d q
 reading_refused file d q r = rw r

@@ -16,7 +16,7 @@ use Rattle.base_lists.proofs.Leading.{leading_most, leading_stops, leading_goes_
 use mathlib.Core.Bool.{Bool, true, false, ◌&&◌}
 use Rattle.file_record.specs.declared.Shape.{Shape}
 use Rattle.file_record.specs.declared.Span.{Span}
-use Rattle.file_record.specs.declared.Read.TheVariants.{File}
+use Rattle.std.specs.Prelude.{Ok}
 use Rattle.method.specs.Table.{size, offset, good_reading}
 use Rattle.file_record.specs.Reader.{number_at, dy_length, shape_base, day_start, marks_from, numbers, readings_from, read_file}
 use Rattle.file_record.specs.Steps.{table_within, span_within}
@@ -156,6 +156,26 @@ module _ (shape : Shape) (s : Span) (file : List ℕ) {k : ℕ} (low : s.start �
       (filling_part f part (readings_from (s.end - (k + 1)) (shape.first + (k + 1)) (drop (start shape (k + 1)) file)) (place shape s (k + 1))
       (omega arith) (omega (arith, place_within shape s (k + 1) (omega arith) (omega arith))) long (rw (p, a) its_readings))
 
+-- where such a day stands, and the part that its readings get
+pub record Inside (shape : Shape) (s : Span) (file : List ℕ) (k at from to : ℕ) : Type 0 where
+  pub starts : at ≡ start shape k
+  pub day : at + dy_length (shape.first + k) ≤ length file
+  pub order : from ≤ to
+  pub part : to - from ≡ size (shape.first + k)
+  pub last : to ≤ place shape s s.end
+
+pub inside : (shape : Shape) (s : Span) (file : List ℕ) {k base at from to : ℕ} → Stands file shape s → s.start ≤ k → k < s.end → base ≡ shape_base shape
+    → at ≡ day_start base shape.first k → from ≡ place shape s k → to ≡ place shape s (k + 1) → Inside shape s file k at from to
+inside shape s file q low more b a l r =
+    let part = part_size shape s file low more l r in
+    record {
+      starts = rw b at a;
+      day = day_within shape file (omega (arith, q.high)) b a q.long;
+      order = part.0;
+      part = part.1;
+      last = part_within shape s file low more r (omega arith);
+    }
+
 -- all days are loaded
 pub marks_loaded : (shape : Shape) (file before now : List ℕ) (k at : ℕ) → k ≤ shape.days → shape.days ≤ k
     → Filling before (marks_from shape.days shape.first (drop (shape_base shape) file)) now (marks_from (shape.days - k) (shape.first + k) (drop at file)) k
@@ -243,7 +263,7 @@ stands_in {shape} {s} {file} q =
     rw (le-leb s.start s.end q.low, le-leb s.end shape.days q.high, le-leb (start shape shape.days) (length file) q.long)
 
 -- a span of an accepted file stands in it
-pub stands_own : {file : List ℕ} {shape : Shape} → read_file file ≡ File shape → (s : Span) → s.start ≤ s.end → s.end ≤ shape.days → Stands file shape s
+pub stands_own : {file : List ℕ} {shape : Shape} → read_file file ≡ Ok shape → (s : Span) → s.start ≤ s.end → s.end ≤ shape.days → Stands file shape s
 stands_own {file} {shape} r s low high = record { low = low; high = high; long = omega (arith, (shape_fits file shape r).whole) }
 
 -- the first bad reading of a span, by each way out of the code
@@ -273,13 +293,19 @@ module _ (shape : Shape) (s : Span) (file : List ℕ) (marks readings : ℕ) whe
   unfolding fits_within
   fits_is = rw (marks_within shape file, span_readings_length shape file s)
 
-  pub fits_room : room ≡ true → (shape.days ≤ marks) × (place shape s s.end ≤ readings)
-  fits_room t =
-      let k = both (leb shape.days marks) (leb (place shape s s.end) readings) t in
-      (leb-true shape.days marks k.0, leb-true (place shape s s.end) readings k.1)
+  pub record Fitted : Type 0 where
+    pub stands : Stands file shape s
+    pub few : shape.days ≤ marks
+    pub enough : place shape s s.end ≤ readings
+
+  pub fitted : (stands_within shape s (length file) && room) ≡ true → Fitted
+  fitted t =
+      let both_of = both (stands_within shape s (length file)) room t in
+      let k = both (leb shape.days marks) (leb (place shape s s.end) readings) both_of.1 in
+      record { stands = stands_is shape s file both_of.0; few = leb-true shape.days marks k.0; enough = leb-true (place shape s s.end) readings k.1 }
 
   -- an accepted file is loaded into buffers that have room for its days
-  pub fits_own : read_file file ≡ File shape → s.start ≤ s.end → s.end ≤ shape.days → shape.days ≤ marks → place shape s s.end ≤ readings
+  pub fits_own : read_file file ≡ Ok shape → s.start ≤ s.end → s.end ≤ shape.days → shape.days ≤ marks → place shape s s.end ≤ readings
       → fits_within shape s file marks readings ≡ true
   fits_own r low high few enough =
       rw (fits_is, stands_in (stands_own r s low high), le-leb shape.days marks few, le-leb (place shape s s.end) readings enough)

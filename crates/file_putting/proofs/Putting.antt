@@ -1,18 +1,19 @@
 -- Records put first into a buffer: what is written and what is left to write are the record (`Filling`).
-use Prim.Native.Nat.{ℕ, ◌+◌, ◌-◌, ◌*◌, ◌/◌, ◌%◌, ◌≤◌, ◌<◌}
+use Prim.Native.Nat.{ℕ, ◌+◌, ◌-◌, ◌*◌, ◌≤◌, ◌<◌}
 use mathlib.Core.Path.{◌≡◌, refl, sym, ap, ◌∙◌}
 use mathlib.Core.Bool.{Bool, true, false, cond}
 use mathlib.Core.List.{List, [], ◌∷◌, ◌++◌, append-nil}
 use native.Mathlib.Omega.{arith}
 use borrow.Author.Tests.{le-leb, leb-true}
 use lib.Dec.{leb}
-use lib.ListN.{length, drop, set, length-set, length-append, length-drop, drop_of_length-le}
+use lib.ListN.{length, get_or, take, drop, set, length-set, length-append, length-drop, drop_of_length-le}
 use borrow.Rule.Slice.PartMut.{put_mid, mid_of, mid_len}
 use Rattle.base_lists.specs.Ascii.{ascii}
 use Rattle.base_bytes.specs.Bytes.{bytes, reading_bytes}
 use Rattle.base_bytes.specs.PutFirst.{put_first}
 use Rattle.base_bytes.proofs.Told.{tells_whole, tells_none}
-use Rattle.base_bytes.proofs.Bytes.{reading_length}
+use Rattle.base_bytes.proofs.Bytes.{reading_length, le_two}
+use Rattle.std.specs.Int.{w32, to_le_bytes}
 use Rattle.base_bytes.proofs.Filling.{Filling, filling_none, filling_one, filling_part, filled}
 use Rattle.file_record.specs.Layout.{pf_record, mv_record, dy_record, Event, ev_record}
 
@@ -23,6 +24,18 @@ put_exactly values buffer e =
     let fits : length values ≤ length buffer = omega arith in
     let none : length buffer ≤ length values = omega arith in
     rw (le-leb (length values) (length buffer) fits, drop_of_length-le buffer none) (append-nil values)
+
+-- a mark and a number of two bytes take the place of the first four
+pub head_is : (out mark : List ℕ) (number : ℕ) {part first : List ℕ} → 4 ≤ length out → length mark ≡ 2 → first ≡ mark → part ≡ take 2 (to_le_bytes w32 number)
+    → put_mid 2 2 (put_mid 0 2 out first) part ≡ (get_or mark 0 0 ∷ get_or mark 1 0 ∷ bytes 2 number) ++ drop 4 out
+head_is [] mark number h e f p = absurd (omega arith)
+head_is (a ∷ []) mark number h e f p = absurd (omega arith)
+head_is (a ∷ b ∷ []) mark number h e f p = absurd (omega arith)
+head_is (a ∷ b ∷ c ∷ []) mark number h e f p = absurd (omega arith)
+head_is (a ∷ b ∷ c ∷ d ∷ l) [] number h e f p = absurd (omega arith)
+head_is (a ∷ b ∷ c ∷ d ∷ l) (m ∷ []) number h e f p = absurd (omega arith)
+head_is (a ∷ b ∷ c ∷ d ∷ l) (m ∷ n ∷ []) number h e f p = rw (f, p ∙ le_two number) (unfold bytes in refl)
+head_is (a ∷ b ∷ c ∷ d ∷ l) (m ∷ n ∷ o ∷ k) number h e f p = absurd (omega arith)
 
 -- the head of a record is put, and the rest of it is left
 head_put : (before head left : List ℕ) {now : List ℕ} → length head ≡ 4 → 4 ≤ length before → now ≡ head ++ drop 4 before
@@ -81,14 +94,14 @@ module _ (before now : List ℕ) (participation portfolio : ℕ) (h : 8 ≤ leng
 
 -- an MV
 module _ (before now : List ℕ) (old new : ℕ) (h : 6 ≤ length before) (head : now ≡ (ascii "MV" ++ bytes 2 old) ++ drop 4 before) where
-  pub move_put : set (set now 4 (new % 256)) 5 (new / 256 % 256) ≡ put_first (mv_record old new) before
+  pub move_put : {part : List ℕ} → part ≡ take 2 (to_le_bytes w32 new) → put_mid 4 2 now part ≡ put_first (mv_record old new) before
   unfolding mv_record bytes
-  move_put =
-      let long : length now ≡ length before = omega (arith, ap length head, length-drop 4 before) in
+  move_put {part} p =
+      let is : part ≡ bytes 2 new = p ∙ le_two new in
+      let room : 6 ≤ length now = omega (arith, ap length head, length-drop 4 before) in
       let fill = head_put before (ascii "MV" ++ bytes 2 old) (bytes 2 new) refl (omega arith) head in
-      let low = filling_one fill (new % 256) (new / 256 % 256 ∷ []) (omega arith) refl in
-      let high = filling_one low (new / 256 % 256) [] (rw length-set (omega arith)) refl in
-      tells_whole (mv_record old new) before h (filled high refl)
+      let whole = filling_part fill part [] 6 (omega arith) room (ap length is) (rw is refl) in
+      tells_whole (mv_record old new) before h (filled whole refl)
 
 -- a DY
 module _ (before now : List ℕ) (day mark : ℕ) (readings : List ℕ) (h : 6 + 4 * length readings ≤ length before)

@@ -13,10 +13,8 @@ fn put_head(out: &mut [u8], mark: &[u8; 2], number: u32)
     requires { 4 ≤ length out.old }
     ensures { out.new ≡ (get_or mark.now 0 0 ∷ get_or mark.now 1 0 ∷ bytes 2 number) ++ drop 4 out.old }
 {
-    out[0] = mark[0];
-    out[1] = mark[1];
-    out[2] = (number % 256) as u8;
-    out[3] = (number / 256 % 256) as u8;
+    out[..2].copy_from_slice(mark);
+    out[2..4].copy_from_slice(&number.to_le_bytes()[..2]);
 }
 
 // A PF.
@@ -27,8 +25,7 @@ pub fn put_opening(out: &mut [u8], participation: u32, portfolio: u32)
         return;
     }
     put_head(out, b"PF", participation);
-    let one = [portfolio];
-    base_bytes::put_numbers(&mut out[4..PF_LENGTH], &one);
+    base_bytes::put_numbers(&mut out[4..PF_LENGTH], &[portfolio]);
 }
 
 // An MV.
@@ -39,18 +36,14 @@ pub fn put_move(out: &mut [u8], old: u32, new: u32)
         return;
     }
     put_head(out, b"MV", old);
-    out[4] = (new % 256) as u8;
-    out[5] = (new / 256 % 256) as u8;
+    out[4..MV_LENGTH].copy_from_slice(&new.to_le_bytes()[..2]);
 }
 
 // The DY of a day.
 pub fn put_day(out: &mut [u8], day: u32, mark: u8, readings: &[u32])
     ensures { out.new ≡ put_first (dy_record day mark readings.now) out.old }
 {
-    if out.len() < BEFORE_READINGS {
-        return;
-    }
-    if (out.len() - BEFORE_READINGS) / 4 < readings.len() {
+    if out.len() < BEFORE_READINGS || (out.len() - BEFORE_READINGS) / 4 < readings.len() {
         return;
     }
     put_head(out, b"DY", day);

@@ -2,6 +2,7 @@ pub mod Numbers
 pub mod Bytes
 pub mod Runs
 pub mod Starts
+pub mod Counts
 pub mod Records
 pub mod Files
 pub mod Events

@@ -12,7 +12,6 @@ use Rattle.base_lists.proofs.Bools.{both, bool_cases}
 use Rattle.method.specs.Table.{size}
 use Rattle.file_record.specs.Layout.{Below, pf_record, mv_record, dy_record, Event, ev_record, mv_records, dy_records, ev_records, Contents, file_of, Fits, fits_event}
 use Rattle.file_record.specs.declared.Shape.{Shape}
-use Rattle.file_record.specs.declared.Read.TheVariants.{File}
 use Rattle.file_record.specs.Reader.{pf_length, mv_length, moves_in, move_numbers, list_in}
 use Rattle.file_record.specs.Reader.{number_at, is_dy, ev_length, is_dy_of, dy_length, dy_day, days_from, file_base, first_in, days_in, day_start, event_start, events_in, shape_in, read_file}
 use Rattle.file_record.specs.Reader.{marks_from, numbers, readings_from, table_in, event_of, event_list, contents_in}
@@ -24,6 +23,7 @@ use Rattle.file_record.proofs.Files.{shape_fits}
 use Rattle.file_record.proofs.Lengths.{move_numbers-length, marks_length, readings_length}
 use Rattle.file_record.proofs.RefusedWhere.{each_day_in}
 use Rattle.base_bytes.specs.Bytes.{bytes, reading_bytes}
+use Rattle.std.specs.Prelude.{Ok}
 
 marks_below : (h d : ℕ) (left : List ℕ) → Below 256 left → Below 256 (marks_from h d left)
 unfolding marks_from
@@ -85,7 +85,7 @@ last_below file b = go (days_in file) refl
           number_below 2 2 at (below_drop (day_start (file_base file) (first_in file) k) file b),
         )
 
-pub says_what_fits : (file : List ℕ) (shape : Shape) → Below 256 file → read_file file ≡ File shape → Fits (contents_in file)
+pub says_what_fits : (file : List ℕ) (shape : Shape) → Below 256 file → read_file file ≡ Ok shape → Fits (contents_in file)
 unfolding contents_in list_in table_in shape_in
 says_what_fits file shape b r =
     let q : Accepted file shape = shape_fits file shape r in

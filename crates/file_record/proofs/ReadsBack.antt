@@ -9,7 +9,6 @@ use lib.ListN.{length, take, drop, length-append}
 use lib.Seq.{drop_at, drop-drop}
 use Rattle.method.specs.Table.{held_days, size, offset}
 use Rattle.file_record.specs.Layout.{pf_record, dy_record, Event, mv_records, dy_records, ev_records, Contents, file_of, Fits}
-use Rattle.file_record.specs.declared.Read.TheVariants.{File}
 use Rattle.file_record.specs.Reader.{number_at, opens_with, is_record, is_pf, pf_length, is_dy, dy_day, moves_from, moves_in, days_from, events_from, file_base, first_in, days_in}
 use Rattle.file_record.specs.Reader.{day_start, event_start, events_in, good_end, shape_in, read_file, list_in, table_in, contents_in, shape_of}
 use Rattle.file_record.proofs.Numbers.{number_drop}
@@ -19,6 +18,7 @@ use Rattle.file_record.proofs.Files.{event_start_first, event_start_more}
 use Rattle.file_record.proofs.Back.{moves_length, moves_back, move_numbers_back, no_move_left, day_is, day_day, days_length, first_long, days_back}
 use Rattle.file_record.proofs.Back.{marks_back, readings_back, events_back, event_list_back, events_length, no_day_left}
 use Rattle.base_bytes.specs.Bytes.{bytes}
+use Rattle.std.specs.Prelude.{Ok}
 
 first_of_lem : (d : ℕ) (ms rs : List ℕ) (es : List Event) → (length ms ≡ 0 → d ≡ 0) → d + length ms ≤ 256 ^ 2 → length rs ≡ offset d (length ms)
     → cond (is_dy (dy_records d ms rs ++ ev_records es)) (dy_day (dy_records d ms rs ++ ev_records es)) 0 ≡ d
@@ -124,7 +124,7 @@ module _ (c : Contents) (q : Fits c) where
         length-append (pf_record c.participation c.portfolio ++ mv ++ dy) ev,
       )
 
-  pub reads_back : (read_file (file_of c) ≡ File (shape_of c)) × (contents_in (file_of c) ≡ c)
+  pub reads_back : (read_file (file_of c) ≡ Ok (shape_of c)) × (contents_in (file_of c) ≡ c)
   unfolding read_file shape_in shape_of contents_in table_in
   reads_back = (
     rw (opens_back, eq-eqb (good_end (file_of c)) (length (file_of c)) end_back, participation_back, portfolio_back, moves_count_back, first_back, held_back, count_back),

@@ -1,35 +1,22 @@
 -- One law for each way in which the code tests a record.
-use Prim.Native.Nat.{ℕ, ◌+◌, ◌-◌, ◌^◌, ◌<◌, ◌≤◌}
+use Prim.Native.Nat.{ℕ, ◌+◌, ◌*◌, ◌^◌, ◌<◌, ◌≤◌}
 use mathlib.Core.Path.{◌≡◌, refl, sym, ◌∙◌}
-use mathlib.Core.Bool.{true, false, ◌&&◌, and-true, and-false, and_assoc}
+use mathlib.Core.Bool.{Bool, true, false, ◌&&◌, and-true, and-false, and_assoc}
 use mathlib.Core.List.{List}
 use mathlib.Core.Logic.{⊎_elim}
 use native.Mathlib.Omega.{arith}
-use native.Mathlib.Nat.{add-zero}
-use borrow.Author.Tests.{le-leb, lt-leb, leb-true, ltb-true, eq-eqb, eqb-true}
-use lib.ListN.{length, drop, get_or, length-drop}
+use borrow.Author.Tests.{lt-leb, le-leb, leb-true, ltb-true, eq-eqb, eqb-true, eqb-false, ne_eqb}
+use lib.ListN.{length, take, drop, get_or, length-drop}
 use lib.Seq.{get_or-drop}
+use native.Mathlib.Nat.{add-zero}
+use Rattle.std.specs.Int.{w16, from_le_bytes}
+use Rattle.byteorder.specs.Endian.{little_number}
+use Rattle.file_record.proofs.Numbers.{number_two, read_two}
 use lib.Dec.{eqb, leb, ltb}
 use Rattle.base_lists.proofs.Bools.{both, bool_cases}
 use Rattle.base_lists.specs.Ascii.{ascii}
 use Rattle.file_record.specs.Layout.{Event, fits_day, fits_event}
-use Rattle.file_record.specs.Reader.{opens_with, number_at, is_record, is_mv, mv_length, is_dy, is_ev, is_dy_of, dy_length, dy_day, ev_length}
-use Rattle.file_record.proofs.Numbers.{number_drop}
-
-pub opens_at : (file mark : List ℕ) (at : ℕ)
-    → (eqb (get_or file at 0) (get_or mark 0 0) && eqb (get_or file (at + 1) 0) (get_or mark 1 0)) ≡ opens_with mark (drop at file)
-unfolding opens_with
-opens_at file mark at = rw (get_or-drop at file 0 0, get_or-drop at file 1 0, add-zero at)
-
--- a record that is whole and has its mark
-module _ (file mark : List ℕ) (at size : ℕ) where
-  pub record_cut : length file - at < size → false ≡ is_record size mark (drop at file)
-  unfolding is_record
-  record_cut h = rw (length-drop at file, lt-leb size (length file - at) h)
-
-  pub record_marked : size ≤ length file - at → opens_with mark (drop at file) ≡ is_record size mark (drop at file)
-  unfolding is_record
-  record_marked h = rw (length-drop at file, le-leb size (length file - at) h) refl
+use Rattle.file_record.specs.Reader.{opens_with, is_record, is_mv, mv_length, is_dy, is_ev, is_dy_of, dy_length, dy_day, ev_length}
 
 pub whole_record : (size : ℕ) (mark left : List ℕ) → is_record size mark left ≡ true → size ≤ length left
 unfolding is_record
@@ -65,6 +52,10 @@ day_record day left = ⊎_elim named other (bool_cases (eqb (dy_day left) day))
         ≡ (is_record (dy_length day) (ascii "DY") left && (eqb (get_or left 5 0) 0 && eqb (dy_day left) day))
     other t = rw (t, and-false, and-false, and-false)
 
+pub day_at : (file : List ℕ) (at day : ℕ)
+    → is_dy_of day (drop at file) ≡ (is_record (dy_length day) (ascii "DY") (drop at file) && (eqb (get_or file (at + 5) 0) 0 && eqb (dy_day (drop at file)) day))
+day_at file at day = day_record day (drop at file) ∙ (rw (get_or-drop at file 5 0) refl)
+
 pub day_whole : (day : ℕ) (left : List ℕ) → is_dy_of day left ≡ true → dy_length day ≤ length left
 day_whole day left t =
     whole_record (dy_length day) (ascii "DY") left
@@ -81,14 +72,6 @@ day_named day left t = eqb-true (dy_day left) day (both (is_dy left) (eqb (dy_da
 pub named_day : (left : List ℕ) → is_dy_of (dy_day left) left ≡ is_dy left
 unfolding is_dy_of
 named_day left = rw (eq-eqb (dy_day left) (dy_day left) refl, and-true)
-
--- the zero byte and the day of a DY at a place of the file
-pub day_at : (file : List ℕ) (at day : ℕ) → is_record (dy_length day) (ascii "DY") (drop at file) ≡ true
-    → (eqb (get_or file (at + 5) 0) 0 && eqb (number_at 2 (at + 2) file) day) ≡ is_dy_of day (drop at file)
-day_at file at day t = rw (day_record day (drop at file), t, number_drop 2 at 2 file, get_or-drop at file 5 0)
-
-pub day_other : (left : List ℕ) (day : ℕ) → is_record (dy_length day) (ascii "DY") left ≡ false → false ≡ is_dy_of day left
-day_other left day t = rw (day_record day left, t)
 
 pub day_not : (left : List ℕ) (day : ℕ) → is_dy left ≡ false → false ≡ is_dy_of day left
 unfolding is_dy_of
@@ -122,3 +105,25 @@ event_fields v t =
       n = ltb-true v.n 256 to_n.1;
       method = ltb-true v.method 256 all.1;
     }
+
+-- a mark, tested as one number
+eqb_bytes : (a b x y : ℕ) → a < 256 → x < 256 → eqb (a + 256 * b) (x + 256 * y) ≡ (eqb a x && eqb b y)
+eqb_bytes a b x y f m = go (eqb a x) (eqb b y) refl refl
+  where
+    go : (p q : Bool) → eqb a x ≡ p → eqb b y ≡ q → eqb (a + 256 * b) (x + 256 * y) ≡ (eqb a x && eqb b y)
+    go true true s t = rw (s, t) (eq-eqb (a + 256 * b) (x + 256 * y) (omega (arith, eqb-true a x s, eqb-true b y t)))
+    go true false s t = rw (s, t) (ne_eqb (a + 256 * b) (x + 256 * y) (λ e. eqb-false b y t (omega (arith, e, eqb-true a x s))))
+    go false q s t = rw s (ne_eqb (a + 256 * b) (x + 256 * y) (λ e. eqb-false a x s (omega (arith, e))))
+
+pub marked : (file mark : List ℕ) (at n : ℕ) → ((i : ℕ) → get_or file i 0 < 256) → ((i : ℕ) → get_or mark i 0 < 256) → 2 ≤ n
+    → eqb (little_number 2 (take n (drop at file))) (from_le_bytes w16 mark) ≡ opens_with mark (drop at file)
+unfolding opens_with
+marked file mark at n f m h =
+    let its : from_le_bytes w16 mark ≡ get_or mark 0 0 + 256 * get_or mark 1 0 = omega arith in
+    rw (read_two at n file h, number_two at file, its, get_or-drop at file 0 0, get_or-drop at file 1 0, add-zero at)
+    (eqb_bytes (get_or file at 0) (get_or file (at + 1) 0) (get_or mark 0 0) (get_or mark 1 0) (f at) (m 0))
+
+pub record_marked : (file mark : List ℕ) (at size : ℕ) {opens : Bool} → at + size ≤ length file → opens ≡ opens_with mark (drop at file)
+    → opens ≡ is_record size mark (drop at file)
+unfolding is_record
+record_marked file mark at size h o = let whole : size ≤ length (drop at file) = omega (arith, length-drop at file) in rw (le-leb size (length (drop at file)) whole, o) refl

@@ -10,7 +10,6 @@ use lib.Arith.{lt_of_le-ne}
 use lib.ListN.{length, drop, length-drop}
 use lib.Seq.{drop-drop}
 use lib.Dec.{eqb}
-use Rattle.file_record.specs.declared.Read.TheVariants.{File, Refused}
 use Rattle.file_record.specs.Reader.{is_pf, pf_length, is_mv, mv_length, is_ev, ev_length, is_dy_of, dy_length, moves_from, moves_in, move_start, days_from, events_from}
 use Rattle.file_record.specs.Reader.{file_base, first_in, days_in, day_start, event_start, events_in}
 use Rattle.file_record.specs.Reader.{good_end, shape_in, read_file}
@@ -19,6 +18,9 @@ use Rattle.file_record.proofs.Starts.{day_start_none, day_start_from, day_start-
 use Rattle.file_record.proofs.Records.{day_whole, event_whole}
 use Rattle.file_record.proofs.Runs.{run_most, each, next, fits}
 use Rattle.file_record.proofs.Files.{base_within, event_start_first, event_start_more}
+use Rattle.std.specs.Prelude.{Ok, Err}
+use Rattle.method.specs.declared.Refusal.{Refusal}
+use Rattle.method.specs.declared.Refusal.TheVariants.{BadFile}
 
 -- the moves of a file, its days, and its events
 module _ (file : List ℕ) where
@@ -81,14 +83,25 @@ stops file at e place other =
           (next (λ j. is_ev) (λ j. ev_length) (λ j k. ev_length * k) (λ j. refl) (λ j k. omega arith) 64 0 left o);
     }
 
-pub refused_where : (file : List ℕ) (at : ℕ) → read_file file ≡ Refused at → ((is_pf file ≡ false) × (at ≡ 0)) ⊎ StopsAt file at
+pub refused_where : (file : List ℕ) (at : ℕ) → read_file file ≡ Err (BadFile at) → ((is_pf file ≡ false) × (at ≡ 0)) ⊎ StopsAt file at
 unfolding read_file days_in days_from events_in events_from good_end
 refused_where file at t = go (is_pf file) (eqb (good_end file) (length file)) refl refl t
   where
     go : (p q : Bool) → is_pf file ≡ p → eqb (good_end file) (length file) ≡ q
-        → cond p (cond q (File (shape_in file)) (Refused (good_end file))) (Refused 0) ≡ Refused at → ((is_pf file ≡ false) × (at ≡ 0)) ⊎ StopsAt file at
+        → cond p (cond q (Ok (shape_in file)) (Err (BadFile (good_end file)))) (Err (BadFile 0)) ≡ Err (BadFile at) → ((is_pf file ≡ false) × (at ≡ 0)) ⊎ StopsAt file at
     go true true e g r = let z : ◌≡◌ {A = ℕ} 0 1 = cc in absurd (omega arith)
     go true false e g r =
         let end : good_end file ≡ at = cc in
         inr (stops file at e (sym end) (λ same. eqb-false (good_end file) (length file) g (end ∙ same)))
     go false q e g r = inl (e, cc)
+
+-- a refusal is 11
+pub only_11 : (file : List ℕ) (w : Refusal) → read_file file ≡ Err w → (w ≡ BadFile 0) ⊎ (w ≡ BadFile (good_end file))
+unfolding read_file
+only_11 file w t = go (is_pf file) (eqb (good_end file) (length file)) t
+  where
+    go : (p q : Bool) → cond p (cond q (Ok (shape_in file)) (Err (BadFile (good_end file)))) (Err (BadFile 0)) ≡ Err w
+        → (w ≡ BadFile 0) ⊎ (w ≡ BadFile (good_end file))
+    go true true r = let z : ◌≡◌ {A = ℕ} 0 1 = cc in absurd (omega arith)
+    go true false r = inr cc
+    go false q r = inl cc

@@ -1,12 +1,13 @@
 -- Runs of records that are counted one after the other: `k` are passed, `at` is where the next one starts.
-use Prim.Native.Nat.{ℕ, zero, suc, ◌+◌, ◌-◌, ◌<◌, ◌≤◌}
-use mathlib.Core.Path.{◌≡◌, refl, ◌∙◌}
-use mathlib.Core.Bool.{Bool, true, false}
+use Prim.Native.Nat.{ℕ, zero, suc, ◌+◌, ◌<◌, ◌≤◌}
+use mathlib.Core.Path.{◌≡◌, refl, ap, ◌∙◌}
+use mathlib.Core.Bool.{Bool, true, false, cond}
 use mathlib.Core.List.{List}
 use native.Mathlib.Omega.{arith}
-use native.Mathlib.Nat.{add-zero, sub-zero}
+use native.Mathlib.Nat.{add-zero}
 use lib.ListN.{length, drop, length-drop}
 use lib.Seq.{drop-drop}
+use Rattle.std.specs.List.{prefix_len, range_with_len}
 use Rattle.file_record.specs.Reader.{run}
 
 module _ (good : ℕ → List ℕ → Bool) (record_length : ℕ → ℕ) where
@@ -23,35 +24,6 @@ module _ (good : ℕ → List ℕ → Bool) (record_length : ℕ → ℕ) where
   pub run_full : (i : ℕ) (left : List ℕ) → run good record_length 0 i left ≡ 0
   unfolding run
   run_full i left = refl
-
-  -- what is counted and what is left to count are the whole run
-  pub record Counted (most i : ℕ) (file : List ℕ) (start k at : ℕ) : Type 0 where
-    pub within : k ≤ most
-    pub fits : at ≤ length file
-    pub whole : run good record_length most i (drop start file) ≡ k + run good record_length (most - k) (i + k) (drop at file)
-
-  pub counted_none : (most i : ℕ) (file : List ℕ) (start : ℕ) → start ≤ length file → Counted most i file start 0 start
-  counted_none most i file start h = record { within = omega arith; fits = h; whole = rw (sub-zero, add-zero) (omega arith) }
-
-  module _ {most i : ℕ} {file : List ℕ} {start k at : ℕ} (q : Counted most i file start k at) where
-    pub counted_more : (next : ℕ) → k < most → good (i + k) (drop at file) ≡ true → record_length (i + k) ≤ length (drop at file)
-        → next ≡ at + record_length (i + k) → Counted most i file start (k + 1) next
-    counted_more next h t whole e =
-        let fewer : most - k ≡ suc (most - (k + 1)) = omega arith in
-        let later : suc (i + k) ≡ i + (k + 1) = omega arith in
-        record {
-          within = omega arith;
-          fits = omega (arith, length-drop at file);
-          whole =
-              q.whole
-              ∙ (rw (fewer, run_more (most - (k + 1)) (i + k) (drop at file) t, drop-drop (record_length (i + k)) at file, later, e) (omega arith));
-        }
-
-    pub counted_stops : good (i + k) (drop at file) ≡ false → k ≡ run good record_length most i (drop start file)
-    counted_stops t = omega (arith, q.whole, run_stops (most - k) (i + k) (drop at file) t)
-
-    pub counted_full : most ≤ k → k ≡ run good record_length most i (drop start file)
-    counted_full h = let none : most - k ≡ 0 = omega arith in omega (arith, (rw none at q.whole), run_full (i + k) (drop at file))
 
   -- a run is never longer than it may be
   pub run_most : (most i : ℕ) (left : List ℕ) → run good record_length most i left ≤ most
@@ -110,3 +82,20 @@ module _ (good : ℕ → List ℕ → Bool) (record_length : ℕ → ℕ) (span 
       go true e h =
           let k = run good record_length most (suc i) (drop (record_length i) left) in
           rw (run_more good record_length most i left e, cons i k) (omega (arith, length-drop (record_length i) left, whole i left e))
+
+-- a run, counted by the places of its records: the one numbered `i + k` starts at `start k`
+module _ (good : ℕ → List ℕ → Bool) (record_length : ℕ → ℕ) (file : List ℕ) (i : ℕ) (start : ℕ → ℕ)
+    (after : (k : ℕ) → start (k + 1) ≡ start k + record_length (i + k)) where
+  pub run_counts : (most k : ℕ)
+      → prefix_len (λ j. good (i + j) (drop (start j) file)) (range_with_len k most) ≡ run good record_length most (i + k) (drop (start k) file)
+  unfolding run
+  run_counts zero k = refl
+  run_counts (suc most) k =
+      let later : suc (i + k) ≡ i + (k + 1) = omega arith in
+      let one : 1 + run good record_length most (i + (k + 1)) (drop (start (k + 1)) file) ≡ suc (run good record_length most (i + (k + 1)) (drop (start (k + 1)) file)) = omega arith in
+      rw (drop-drop (record_length (i + k)) (start k) file, ← after k, later, run_counts most (k + 1))
+      (ap (λ (n : ℕ). cond (good (i + k) (drop (start k) file)) n 0) one)
+
+  pub run_from : (most : ℕ) {begin : ℕ} → start 0 ≡ begin
+      → prefix_len (λ j. good (i + j) (drop (start j) file)) (range_with_len 0 most) ≡ run good record_length most i (drop begin file)
+  run_from most s = run_counts most 0 ∙ (rw (add-zero i, s) refl)

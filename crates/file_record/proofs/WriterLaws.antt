@@ -17,24 +17,22 @@ use Rattle.file_record.specs.Reader.{move_start, read_file, contents_in, shape_o
 use Rattle.file_record.specs.Writer.{Lent, said, writing, leaving, Writes}
 use Rattle.file_record.specs.WriterLaws.{Wide, to_say, Wrote, WriterLaws}
 use Rattle.file_record.specs.declared.Shape.{Shape}
-use Rattle.file_record.specs.declared.Read.TheVariants.{File}
-use Rattle.file_record.specs.declared.Written.{Written}
-use Rattle.file_record.specs.declared.Written.TheVariants.{Length, Refused}
 use Rattle.file_record.proofs.Starts.{day_start_is}
 use Rattle.file_record.proofs.ReadsBack.{reads_back as file_reads_back}
 use Rattle.file_record.proofs.WrittenAgain.{written_again}
 use Rattle.file_record.proofs.Limits.{says_what_fits}
 use Rattle.file_record.proofs.Writing.{numbers_again, events_again, its_length, Accepts, accepts, fits_file, fits_matches, fits_says, wrote}
+use Rattle.std.specs.Prelude.{Result, Ok, Err}
 
 -- no two results meet the writer's contract
-pub writes_unique : {w : Lent} {out : List ℕ} {r r' : Written} {after after' : List ℕ} → Writes w out r after → Writes w out r' after'
+pub writes_unique : {w : Lent} {out : List ℕ} {r r' : Result ℕ Refusal} {after after' : List ℕ} → Writes w out r after → Writes w out r' after'
     → (r ≡ r') × (after ≡ after')
 writes_unique p q = (unique p.result q.result, unique p.output q.output)
 
 -- what is written stands first, and the rest is kept
-module _ (w : Lent) (out : List ℕ) (size : ℕ) (out' : List ℕ) (q : Writes w out (Length size) out') where
+module _ (w : Lent) (out : List ℕ) (size : ℕ) (out' : List ℕ) (q : Writes w out (Ok size) out') where
   file_first : out' ≡ file_of (said w) ++ drop size out
-  file_first = q.output ∙ unfold leaving in ap (λ (r : Written). leaving r (file_of (said w)) out) (sym q.result)
+  file_first = q.output ∙ unfold leaving in ap (λ (r : Result ℕ Refusal). leaving r (file_of (said w)) out) (sym q.result)
 
   its_size : size ≡ length (file_of (said w))
   its_size = (accepts w (length out) size q.result).is
@@ -64,39 +62,39 @@ module _ (w : Lent) (file : List ℕ) where
           offset_is w.table.first (held_days w.table),
         )
 
-  back : Wide w → Wrote w file → (read_file file ≡ File (shape_of (said w))) × (to_say (contents_in file) ≡ w)
+  back : Wide w → Wrote w file → (read_file file ≡ Ok (shape_of (said w))) × (to_say (contents_in file) ≡ w)
   back wide q =
       let b = file_reads_back (said w) (fits_file w wide (accepted q)) in
       (rw (it_is q) b.0, rw (it_is q) (ap to_say b.1 ∙ rw (numbers_again w.numbers (accepted q).say.five) refl))
 
 -- refused, the buffer is kept
-refused_kept : (w : Lent) (out : List ℕ) (why : Refusal) (out' : List ℕ) → Writes w out (Refused why) out' → out' ≡ out
+refused_kept : (w : Lent) (out : List ℕ) (why : Refusal) (out' : List ℕ) → Writes w out (Err why) out' → out' ≡ out
 unfolding leaving
-refused_kept w out why out' q = q.output ∙ ap (λ (r : Written). leaving r (file_of (said w)) out) (sym q.result)
+refused_kept w out why out' q = q.output ∙ ap (λ (r : Result ℕ Refusal). leaving r (file_of (said w)) out) (sym q.result)
 
 -- what a file says
-module _ (file : List ℕ) (shape : Shape) (bytes : Below 256 file) (r : read_file file ≡ File shape) where
+module _ (file : List ℕ) (shape : Shape) (bytes : Below 256 file) (r : read_file file ≡ Ok shape) where
   says_so : said (to_say (contents_in file)) ≡ contents_in file
   says_so = rw (events_again (contents_in file).events) refl
 
   same_file : file_of (said (to_say (contents_in file))) ≡ file
   same_file = ap file_of says_so ∙ written_again file shape bytes r
 
-  again_is : (out : List ℕ) (given : Written) (out' : List ℕ) → length file ≤ length out → Writes (to_say (contents_in file)) out given out'
-      → (given ≡ Length (length file)) × (out' ≡ file ++ drop (length file) out)
+  again_is : (out : List ℕ) (given : Result ℕ Refusal) (out' : List ℕ) → length file ≤ length out → Writes (to_say (contents_in file)) out given out'
+      → (given ≡ Ok (length file)) × (out' ≡ file ++ drop (length file) out)
   again_is out given out' room q =
       let c = contents_in file in
       let fits = says_what_fits file shape bytes r in
       writes_unique q (wrote (to_say c) out (fits_matches c fits) (fits_says c fits) (rw same_file room) (sym (ap length same_file)) (rw same_file refl))
 
-  never_unwritable : (room : ℕ) → writing (to_say (contents_in file)) room ≡ Refused Unwritable → ⊥
+  never_unwritable : (room : ℕ) → writing (to_say (contents_in file)) room ≡ Err Unwritable → ⊥
   unfolding writing
   never_unwritable room e =
       let c = contents_in file in
       let fits = says_what_fits file shape bytes r in
       go (leb (length (file_of (said (to_say c)))) room) (rw (fits_matches c fits, fits_says c fits) at e)
     where
-      go : (f : Bool) → cond f (Length (length (file_of (said (to_say (contents_in file)))))) (Refused NoRoom) ≡ Refused Unwritable → ⊥
+      go : (f : Bool) → cond f (Ok (length (file_of (said (to_say (contents_in file)))))) (Err NoRoom) ≡ Err Unwritable → ⊥
       go true e = let z : ◌≡◌ {A = ℕ} 0 1 = cc in omega arith
       go false e = let z : ◌≡◌ {A = ℕ} 0 1 = cc in omega arith
 

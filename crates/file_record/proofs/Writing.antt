@@ -21,10 +21,9 @@ use Rattle.file_record.specs.Layout.{Event, Contents, pf_record, mv_records, dy_
 use Rattle.file_record.specs.Reader.{ev_length, move_start, day_start}
 use Rattle.file_record.specs.Writer.{Lent, events_of, said, matching, days_in_bounds, few_of, sayable, writing, leaving, Writes}
 use Rattle.file_record.specs.WriterLaws.{Wide, numbers_of}
-use Rattle.file_record.specs.declared.Written.{Written}
-use Rattle.file_record.specs.declared.Written.TheVariants.{Length, Refused}
 use Rattle.file_record.proofs.Starts.{day_start_from}
 use Rattle.file_record.proofs.Back.{moves_length, days_length, events_length}
+use Rattle.std.specs.Prelude.{Result, Ok, Err}
 
 -- ---- events as numbers
 pub events_count : (numbers : List ℕ) → length (events_of numbers) ≡ length numbers / 5
@@ -217,12 +216,12 @@ module _ (w : Lent) where
     pub say : Says w.participation w.table.first (held_days w.table) w.moves w.numbers
     pub is : size ≡ length (file_of (said w))
 
-  pub accepts : (room size : ℕ) → Length size ≡ writing w room → Accepts room size
+  pub accepts : (room size : ℕ) → Ok size ≡ writing w room → Accepts room size
   unfolding writing
   accepts room size r = go matches_it says_it (leb (length (file_of (said w))) room) refl refl refl r
     where
       go : (m s f : Bool) → matches_it ≡ m → says_it ≡ s → leb (length (file_of (said w))) room ≡ f
-          → Length size ≡ cond m (cond s (cond f (Length (length (file_of (said w)))) (Refused NoRoom)) (Refused Unwritable)) (Refused BadTable)
+          → Ok size ≡ cond m (cond s (cond f (Ok (length (file_of (said w)))) (Err NoRoom)) (Err Unwritable)) (Err BadTable)
           → Accepts room size
       go true true true m s f r =
           let same : size ≡ length (file_of (said w)) = cc in
@@ -240,31 +239,31 @@ module _ (w : Lent) where
     abbrev room : ℕ
     room = length out
 
-    refuses : (why : Refusal) → Refused why ≡ writing w room → Writes w out (Refused why) out
+    refuses : (why : Refusal) → Err why ≡ writing w room → Writes w out (Err why) out
     unfolding leaving
     refuses why e = record { result = e; output = go (writing w room) e }
       where
-        go : (r : Written) → Refused why ≡ r → out ≡ leaving r (file_of (said w)) out
-        go (Length size) e = absurd (let z : ◌≡◌ {A = ℕ} 0 1 = cc in omega arith)
-        go (Refused other) e = refl
+        go : (r : Result ℕ Refusal) → Err why ≡ r → out ≡ leaving r (file_of (said w)) out
+        go (Ok size) e = absurd (let z : ◌≡◌ {A = ℕ} 0 1 = cc in omega arith)
+        go (Err other) e = refl
 
-    pub no_match : matches_it ≡ false → Writes w out (Refused BadTable) out
+    pub no_match : matches_it ≡ false → Writes w out (Err BadTable) out
     no_match m = refuses BadTable (unfold writing in rw m)
 
     module _ (m : matches_it ≡ true) where
-      pub unsaid : says_it ≡ false → Writes w out (Refused Unwritable) out
+      pub unsaid : says_it ≡ false → Writes w out (Err Unwritable) out
       unsaid s = refuses Unwritable (unfold writing in rw (m, s))
 
       module _ (s : says_it ≡ true) where
-        pub no_room : room < length (file_of (said w)) → Writes w out (Refused NoRoom) out
+        pub no_room : room < length (file_of (said w)) → Writes w out (Err NoRoom) out
         no_room h = refuses NoRoom (unfold writing in rw (m, s, lt-leb (length (file_of (said w))) room h))
 
-        its_writing : length (file_of (said w)) ≤ room → writing w room ≡ Length (length (file_of (said w)))
+        its_writing : length (file_of (said w)) ≤ room → writing w room ≡ Ok (length (file_of (said w)))
         unfolding writing
         its_writing h = rw (m, s, le-leb (length (file_of (said w))) room h)
 
         pub wrote : {size : ℕ} {out' : List ℕ} → length (file_of (said w)) ≤ room → size ≡ length (file_of (said w)) → out' ≡ file_of (said w) ++ drop size out
-            → Writes w out (Length size) out'
+            → Writes w out (Ok size) out'
         unfolding leaving
         wrote {size} {out'} h e o = record { result = rw (its_writing h, e) refl; output = o ∙ rw (its_writing h, e) refl }
 

@@ -13,7 +13,6 @@ use Rattle.method.specs.Table.{size}
 use Rattle.file_record.specs.Layout.{Below, pf_record, mv_record, dy_record, ev_record, mv_records, dy_records, ev_records, file_of}
 use Rattle.base_lists.specs.Ascii.{ascii}
 use Rattle.file_record.specs.declared.Shape.{Shape}
-use Rattle.file_record.specs.declared.Read.TheVariants.{File}
 use Rattle.file_record.specs.Reader.{number_at, opens_with, is_record, is_pf, pf_length, is_mv, mv_length, is_ev, ev_length, is_dy_of, dy_length, dy_day, run, moves_from, days_from, events_from}
 use Rattle.file_record.specs.Reader.{moves_in, move_numbers, list_in}
 use Rattle.file_record.specs.Reader.{file_base, first_in, days_in, day_start, event_start, events_in, shape_in, read_file, marks_from, numbers, readings_from, table_in, event_of, event_list, contents_in}
@@ -26,6 +25,7 @@ use Rattle.file_record.proofs.Runs.{run_more, run_stops, run_full}
 use Rattle.file_record.proofs.Files.{shape_fits, event_start_first, event_start_more, end_is_length}
 use Rattle.file_record.proofs.Lengths.{numbers-length}
 use Rattle.base_bytes.specs.Bytes.{bytes, reading_bytes}
+use Rattle.std.specs.Prelude.{Ok}
 
 -- some elements from a place on, one by one
 abbrev firsts : ℕ → ℕ → List ℕ → List ℕ
@@ -219,7 +219,7 @@ opening_again file b t =
     ∙ file_again file b t
 
 -- an accepted file is the file of its contents
-pub written_again : (file : List ℕ) (shape : Shape) → Below 256 file → read_file file ≡ File shape → file_of (contents_in file) ≡ file
+pub written_again : (file : List ℕ) (shape : Shape) → Below 256 file → read_file file ≡ Ok shape → file_of (contents_in file) ≡ file
 unfolding file_of contents_in table_in days_in days_from events_in events_from shape_in
 written_again file shape b r =
     let q : Accepted file shape = shape_fits file shape r in

@@ -1,17 +1,14 @@
 -- 01, "Record file, listing, host entry": which files are as laid down, and what they say. MV is of document 02, order 2, and the method of its
 -- order 3. A test or a number of a record looks at the bytes that are left from the record's start on; a byte past the end counts as 0.
-use Rattle.std.specs.Prelude.{ℕ, zero, suc, ◌+◌, ◌*◌, ◌/◌, Bool, cond, ◌&&◌, List, [], ◌∷◌, ◌++◌, length, get_or, drop, leb, ltb, eqb}
+use Rattle.std.specs.Prelude.{ℕ, zero, suc, ◌+◌, ◌*◌, ◌/◌, Bool, cond, ◌&&◌, List, [], ◌∷◌, ◌++◌, length, get_or, drop, leb, ltb, eqb, Option, Some, None, Result, Ok, Err}
 use Rattle.method.specs.declared.Request.{Request}
 use Rattle.method.specs.Table.{Table, held_days, size}
 use Rattle.file_record.specs.Layout.{Event, Contents}
 use Rattle.base_lists.specs.Ascii.{ascii}
 use Rattle.file_record.specs.declared.Shape.{Shape}
-use Rattle.file_record.specs.declared.Read.{Read}
-use Rattle.file_record.specs.declared.Read.TheVariants.{File, Refused}
-use Rattle.file_record.specs.declared.MoveAt.{MoveAt}
-use Rattle.file_record.specs.declared.MoveAt.TheVariants.{Move, NoMove, Refused as RefusedMove}
-use Rattle.file_record.specs.declared.EventAt.{EventAt}
-use Rattle.file_record.specs.declared.EventAt.TheVariants.{Event as AnEvent, NoEvent, Refused as RefusedEvent}
+use Rattle.file_record.specs.declared.Move.{Move}
+use Rattle.method.specs.declared.Refusal.{Refusal}
+use Rattle.method.specs.declared.Refusal.TheVariants.{BadFile, NoEvent}
 
 -- "numbers are little-endian": the number that stands at a place, `width` bytes wide
 unfoldable pub number_at : ℕ → ℕ → List ℕ → ℕ
@@ -135,9 +132,9 @@ shape_in file =
     }
 
 -- "Anything else, a cut record or one too many is refused at that record's start; an empty file at 0."
-unfoldable pub read_file : List ℕ → Read
+unfoldable pub read_file : List ℕ → Result Shape Refusal
 read_file file =
-    cond (is_pf file) (cond (eqb (good_end file) (length file)) (File (shape_in file)) (Refused (good_end file))) (Refused 0)
+    cond (is_pf file) (cond (eqb (good_end file) (length file)) (Ok (shape_in file)) (Err (BadFile (good_end file)))) (Err (BadFile 0))
 
 -- the numbers of so many MV, two for each
 unfoldable pub move_numbers : ℕ → List ℕ → List ℕ
@@ -211,14 +208,14 @@ unfoldable pub request_at : List ℕ → ℕ → Request
 request_at file place = request_of (number_at 2 2 file) (event_of (drop (event_start file place) file))
 
 -- refusal 12: "no event at that place"
-abbrev pub event_at_place : Read → List ℕ → ℕ → EventAt
-event_at_place (File shape) file place = cond (ltb place shape.events) (AnEvent (request_at file place)) NoEvent
-event_at_place (Refused at) file place = RefusedEvent at
+abbrev pub event_at_place : Result Shape Refusal → List ℕ → ℕ → Result Request Refusal
+event_at_place (Ok shape) file place = cond (ltb place shape.events) (Ok (request_at file place)) (Err NoEvent)
+event_at_place (Err refusal) file place = Err refusal
 
 -- the move at a place, counted from 0
-unfoldable pub move_at : List ℕ → ℕ → MoveAt
-move_at file place = let left = drop (move_start place) file in Move (number_at 2 2 left) (number_at 2 4 left)
+unfoldable pub move_at : List ℕ → ℕ → Move
+move_at file place = let left = drop (move_start place) file in record { old = number_at 2 2 left; new = number_at 2 4 left }
 
-abbrev pub move_at_place : Read → List ℕ → ℕ → MoveAt
-move_at_place (File shape) file place = cond (ltb place shape.moves) (move_at file place) NoMove
-move_at_place (Refused at) file place = RefusedMove at
+abbrev pub move_at_place : Result Shape Refusal → List ℕ → ℕ → Result (Option Move) Refusal
+move_at_place (Ok shape) file place = Ok (cond (ltb place shape.moves) (Some (move_at file place)) None)
+move_at_place (Err refusal) file place = Err refusal

@@ -1,12 +1,11 @@
 -- Document 02, order 1: "From P, a portfolio number, an extract and up to 64 events, write the file into a lent buffer and report its length."; and,
 -- by order 2, from a list of moves. Order 3 gives each event its method.
-use Rattle.std.specs.Prelude.{ℕ, ◌+◌, ◌/◌, ◌%◌, ◌^◌, ◌≡◌, Bool, cond, ◌&&◌, ◌||◌, List, [], ◌∷◌, ◌++◌, length, drop, leb, ltb, eqb}
+use Rattle.std.specs.Prelude.{ℕ, ◌+◌, ◌/◌, ◌%◌, ◌^◌, ◌≡◌, Bool, cond, ◌&&◌, ◌||◌, List, [], ◌∷◌, ◌++◌, length, drop, leb, ltb, eqb, Result, Ok, Err}
 use Rattle.base_lists.specs.Lists.{all}
 use Rattle.method.specs.declared.Refusal.TheVariants.{BadTable, NoRoom, Unwritable}
 use Rattle.method.specs.Table.{Table, held_days, offset}
 use Rattle.file_record.specs.Layout.{Event, Contents, file_of, fits_day, fits_event}
-use Rattle.file_record.specs.declared.Written.{Written}
-use Rattle.file_record.specs.declared.Written.TheVariants.{Length, Refused}
+use Rattle.method.specs.declared.Refusal.{Refusal}
 
 -- what is lent: P, a portfolio number, an extract, a list of moves, and events as numbers, five for each: D, s, e, n and the method
 pub record Lent : Type 0 where
@@ -65,18 +64,18 @@ sayable participation first days moves numbers =
     days_in_bounds participation first days && few_of 2 16 (length moves) && all fits_day moves && few_of 5 64 (length numbers) && all fits_event (events_of numbers)
 
 -- "Refusals: 1 .., then 13 .., then 7 for room", where `room` is the buffer's length; else the file's length
-unfoldable pub writing : Lent → ℕ → Written
+unfoldable pub writing : Lent → ℕ → Result ℕ Refusal
 writing w room =
     let size = length (file_of (said w)) in
-    let fits = cond (leb size room) (Length size) (Refused NoRoom) in
-    let says = cond (sayable w.participation w.table.first (held_days w.table) w.moves w.numbers) fits (Refused Unwritable) in
-    cond (matching w.table.first (held_days w.table) (length w.table.readings)) says (Refused BadTable)
+    let fits = cond (leb size room) (Ok size) (Err NoRoom) in
+    let says = cond (sayable w.participation w.table.first (held_days w.table) w.moves w.numbers) fits (Err Unwritable) in
+    cond (matching w.table.first (held_days w.table) (length w.table.readings)) says (Err BadTable)
 
 -- what the buffer holds afterwards: the file first and the rest kept; "nothing is written on any" refusal
-unfoldable pub leaving : Written → List ℕ → List ℕ → List ℕ
-leaving (Length size) file out = file ++ drop size out
-leaving (Refused why) file out = out
+unfoldable pub leaving : Result ℕ Refusal → List ℕ → List ℕ → List ℕ
+leaving (Ok size) file out = file ++ drop size out
+leaving (Err why) file out = out
 
-pub record Writes (w : Lent) (out : List ℕ) (r : Written) (out' : List ℕ) : Type 0 where
+pub record Writes (w : Lent) (out : List ℕ) (r : Result ℕ Refusal) (out' : List ℕ) : Type 0 where
   pub result : r ≡ writing w (length out)
   pub output : out' ≡ leaving (writing w (length out)) (file_of (said w)) out

@@ -1,7 +1,7 @@
 // Where the records of a file start.
 #![tactic(auto)]
 
-ghost use Rattle.std.specs.Prelude.{◌≡◌};
+ghost use Rattle.std.specs.Prelude.{◌≡◌, ◌+◌, ◌*◌, ◌≤◌};
 ghost use Rattle.file_record.specs.Reader.{move_start, shape_base, day_start};
 
 use file_record::Shape;
@@ -27,7 +27,8 @@ pub const MOST_EVENTS: u32 = 64;
 
 // Where the k-th DY starts, counted from 0, the first standing at `base`; after the last DY, where the first EV does.
 pub fn day_start(base: u32, first: u32, k: u32) -> usize
-    ensures { result ≡ day_start base first k }
+    ensures start { result ≡ day_start base first k }
+    ensures most { result ≤ base + 390 * k }
 {
     (base as usize) + BESIDE_READINGS * (k as usize) + 4 * day_ruler::offset(first, k)
 }

@@ -1,73 +1,58 @@
--- The tests of what a file can say: one law for each way out of the code.
-use Prim.Native.Nat.{ℕ, ◌+◌, ◌*◌, ◌/◌, ◌^◌, ◌≤◌, ◌<◌}
-use mathlib.Core.Path.{◌≡◌, refl, sym, ◌∙◌}
-use mathlib.Core.Bool.{Bool, true, false, ◌&&◌, and-false, true≢false}
-use mathlib.Core.List.{List}
+-- The tests of what a file can say: what std asks of a list is what the definitions ask of it.
+use Prim.Native.Nat.{ℕ, suc, ◌+◌, ◌/◌, ◌≤◌, ◌<◌}
+use mathlib.Core.Path.{◌≡◌, refl, sym, ap, ◌∙◌}
+use mathlib.Core.Bool.{Bool, true, false, ◌&&◌}
+use mathlib.Core.List.{List, [], ◌∷◌}
 use native.Mathlib.Omega.{arith}
-use borrow.Author.Tests.{le-leb, lt-leb}
-use lib.ListN.{length, drop}
-use lib.Dec.{ltb, eqb}
+use lib.ListN.{length, get_or, drop, drop_of_length-le}
+use lib.Seq.{drop-cons}
+use Rattle.std.specs.Prelude.{slice_index}
+use Rattle.std.specs.Simd.{first_chunks}
+use Rattle.std.specs.List.{list_all}
 use Rattle.base_lists.specs.Lists.{all}
-use Rattle.base_lists.proofs.Bools.{both}
-use Rattle.method.specs.Table.{offset}
-use Rattle.file_record.specs.Layout.{fits_day, fits_event}
-use Rattle.file_record.specs.Writer.{events_of, matching, days_in_bounds, few_of, sayable}
-use Rattle.file_record.proofs.Writing.{event_at, events_more, events_none}
+use Rattle.file_record.specs.Layout.{Event, fits_event}
+use Rattle.file_record.specs.Writer.{events_of}
 
--- refusal 1
-module _ (first days readings : ℕ) where
-  pub too_many : 128 < days → false ≡ matching first days readings
-  unfolding matching
-  too_many h = rw (lt-leb days 128 h)
+-- what `all` of std says is what ours does
+pub all_is : (p : ℕ → Bool) (xs : List ℕ) → list_all p xs ≡ all p xs
+unfolding all
+all_is p [] = refl
+all_is p (x ∷ xs) = ap (λ (b : Bool). p x && b) (all_is p xs)
 
-  pub few_enough : {size : ℕ} → days ≤ 128 → size ≡ offset first days → eqb readings size ≡ matching first days readings
-  unfolding matching
-  few_enough h e = rw (le-leb days 128 h, e)
+-- the numbers of the events, five for each
+abbrev pub fives : List ℕ → List (List ℕ)
+fives numbers = first_chunks 5 (length numbers / 5) numbers
 
--- the events of refusal 13, one after the other
-module _ (numbers : List ℕ) (i : ℕ) {whole : Bool} (left : all fits_event (events_of (drop (5 * i) numbers)) ≡ whole) where
-  pub one_fits : 5 * i + 5 ≤ length numbers → fits_event (event_at numbers i) ≡ true → all fits_event (events_of (drop (5 * (i + 1)) numbers)) ≡ whole
-  unfolding all
-  one_fits h t = sym (rw (events_more numbers i h, t) refl) ∙ left
+fives-cons : (d s e n m : ℕ) (more : List ℕ) → fives (d ∷ s ∷ e ∷ n ∷ m ∷ more) ≡ (d ∷ s ∷ e ∷ n ∷ m ∷ []) ∷ fives more
+fives-cons d s e n m more =
+    let one : suc (suc (suc (suc (suc (length more))))) / 5 ≡ suc (length more / 5) = omega arith in
+    ap (λ (k : ℕ). first_chunks 5 k (d ∷ s ∷ e ∷ n ∷ m ∷ more)) one
 
-  pub one_does_not : 5 * i + 5 ≤ length numbers → fits_event (event_at numbers i) ≡ false → false ≡ whole
-  unfolding all
-  one_does_not h t = sym (rw (events_more numbers i h, t) refl) ∙ left
+-- the event of five numbers
+abbrev pub event_of : List ℕ → Event
+event_of five =
+    record { day = slice_index five 0; s = slice_index five 1; e = slice_index five 2; n = slice_index five 3; method = slice_index five 4 }
 
-  pub none_left : length numbers / 5 ≤ i → true ≡ whole
-  unfolding all
-  none_left h = sym (rw (events_none numbers i h) refl) ∙ left
+-- the events of refusal 13, by their numbers
+pub each_fits : (numbers : List ℕ) → list_all (λ five. fits_event (event_of five)) (fives numbers) ≡ all fits_event (events_of numbers)
+unfolding all events_of
+each_fits [] = refl
+each_fits (d ∷ []) = refl
+each_fits (d ∷ s ∷ []) = refl
+each_fits (d ∷ s ∷ e ∷ []) = refl
+each_fits (d ∷ s ∷ e ∷ n ∷ []) = refl
+each_fits (d ∷ s ∷ e ∷ n ∷ m ∷ more) = rw (fives-cons d s e n m more, each_fits more) refl
 
--- refusal 13
-module _ (participation first days : ℕ) where
-  pub days_over : 256 ^ 2 < days → false ≡ days_in_bounds participation first days
-  unfolding days_in_bounds
-  days_over h = let over : 256 ^ 2 < first + days = omega arith in rw (lt-leb (first + days) (256 ^ 2) over, and-false (ltb participation (256 ^ 2))) refl
+-- whether those from the place `i` on fit, one after the other
+abbrev pub each_left : List (List ℕ) → ℕ → Bool
+each_left each i = list_all (λ five. fits_event (event_of five)) (drop i each)
 
-  module _ (moves numbers : List ℕ) {b m e : Bool} (bounds : b ≡ days_in_bounds participation first days) (few : m ≡ few_of 2 16 (length moves))
-      (events : e ≡ few_of 5 64 (length numbers)) where
-    abbrev moved : Bool
-    moved = all fits_day moves
+module _ (each : List (List ℕ)) (i : ℕ) {whole : Bool} (left : each_left each i ≡ whole) where
+  pub one_fits : i < length each → fits_event (event_of (get_or each i [])) ≡ true → each_left each (i + 1) ≡ whole
+  one_fits h t = let s : i + 1 ≡ suc i = omega arith in rw s (sym (rw (drop-cons each i [] h, t) refl) ∙ left)
 
-    abbrev fields : Bool
-    fields = all fits_event (events_of numbers)
+  pub one_does_not : i < length each → fits_event (event_of (get_or each i [])) ≡ false → false ≡ whole
+  one_does_not h t = sym (rw (drop-cons each i [] h, t) refl) ∙ left
 
-    tests : ((((b && m) && moved) && e) && fields) ≡ sayable participation first days moves numbers
-    unfolding sayable
-    tests = rw (bounds, few, events) refl
-
-    pub say_events : (b && m && e) ≡ true → {fit all_fit : Bool} → fit ≡ moved → fit ≡ true → all_fit ≡ fields → all_fit ≡ sayable participation first days moves numbers
-    say_events t f y a =
-        let k = both (b && m) e t in
-        a ∙ sym (rw (k.0, sym f ∙ y, k.1) refl) ∙ tests
-
-    pub say_moves : {fit : Bool} → fit ≡ moved → fit ≡ false → false ≡ sayable participation first days moves numbers
-    say_moves f n = sym (rw (sym f ∙ n, and-false (b && m)) refl) ∙ tests
-
-    pub say_early : (b && m && e) ≡ false → false ≡ sayable participation first days moves numbers
-    say_early n = go (b && m) e refl n ∙ tests
-      where
-        go : (x y : Bool) → (b && m) ≡ x → (x && y) ≡ false → false ≡ (((x && moved) && y) && fields)
-        go true true s n = absurd (true≢false n)
-        go true false s n = rw (and-false moved) refl
-        go false y s n = refl
+  pub none_left : length each ≤ i → true ≡ whole
+  none_left h = sym (rw (drop_of_length-le each h) refl) ∙ left

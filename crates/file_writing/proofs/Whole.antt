@@ -10,7 +10,7 @@ use lib.Seq.{length-take-le}
 use borrow.Rule.Slice.PartMut.{post_of}
 use Rattle.method.specs.declared.Refusal.TheVariants.{NoRoom}
 use Rattle.file_record.specs.declared.Shape.{Shape}
-use Rattle.file_record.specs.declared.Written.TheVariants.{Length, Refused}
+use Rattle.std.specs.Prelude.{Ok, Err}
 use Rattle.file_record.specs.Layout.{file_of}
 use Rattle.file_record.specs.Reader.{move_start, ev_length, shape_base, day_start}
 use Rattle.file_record.specs.Writer.{Lent, lent, said, matching, sayable, Writes}
@@ -36,6 +36,10 @@ module _ (participation portfolio first : ℕ) (marks readings moves numbers : L
     pub said_so : sayable participation first (length marks) moves numbers ≡ true
     pub starts : start ≡ day_start (shape_base shape) first (length marks)
 
+  pub passed_by : {start : ℕ} → matching first (length marks) (length readings) ≡ true → sayable participation first (length marks) moves numbers ≡ true
+      → start ≡ day_start (shape_base shape) first (length marks) → Passed start
+  passed_by m s e = record { matched = m; said_so = s; starts = e }
+
 module _ {participation portfolio first : ℕ} {marks readings moves numbers : List ℕ} {start : ℕ}
     (q : Passed participation portfolio first marks readings moves numbers start) where
   abbrev w : Lent
@@ -59,7 +63,7 @@ module _ {participation portfolio first : ℕ} {marks readings moves numbers : L
       omega (arith, day_start_most (move_start (length moves / 2)) first (length marks), match.few, say.few, say.few_moves)
 
   module _ (out : List ℕ) where
-    pub too_short : length out < end → Writes w out (Refused NoRoom) out
+    pub too_short : length out < end → Writes w out (Err NoRoom) out
     too_short h = no_room w out q.matched q.said_so (omega (arith, end_is))
 
     module _ (room : end ≤ length out) where
@@ -75,5 +79,5 @@ module _ {participation portfolio first : ℕ} {marks readings moves numbers : L
             whole = rw (sub-zero end) (length-take-le end out room);
           }
 
-      pub written : {file : List ℕ} → file ≡ file_of (said w) → Writes w out (Length end) (file ++ post_of 0 (end - 0) out)
+      pub written : {file : List ℕ} → file ≡ file_of (said w) → Writes w out (Ok end) (file ++ post_of 0 (end - 0) out)
       written f = wrote w out q.matched q.said_so (omega (arith, end_is)) end_is (rw (f, sub-zero end) refl)

@@ -9,23 +9,21 @@ ghost use Rattle.file_record.specs.Reader.{mv_length, ev_length, shape_base, day
 ghost use Rattle.file_record.specs.Writer.{events_of, lent, said, Writes};
 ghost use Rattle.file_writing.specs.Steps.{lent_by, Shaped};
 
-use file_record::{Shape, Written};
+use file_record::Shape;
 use file_starts::{EV_LENGTH, MV_LENGTH, PF_LENGTH};
 use file_writable::EVENT_NUMBERS;
 use method::Refusal;
 
-// The MV of the moves, into as many bytes as they have.
+// The MV of the moves, into as many bytes as they have. The parts are cut by their places, here and below: of those of `chunks_exact_mut` no clause says
+// what they hold afterwards.
 fn put_moves(out: &mut [u8], moves: &[u32])
     requires { length out.old ≡ mv_length * (length moves.now / 2) }
     ensures { out.new ≡ mv_records moves.now }
 {
-    let count = moves.len() / 2;
-    let mut i = 0;
-    while i < count {
+    for i in 0..moves.len() / 2 {
         let start = MV_LENGTH * i;
         let end = start + MV_LENGTH;
         file_putting::put_move(&mut out[start..end], moves[2 * i], moves[2 * i + 1]);
-        i += 1;
     }
 }
 
@@ -44,9 +42,7 @@ fn put_days(out: &mut [u8], first: u32, marks: &[u8], readings: &[u32])
     requires { (length marks.now ≤ 128) × (first + length marks.now ≤ 256 ^ 2) × (length readings.now ≡ offset first (length marks.now)) × (length out.old ≡ day_start 0 first (length marks.now)) }
     ensures { out.new ≡ dy_records first marks.now readings.now }
 {
-    let days = marks.len() as u32;
-    let mut k: u32 = 0;
-    while k < days {
+    for k in 0..marks.len() as u32 {
         let start = file_starts::day_start(0, first, k);
         let end = file_starts::day_start(0, first, k + 1);
         let from = day_ruler::offset(first, k);
@@ -57,7 +53,6 @@ fn put_days(out: &mut [u8], first: u32, marks: &[u8], readings: &[u32])
             marks[k as usize],
             &readings[from..to],
         );
-        k += 1;
     }
 }
 
@@ -66,9 +61,7 @@ fn put_events(out: &mut [u8], events: &[u32])
     requires { (length out.old ≡ ev_length * (length events.now / 5)) × (all fits_event (events_of events.now) ≡ true) }
     ensures { out.new ≡ ev_records (events_of events.now) }
 {
-    let count = events.len() / EVENT_NUMBERS;
-    let mut i = 0;
-    while i < count {
+    for i in 0..events.len() / EVENT_NUMBERS {
         let start = EV_LENGTH * i;
         let end = start + EV_LENGTH;
         let at = EVENT_NUMBERS * i;
@@ -80,7 +73,6 @@ fn put_events(out: &mut [u8], events: &[u32])
             events[at + 3] as u8,
             events[at + 4] as u8,
         );
-        i += 1;
     }
 }
 
@@ -114,43 +106,39 @@ pub fn write(
     moves: &[u32],
     events: &[u32],
     out: &mut [u8],
-) -> Written
+) -> Result<u32, Refusal>
     ensures { Writes (lent participation portfolio first marks.now readings.now moves.now events.now) out.old result out.new }
 {
     let matching = file_writable::is_matching(first, marks.len(), readings.len());
     let sayable = file_writable::is_sayable(participation, first, marks.len(), moves, events);
-    if matching {
-        if sayable {
-            let days = marks.len() as u32;
-            let pairs = (moves.len() / 2) as u8;
-            let count = events.len() / EVENT_NUMBERS;
-            let shape = Shape {
-                participation,
-                portfolio,
-                moves: pairs,
-                first,
-                days,
-                events: count as u32,
-            };
-            let start = file_starts::day_start(file_starts::base(shape), first, days);
-            let end = start + EV_LENGTH * count;
-            if out.len() < end {
-                return Written::Refused(Refusal::NoRoom);
-            }
-            put_file(
-                &mut out[0..end],
-                shape,
-                start,
-                marks,
-                readings,
-                moves,
-                events,
-            );
-            Written::Length(end as u32)
-        } else {
-            Written::Refused(Refusal::Unwritable)
-        }
-    } else {
-        Written::Refused(Refusal::BadTable)
+    if !matching {
+        return Err(Refusal::BadTable);
     }
+    if !sayable {
+        return Err(Refusal::Unwritable);
+    }
+    let count = events.len() / EVENT_NUMBERS;
+    let shape = Shape {
+        participation,
+        portfolio,
+        moves: (moves.len() / 2) as u8,
+        first,
+        days: marks.len() as u32,
+        events: count as u32,
+    };
+    let start = file_starts::day_start(file_starts::base(shape), first, shape.days);
+    let end = start + EV_LENGTH * count;
+    if out.len() < end {
+        return Err(Refusal::NoRoom);
+    }
+    put_file(
+        &mut out[0..end],
+        shape,
+        start,
+        marks,
+        readings,
+        moves,
+        events,
+    );
+    Ok(end as u32)
 }

@@ -12,7 +12,7 @@ ghost use Rattle.engine_answer.specs.Answer.{answer_of};
 ghost use Rattle.file_baseline.specs.Reply.{file_reply};
 ghost use Rattle.host_answer.specs.Telling.{told_by};
 ghost use Rattle.host_file.specs.OfFile.{file_told, move_told, event_told};
-ghost use Rattle.host_numbers.specs.Numbers.{place_told, found_told};
+ghost use Rattle.host_numbers.specs.Numbers.{number_told};
 ghost use Rattle.file_days.specs.HeldDay.{mark_in, reading_in};
 ghost use Rattle.host_answer.specs.Names.{by_name};
 ghost use Rattle.host_calendar.specs.Calendar.{calendar_row};
@@ -20,9 +20,13 @@ ghost use Rattle.host_overlap.specs.Overlap.{overlap_row, cut_from};
 ghost use Rattle.host_sheet.specs.Sheets.{file_sheet};
 ghost use Rattle.calendar_dates.specs.Days.{numbered, dated};
 ghost use Rattle.host_plain.specs.Plain.{date_written, day_told, date_told, version};
-ghost use Rattle.host_entries.specs.Host.{most_bytes, request_of, TableCall, FileCall, WriteCall, ListingCall};
+ghost use Rattle.host_entries.specs.Host.{or_nothing, most_bytes, request_of, TableCall, FileCall, WriteCall, ListingCall};
 
 use method::Request;
+use table_days::LentTable;
+
+// HP_NOTHING: what C gets where nothing is told.
+const NOTHING: i64 = i64::MIN;
 
 // Room for the numerators of any event, four bytes each.
 const MOST_BYTES: usize = 4 * method::QUARTERS;
@@ -31,18 +35,16 @@ const MOST_BYTES: usize = 4 * method::QUARTERS;
 pub fn hp_baseline(file: &[u8], place: usize, out: &mut [u8]) -> u32
     ensures { FileCall (file_reply file.now place (length out.old)) result out.old out.new }
 {
-    let answer = file_baseline::file_baseline(file, place, out);
-    let given = answer.given;
-    host_answer::number_of(given)
+    host_answer::number_of(file_baseline::file_baseline(file, place, out))
 }
 
 // What that result tells by name, with room for any event.
 pub fn hp_told(file: &[u8], place: usize, name: u32) -> i64
-    ensures { result ≡ told_by (answer_of (file_reply file.now place most_bytes)) name }
+    ensures { result ≡ or_nothing (told_by (answer_of (file_reply file.now place most_bytes)) name) }
 {
     let mut out = [0u8; MOST_BYTES];
-    let file_answer = file_baseline::file_baseline(file, place, &mut out);
-    host_answer::tell(file_answer, name)
+    let answer = file_baseline::file_baseline(file, place, &mut out);
+    host_answer::tell(answer, name).unwrap_or(NOTHING)
 }
 
 fn request_of(participation: u32, event: u32, s: u32, e: u32, n: u32, method: u32) -> Request
@@ -75,9 +77,13 @@ pub fn hp_baseline_table(
     ensures { TableCall (verdict moves.now (table_of first marks.now readings.now) (request_of participation event s e n method) (length out.old)) result out.old out.new }
 {
     let request = request_of(participation, event, s, e, n, method);
-    let table_answer = table_baseline::baseline(first, marks, readings, moves, request, out);
-    let given = table_answer.given;
-    host_answer::number_of(given)
+    let table = LentTable {
+        first,
+        marks,
+        readings,
+    };
+    let answer = table_baseline::baseline(&table, moves, request, out);
+    host_answer::number_of(answer)
 }
 
 // What that result tells by name, with room for any event.
@@ -94,89 +100,92 @@ pub fn hp_told_table(
     method: u32,
     name: u32,
 ) -> i64
-    ensures { result ≡ told_by (answer_of (verdict moves.now (table_of first marks.now readings.now) (request_of participation event s e n method) most_quarters)) name }
+    ensures { result ≡ or_nothing (told_by (answer_of (verdict moves.now (table_of first marks.now readings.now) (request_of participation event s e n method) most_quarters)) name) }
 {
     let request = request_of(participation, event, s, e, n, method);
     let mut out = [0u32; method::QUARTERS];
-    let answer = table_baseline::baseline(first, marks, readings, moves, request, &mut out);
-    host_answer::tell(answer, name)
+    let table = LentTable {
+        first,
+        marks,
+        readings,
+    };
+    let answer = table_baseline::baseline(&table, moves, request, &mut out);
+    host_answer::tell(answer, name).unwrap_or(NOTHING)
 }
 
 // The place of a day's first reading in a table in memory.
 pub fn hp_day_part(first: u32, marks: &[u8], readings: &[u32], day: u32) -> i64
-    ensures { result ≡ place_told (part_place (table_of first marks.now readings.now) day) }
+    ensures { result ≡ or_nothing (number_told (part_place (table_of first marks.now readings.now) day)) }
 {
-    let place = table_days::part_place(first, marks, readings, day);
-    host_numbers::tell_place(place)
+    let table = LentTable {
+        first,
+        marks,
+        readings,
+    };
+    host_numbers::tell_number(table.part_place(day)).unwrap_or(NOTHING)
 }
 
 // What a record file tells by name: what it holds, or refusal 11.
 pub fn hp_file(file: &[u8], name: u32) -> i64
-    ensures { result ≡ file_told (read_file file.now) name }
+    ensures { result ≡ or_nothing (file_told (read_file file.now) name) }
 {
-    let read = file_reading::read_file(file);
-    host_file::tell_file(read, name)
+    host_file::tell_file(file_reading::read_file(file), name).unwrap_or(NOTHING)
 }
 
 // What the move at a place of a record file tells by name: its two days, nothing where there is none, or refusal 11.
 pub fn hp_move(file: &[u8], place: usize, name: u32) -> i64
-    ensures { result ≡ move_told (move_at_place (read_file file.now) file.now place) name }
+    ensures { result ≡ or_nothing (move_told (move_at_place (read_file file.now) file.now place) name) }
 {
-    let at = file_moves::move_at(file, place);
-    host_file::tell_move(at, name)
+    host_file::tell_move(file_moves::move_at(file, place), name).unwrap_or(NOTHING)
 }
 
 // What the event at a place of a record file tells by name: the event, or refusal 11 or 12.
 pub fn hp_event(file: &[u8], place: usize, name: u32) -> i64
-    ensures { result ≡ event_told (event_at_place (read_file file.now) file.now place) name }
+    ensures { result ≡ or_nothing (event_told (event_at_place (read_file file.now) file.now place) name) }
 {
-    let at = file_events::event_at(file, place);
-    host_file::tell_event(at, name)
+    host_file::tell_event(file_events::event_at(file, place), name).unwrap_or(NOTHING)
 }
 
 // What the working of the event at a place of a record file tells by name, of the day `at` days before the event or of the ruler quarter `at`.
 pub fn hp_working(file: &[u8], place: usize, at: u32, name: u32) -> i64
-    ensures { result ≡ by_name (file_sheet file.now place at) name }
+    ensures { result ≡ or_nothing (by_name (file_sheet file.now place at) name) }
 {
-    host_sheet::tell_sheet(file, place, at, name)
+    host_sheet::tell_sheet(file, place, at, name).unwrap_or(NOTHING)
 }
 
 // What the overlap of the event at a place of a record file tells by name.
 pub fn hp_overlap(file: &[u8], place: usize, name: u32) -> i64
-    ensures { result ≡ by_name (overlap_row file.now place) name }
+    ensures { result ≡ or_nothing (by_name (overlap_row file.now place) name) }
 {
-    host_overlap::tell_overlap(file, place, name)
+    host_overlap::tell_overlap(file, place, name).unwrap_or(NOTHING)
 }
 
 // The first day to cut the days of a record file from.
 pub fn hp_cut_from(file: &[u8]) -> i64
-    ensures { result ≡ cut_from (read_file file.now) file.now }
+    ensures { result ≡ or_nothing (cut_from (read_file file.now) file.now) }
 {
-    host_overlap::cut_from(file)
+    host_overlap::cut_from(file).unwrap_or(NOTHING)
 }
 
 // A reading of a day of a record file.
 pub fn hp_reading(file: &[u8], day: u32, quarter: u32) -> i64
-    ensures { result ≡ found_told (reading_in (read_file file.now) file.now day quarter) }
+    ensures { result ≡ or_nothing (number_told (reading_in (read_file file.now) file.now day quarter)) }
 {
-    let found = file_days::reading(file, day, quarter);
-    host_numbers::tell_found(found)
+    host_numbers::tell_number(file_days::reading(file, day, quarter)).unwrap_or(NOTHING)
 }
 
 // The mark of a day of a record file.
 pub fn hp_mark(file: &[u8], day: u32) -> i64
-    ensures { result ≡ found_told (mark_in (read_file file.now) file.now day) }
+    ensures { result ≡ or_nothing (number_told (mark_in (read_file file.now) file.now day)) }
 {
-    let found = file_days::mark(file, day);
-    host_numbers::tell_found(found)
+    host_numbers::tell_number(file_days::mark(file, day)).unwrap_or(NOTHING)
 }
 
 // The listing of a record file: its length, and the text into `out`; minus 7 where it does not fit.
 pub fn hp_listing(file: &[u8], out: &mut [u8]) -> i64
     ensures { ListingCall file.now result out.old out.new }
 {
-    let listed = listing_whole::listing(file, out);
-    host_numbers::tell_listed(listed)
+    host_numbers::tell_length(listing_whole::listing(file, out))
 }
 
 // A record file written into `out`: its length, or minus the number of a refusal.
@@ -202,28 +211,28 @@ pub fn hp_write(
         events,
         out,
     );
-    host_numbers::tell_written(written)
+    host_numbers::tell_length(written)
 }
 
 // The day number of a date.
 pub fn hp_day(year: u32, month: u32, day: u32) -> i64
-    ensures { result ≡ day_told (numbered (date_written year month day)) }
+    ensures { result ≡ or_nothing (day_told (numbered (date_written year month day))) }
 {
-    host_plain::day_of(year, month, day)
+    host_plain::day_of(year, month, day).unwrap_or(NOTHING)
 }
 
 // The date of a day number: year, month and day as one number.
 pub fn hp_date(day: u32) -> i64
-    ensures { result ≡ date_told (dated day) }
+    ensures { result ≡ or_nothing (date_told (dated day)) }
 {
-    host_plain::date_of(day)
+    host_plain::date_of(day).unwrap_or(NOTHING)
 }
 
 // What a day of the calendar tells by name, where no holiday was moved.
 pub fn hp_calendar(day: u32, name: u32) -> i64
-    ensures { result ≡ by_name (calendar_row day) name }
+    ensures { result ≡ or_nothing (by_name (calendar_row day) name) }
 {
-    host_calendar::tell_calendar(day, name)
+    host_calendar::tell_calendar(day, name).unwrap_or(NOTHING)
 }
 
 // The version of these entries, as one number.

@@ -12,7 +12,7 @@ ghost use Rattle.engine_answer.specs.Answer.{answer_of};
 ghost use Rattle.file_baseline.specs.Reply.{file_reply};
 ghost use Rattle.host_answer.specs.Telling.{told_by};
 ghost use Rattle.host_file.specs.OfFile.{file_told, move_told, event_told};
-ghost use Rattle.host_numbers.specs.Numbers.{place_told, found_told};
+ghost use Rattle.host_numbers.specs.Numbers.{number_told};
 ghost use Rattle.file_days.specs.HeldDay.{mark_in, reading_in};
 ghost use Rattle.host_answer.specs.Names.{by_name};
 ghost use Rattle.host_calendar.specs.Calendar.{calendar_row};
@@ -20,7 +20,7 @@ ghost use Rattle.host_overlap.specs.Overlap.{overlap_row, cut_from};
 ghost use Rattle.host_sheet.specs.Sheets.{file_sheet};
 ghost use Rattle.calendar_dates.specs.Days.{numbered, dated};
 ghost use Rattle.host_plain.specs.Plain.{date_written, day_told, date_told, version};
-ghost use Rattle.host_entries.specs.Host.{most_bytes, request_of, TableCall, FileCall, WriteCall, ListingCall};
+ghost use Rattle.host_entries.specs.Host.{or_nothing, most_bytes, request_of, TableCall, FileCall, WriteCall, ListingCall};
 
 #[unsafe(no_mangle)]
 pub extern "C" fn hp_baseline(file: &[u8], place: usize, out: &mut [u8]) -> u32
@@ -31,7 +31,7 @@ pub extern "C" fn hp_baseline(file: &[u8], place: usize, out: &mut [u8]) -> u32
 
 #[unsafe(no_mangle)]
 pub extern "C" fn hp_told(file: &[u8], place: usize, name: u32) -> i64
-    ensures { result ≡ told_by (answer_of (file_reply file.now place most_bytes)) name }
+    ensures { result ≡ or_nothing (told_by (answer_of (file_reply file.now place most_bytes)) name) }
 {
     host_entries::hp_told(file, place, name)
 }
@@ -81,7 +81,7 @@ pub extern "C" fn hp_told_table(
     method: u32,
     name: u32,
 ) -> i64
-    ensures { result ≡ told_by (answer_of (verdict moves.now (table_of first marks.now readings.now) (request_of participation event s e n method) most_quarters)) name }
+    ensures { result ≡ or_nothing (told_by (answer_of (verdict moves.now (table_of first marks.now readings.now) (request_of participation event s e n method) most_quarters)) name) }
 {
     host_entries::hp_told_table(
         first,
@@ -100,63 +100,63 @@ pub extern "C" fn hp_told_table(
 
 #[unsafe(no_mangle)]
 pub extern "C" fn hp_day_part(first: u32, marks: &[u8], readings: &[u32], day: u32) -> i64
-    ensures { result ≡ place_told (part_place (table_of first marks.now readings.now) day) }
+    ensures { result ≡ or_nothing (number_told (part_place (table_of first marks.now readings.now) day)) }
 {
     host_entries::hp_day_part(first, marks, readings, day)
 }
 
 #[unsafe(no_mangle)]
 pub extern "C" fn hp_file(file: &[u8], name: u32) -> i64
-    ensures { result ≡ file_told (read_file file.now) name }
+    ensures { result ≡ or_nothing (file_told (read_file file.now) name) }
 {
     host_entries::hp_file(file, name)
 }
 
 #[unsafe(no_mangle)]
 pub extern "C" fn hp_move(file: &[u8], place: usize, name: u32) -> i64
-    ensures { result ≡ move_told (move_at_place (read_file file.now) file.now place) name }
+    ensures { result ≡ or_nothing (move_told (move_at_place (read_file file.now) file.now place) name) }
 {
     host_entries::hp_move(file, place, name)
 }
 
 #[unsafe(no_mangle)]
 pub extern "C" fn hp_event(file: &[u8], place: usize, name: u32) -> i64
-    ensures { result ≡ event_told (event_at_place (read_file file.now) file.now place) name }
+    ensures { result ≡ or_nothing (event_told (event_at_place (read_file file.now) file.now place) name) }
 {
     host_entries::hp_event(file, place, name)
 }
 
 #[unsafe(no_mangle)]
 pub extern "C" fn hp_working(file: &[u8], place: usize, at: u32, name: u32) -> i64
-    ensures { result ≡ by_name (file_sheet file.now place at) name }
+    ensures { result ≡ or_nothing (by_name (file_sheet file.now place at) name) }
 {
     host_entries::hp_working(file, place, at, name)
 }
 
 #[unsafe(no_mangle)]
 pub extern "C" fn hp_overlap(file: &[u8], place: usize, name: u32) -> i64
-    ensures { result ≡ by_name (overlap_row file.now place) name }
+    ensures { result ≡ or_nothing (by_name (overlap_row file.now place) name) }
 {
     host_entries::hp_overlap(file, place, name)
 }
 
 #[unsafe(no_mangle)]
 pub extern "C" fn hp_cut_from(file: &[u8]) -> i64
-    ensures { result ≡ cut_from (read_file file.now) file.now }
+    ensures { result ≡ or_nothing (cut_from (read_file file.now) file.now) }
 {
     host_entries::hp_cut_from(file)
 }
 
 #[unsafe(no_mangle)]
 pub extern "C" fn hp_reading(file: &[u8], day: u32, quarter: u32) -> i64
-    ensures { result ≡ found_told (reading_in (read_file file.now) file.now day quarter) }
+    ensures { result ≡ or_nothing (number_told (reading_in (read_file file.now) file.now day quarter)) }
 {
     host_entries::hp_reading(file, day, quarter)
 }
 
 #[unsafe(no_mangle)]
 pub extern "C" fn hp_mark(file: &[u8], day: u32) -> i64
-    ensures { result ≡ found_told (mark_in (read_file file.now) file.now day) }
+    ensures { result ≡ or_nothing (number_told (mark_in (read_file file.now) file.now day)) }
 {
     host_entries::hp_mark(file, day)
 }
@@ -195,21 +195,21 @@ pub extern "C" fn hp_write(
 
 #[unsafe(no_mangle)]
 pub extern "C" fn hp_day(year: u32, month: u32, day: u32) -> i64
-    ensures { result ≡ day_told (numbered (date_written year month day)) }
+    ensures { result ≡ or_nothing (day_told (numbered (date_written year month day))) }
 {
     host_entries::hp_day(year, month, day)
 }
 
 #[unsafe(no_mangle)]
 pub extern "C" fn hp_date(day: u32) -> i64
-    ensures { result ≡ date_told (dated day) }
+    ensures { result ≡ or_nothing (date_told (dated day)) }
 {
     host_entries::hp_date(day)
 }
 
 #[unsafe(no_mangle)]
 pub extern "C" fn hp_calendar(day: u32, name: u32) -> i64
-    ensures { result ≡ by_name (calendar_row day) name }
+    ensures { result ≡ or_nothing (by_name (calendar_row day) name) }
 {
     host_entries::hp_calendar(day, name)
 }

@@ -1,68 +1,62 @@
--- The rank of a day among the first `size` of ten, looked for from the first on.
-use Prim.Native.Nat.{ℕ, suc, ◌+◌, ◌≤◌, ◌<◌, min}
-use mathlib.Core.Path.{◌≡◌, sym, ◌∙◌}
-use mathlib.Core.Bool.{not, cond}
-use mathlib.Core.List.{List}
-use native.Mathlib.Numerals.{add-one}
+-- The rank of a day among days by rank, by the place where it is found.
+use Prim.Native.Nat.{ℕ, suc, ◌+◌}
+use mathlib.Core.Path.{◌≡◌, refl, sym, ap, ◌∙◌}
+use mathlib.Core.Bool.{Bool, true, false, not, cond, ◌||◌, true≢false}
+use mathlib.Core.List.{List, [], ◌∷◌}
+use mathlib.Core.Logic.{⊎_elim}
 use native.Mathlib.Omega.{arith}
-use lib.Dec.{eqb}
-use lib.ListN.{length, take, drop, get_or, length-take, drop_of_length-le}
-use lib.Seq.{drop-cons, get_or-take}
-use borrow.Author.Tests.{eq-eqb, ne_eqb}
+use borrow.Author.Tests.{eqb-true, eq-eqb, ne_eqb, lt-ltb, le-ltb}
+use lib.Dec.{eqb, ltb}
+use lib.ListN.{length}
+use Rattle.std.specs.Prelude.{Option, Some, None}
+use Rattle.std.specs.List.{position, position_or_len}
 use Rattle.base_lists.specs.Lists.{leading, member}
+use Rattle.base_lists.proofs.Bools.{bool_cases, lt-or-le}
 use Rattle.method_working.specs.Working.{rank_in}
 
--- how many stand before a day
-abbrev pub place : ℕ → List ℕ → ℕ
-place day l = leading (λ x. not (eqb x day)) l
+module _ (day : ℕ) where
+  abbrev is_it : ℕ → Bool
+  is_it x = eqb x day
 
--- the rank of a day that is none of the first `i`
-unfoldable pub rank_from : List ℕ → ℕ → ℕ → ℕ
-rank_from l day i = cond (member day (drop i l)) (i + place day (drop i l) + 1) 0
+  -- how many stand before it
+  before : (l : List ℕ) → leading (λ x. not (is_it x)) l ≡ position_or_len is_it l
+  unfolding leading
+  before [] = refl
+  before (x ∷ l) = rw (before l) (go (is_it x) (position_or_len is_it l))
+    where
+      go : (b : Bool) (n : ℕ) → cond (not b) (suc n) 0 ≡ cond (not b) (1 + n) 0
+      go true n = refl
+      go false n = omega arith
 
-module _ (l : List ℕ) (day : ℕ) where
-  first : rank_from l day 0 ≡ rank_in l day
-  unfolding rank_from rank_in
-  first = let e : 0 + place day l + 1 ≡ place day l + 1 = omega arith in rw e
+  next : (a b : ℕ) → ltb (1 + a) (suc b) ≡ ltb a b
+  next a b =
+      ⊎_elim (λ h. rw (lt-ltb a b h) (lt-ltb (1 + a) (suc b) (omega arith))) (λ h. rw (le-ltb a b h) (le-ltb (1 + a) (suc b) (omega arith))) (lt-or-le a b)
 
-  module _ (i : ℕ) where
-    next : i < length l → (get_or l i 0 ≡ day → ⊥) → rank_from l day (i + 1) ≡ rank_from l day i
-    unfolding rank_from member leading
-    next o n =
-        let e : suc i + place day (drop (suc i) l) + 1 ≡ i + suc (place day (drop (suc i) l)) + 1 = omega arith in
-        rw (add-one i, drop-cons l i 0 o, ne_eqb (get_or l i 0) day n, ne_eqb day (get_or l i 0) (λ t. n (sym t)), e)
+  there : (l : List ℕ) → member day l ≡ ltb (position_or_len is_it l) (length l)
+  unfolding member
+  there [] = refl
+  there (x ∷ l) = ⊎_elim same (other (there l)) (bool_cases (is_it x))
+    where
+      same : is_it x ≡ true → (eqb day x || member day l) ≡ ltb (position_or_len is_it (x ∷ l)) (suc (length l))
+      same e = rw (e, eq-eqb day x (sym (eqb-true x day e))) (sym (lt-ltb 0 (suc (length l)) (omega arith)))
 
-    here : i < length l → get_or l i 0 ≡ day → rank_from l day i ≡ i + 1
-    unfolding rank_from member leading
-    here o e = rw (drop-cons l i 0 o, eq-eqb (get_or l i 0) day e, eq-eqb day (get_or l i 0) (sym e)) (omega arith)
+      other : member day l ≡ ltb (position_or_len is_it l) (length l) → is_it x ≡ false → (eqb day x || member day l) ≡ ltb (position_or_len is_it (x ∷ l)) (suc (length l))
+      other h e = rw (e, ne_eqb day x (λ s. true≢false (sym (eq-eqb x day (sym s)) ∙ e))) (h ∙ sym (next (position_or_len is_it l) (length l)))
 
-    past : length l ≤ i → rank_from l day i ≡ 0
-    unfolding rank_from member
-    past o = rw (drop_of_length-le l o)
+  rank_is : (l : List ℕ) → rank_in l day ≡ cond (ltb (position_or_len is_it l) (length l)) (position_or_len is_it l + 1) 0
+  unfolding rank_in
+  rank_is l = rw (there l, before l) refl
 
--- the day is none of the first `i` of those that count
-abbrev pub Passed : List ℕ → ℕ → ℕ → ℕ → Type 0
-Passed days size day i = rank_from (take size days) day i ≡ rank_in (take size days) day
+  pub rank_here : (l : List ℕ) {place : ℕ} → position is_it l ≡ Some place → place + 1 ≡ rank_in l day
+  rank_here l {place} e = go (ltb (position_or_len is_it l) (length l)) (position_or_len is_it l) e ∙ sym (rank_is l)
+    where
+      go : (b : Bool) (n : ℕ) → ◌≡◌ {A = Option ℕ} (cond b (Some n) None) (Some place) → place + 1 ≡ cond b (n + 1) 0
+      go true n e = ap (λ k. k + 1) (cc)
+      go false n e = absurd (let z : ◌≡◌ {A = ℕ} 0 1 = cc in omega arith)
 
-module _ (days : List ℕ) (size day : ℕ) where
-  abbrev those : List ℕ
-  those = take size days
-
-  pub passed_none : Passed days size day 0
-  passed_none = first those day
-
-  module _ (i : ℕ) {most : ℕ} (ten : length days ≡ 10) (m : most ≡ min size 10) (q : Passed days size day i) where
-    within : i < most → i < length those
-    within o = omega (arith, length-take size days)
-
-    at : i < most → get_or those i 0 ≡ get_or days i 0
-    at o = get_or-take size days i 0 (omega arith)
-
-    pub passed_next : i < most → (get_or days i 0 ≡ day → ⊥) → Passed days size day (i + 1)
-    passed_next o n = next those day i (within o) (λ e. n (sym (at o) ∙ e)) ∙ q
-
-    pub passed_here : i < most → get_or days i 0 ≡ day → i + 1 ≡ rank_in those day
-    passed_here o e = sym (here those day i (within o) (at o ∙ e)) ∙ q
-
-    pub passed_all : most ≤ i → 0 ≡ rank_in those day
-    passed_all o = sym (past those day i (omega (arith, length-take size days))) ∙ q
+  pub rank_none : (l : List ℕ) → position is_it l ≡ None → 0 ≡ rank_in l day
+  rank_none l e = go (ltb (position_or_len is_it l) (length l)) (position_or_len is_it l) e ∙ sym (rank_is l)
+    where
+      go : (b : Bool) (n : ℕ) → ◌≡◌ {A = Option ℕ} (cond b (Some n) None) None → 0 ≡ cond b (n + 1) 0
+      go true n e = absurd (let z : ◌≡◌ {A = ℕ} 0 1 = cc in omega arith)
+      go false n e = refl

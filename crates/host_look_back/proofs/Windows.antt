@@ -5,7 +5,7 @@ use mathlib.Core.Bool.{Bool, true, false, cond}
 use mathlib.Core.List.{List}
 use native.Mathlib.Omega.{arith}
 use lib.Dec.{leb}
-use lib.IntN.{pos}
+use Rattle.std.specs.Prelude.{Some, None}
 use lib.ListN.{take}
 use lib.Seq.{take_all}
 use Rattle.calendar_groups.specs.declared.Group.{Group}
@@ -21,7 +21,7 @@ use Rattle.engine_ranking.proofs.Rank.{take-padded}
 use Rattle.engine_choice.proofs.Requested.{window_ten}
 use Rattle.engine_window.specs.declared.Window.{Window}
 use Rattle.engine_window.specs.Steps.{window_of}
-use Rattle.host_answer.specs.Names.{untold}
+use Rattle.host_answer.specs.Names.{told}
 use Rattle.host_working.specs.Told.{as_number}
 use Rattle.host_look_back.specs.Steps.{rank_told, chosen_told, rank_there, takes}
 
@@ -49,15 +49,15 @@ module _ (group : ℕ → Group) (r : Request) (h : History Day) (back : ℕ) {w
   unfolding window_of
   same_short = ap (λ (w : Window). w.short) e
 
-  pub rank-untold : w.short ≡ true → untold ≡ rank_told group r h back
-  rank-untold t = rw (sym same_short ∙ t)
+  pub rank_untold : w.short ≡ true → None ≡ rank_told group r h back
+  rank_untold t = rw (sym same_short ∙ t)
 
-  pub chosen_untold : w.short ≡ true → untold ≡ chosen_told group r h back
+  pub chosen_untold : w.short ≡ true → None ≡ chosen_told group r h back
   chosen_untold t = rw (sym same_short ∙ t)
 
   module _ (f : w.short ≡ false) {x : ℕ} (k : x ≡ rank_there w r.event back) where
-    pub rank_told_lem : pos x ≡ rank_told group r h back
-    rank_told_lem = rw (sym same_short ∙ f) (ap pos (k ∙ same_rank))
+    pub rank_told_lem : told x ≡ rank_told group r h back
+    rank_told_lem = rw (sym same_short ∙ f) (ap told (k ∙ same_rank))
 
-    pub chosen_told_lem : {b c : Bool} → b ≡ takes w x → b ≡ c → as_number c ≡ chosen_told group r h back
-    chosen_told_lem t u = rw (sym same_short ∙ f) (ap as_number (sym u ∙ t ∙ ap (takes w) (k ∙ same_rank) ∙ same_chosen))
+    pub chosen_told_lem : {b c : Bool} → b ≡ takes w x → b ≡ c → Some (as_number c) ≡ chosen_told group r h back
+    chosen_told_lem t u = rw (sym same_short ∙ f) (ap (λ (b : Bool). Some (as_number b)) (sym u ∙ t ∙ ap (takes w) (k ∙ same_rank) ∙ same_chosen))

@@ -2,47 +2,51 @@
 // of the row.
 #![tactic(auto)]
 
-ghost use Rattle.std.specs.Prelude.{◌≡◌, pos, take};
+ghost use Rattle.std.specs.Prelude.{◌≡◌, ◌==◌, ◌<◌, ◌^◌, take, IfSome};
+ghost use Rattle.std.specs.List.{position};
 ghost use Rattle.calendar_groups.specs.Holidays.{group as group_of};
 ghost use Rattle.method_working.specs.Working.{rank_in};
-ghost use Rattle.engine_rooms.specs.Rooms.{room_history};
+ghost use Rattle.engine_rooms.specs.Rooms.{history_of};
 ghost use Rattle.host_answer.specs.Names.{by_name};
 ghost use Rattle.host_working.specs.Told.{reason_number, day_numbers};
 ghost use Rattle.host_look_back.specs.Steps.{number_told, group_told, sum_told, rank_told, chosen_told, rank_there, takes};
 
-use base_numbers::counts;
-use engine_reasons::Summed;
-use engine_rooms::Directory;
+use engine_rooms::Case;
 use engine_window::Window;
-use method::Request;
+use host_answer::told;
 use method_working::Reason;
 
+// The places of the row of a day. Numbers and no enum, as the names that C asks by (`host_answer::names`).
+const DAY: u32 = 0;
+
+const GROUP: u32 = 1;
+
+const REASON: u32 = 2;
+
+const SUM: u32 = 3;
+
+const RANK: u32 = 4;
+
+const CHOSEN: u32 = 5;
+
 // The number of a day, where it is not below 0.
-fn tell_number(event: u32, back: u32) -> i64
+fn tell_number(event: u32, back: u32) -> Option<i64>
     ensures { result ≡ number_told event back }
 {
-    if back <= event {
-        (event - back) as i64
-    } else {
-        host_answer::NOTHING
-    }
+    told(event.checked_sub(back)?)
 }
 
 // The group of a day, where it is not below 0.
-fn tell_group(moves: &[u32], event: u32, back: u32) -> i64
+fn tell_group(moves: &[u32], event: u32, back: u32) -> Option<i64>
     ensures { result ≡ group_told (group_of moves.now) event back }
 {
-    if back <= event {
-        let day = event - back;
-        engine_relevant::number(calendar_groups::group_of(moves, day)) as i64
-    } else {
-        host_answer::NOTHING
-    }
+    let day = event.checked_sub(back)?;
+    told(engine_relevant::number(calendar_groups::group_of(moves, day)))
 }
 
 // The number of a reason.
-fn reason_number(reason: Reason) -> i64
-    ensures { result ≡ pos (reason_number reason) }
+fn reason_number(reason: Reason) -> u32
+    ensures { result ≡ reason_number reason }
 {
     match reason {
         Reason::TooEarly => 1,
@@ -57,39 +61,39 @@ fn reason_number(reason: Reason) -> i64
 }
 
 // A sum, where there is one.
-fn tell_sum(sum: Summed) -> i64
+fn tell_sum(sum: Option<u64>) -> Option<i64>
+    requires { IfSome sum (λ x. x < 2 ^ 63) }
     ensures { result ≡ sum_told sum }
 {
-    match sum {
-        Summed::Sum(known) => known,
-        Summed::Unsummed => host_answer::NOTHING,
-    }
+    Some(sum? as i64)
 }
 
-// The rank of a day among the first `size` of ten days by rank; 0 where it is none of them.
+// Where a day stands among the first `size`, counted from 0.
+fn place_in(days: &[u32], size: usize, day: u32) -> Option<usize>
+    ensures { result ≡ position (λ other. other == day) (take size days.now) }
+{
+    days.iter().take(size).position(|other| *other == day)
+}
+
+// The rank of a day among the first `size` of ten days by rank; 0 where it is none of them, which is what C is told.
+#[tactic(auto, using(crate::proofs::Ranking::rank_here, crate::proofs::Ranking::rank_none))]
 fn rank_in(days: [u32; 10], size: u32, day: u32) -> u32
     ensures { result ≡ rank_in (take size days) day }
 {
-    let most = counts::least(size, 10);
-    let mut i: u32 = 0;
-    while i < most {
-        if days[i as usize] == day {
-            return i + 1;
-        }
-        i += 1;
+    match place_in(&days, size as usize, day) {
+        Some(place) => place as u32 + 1,
+        None => 0,
     }
-    0
 }
 
 // The rank in a window of the day `back` days before the event.
+#[tactic(auto, unfolding(crate::specs::Steps::rank_there))]
 fn rank_of(window: Window, event: u32, back: u32) -> u32
     ensures { result ≡ rank_there window event back }
 {
-    if back <= event {
-        let days = window.days;
-        rank_in(days, window.size, event - back)
-    } else {
-        0
+    match event.checked_sub(back) {
+        Some(day) => rank_in(window.days, window.size, day),
+        None => 0,
     }
 }
 
@@ -97,64 +101,53 @@ fn rank_of(window: Window, event: u32, back: u32) -> u32
 fn is_taken(window: Window, rank: u32) -> bool
     ensures { result ≡ takes window rank }
 {
-    let last = window.passed as u64 + window.taken as u64;
-    (window.passed < rank) & ((rank as u64) <= last)
+    let last = u64::from(window.passed) + u64::from(window.taken);
+    window.passed < rank && u64::from(rank) <= last
 }
 
 // The rank of a day, where the days held can tell the window.
-fn tell_rank(moves: &[u32], request: Request, rooms: Directory, readings: &[u32], back: u32) -> i64
-    ensures { result ≡ rank_told (group_of moves.now) request (room_history request rooms readings.now) back }
+#[tactic(auto, using(crate::proofs::Windows::rank_untold, crate::proofs::Windows::rank_told_lem))]
+fn tell_rank(case: &Case<'_>, back: u32) -> Option<i64>
+    ensures { result ≡ rank_told (group_of case.now.moves.now) case.now.request (history_of case.now) back }
 {
-    let window = engine_window::of_event(moves, request, rooms, readings);
+    let window = engine_window::of_event(case);
     if window.short {
-        return host_answer::NOTHING;
+        return None;
     }
-    rank_of(window, request.event, back) as i64
+    told(rank_of(window, case.request.event, back))
 }
 
 // Whether a day is chosen, 1 or 0, where the days held can tell the window.
-fn tell_chosen(
-    moves: &[u32],
-    request: Request,
-    rooms: Directory,
-    readings: &[u32],
-    back: u32,
-) -> i64
-    ensures { result ≡ chosen_told (group_of moves.now) request (room_history request rooms readings.now) back }
+#[tactic(auto, using(crate::proofs::Windows::chosen_untold))]
+fn tell_chosen(case: &Case<'_>, back: u32) -> Option<i64>
+    ensures { result ≡ chosen_told (group_of case.now.moves.now) case.now.request (history_of case.now) back }
 {
-    let window = engine_window::of_event(moves, request, rooms, readings);
+    let window = engine_window::of_event(case);
     if window.short {
-        return host_answer::NOTHING;
+        return None;
     }
-    if is_taken(window, rank_of(window, request.event, back)) {
-        1
+    if is_taken(window, rank_of(window, case.request.event, back)) {
+        told(1)
     } else {
-        0
+        told(0)
     }
 }
 
 // What C is told of the day `back` days before an event, by its place in the row; nothing outside the look-back.
-pub fn tell_day(
-    moves: &[u32],
-    request: Request,
-    rooms: Directory,
-    readings: &[u32],
-    back: u32,
-    place: u32,
-) -> i64
-    ensures { result ≡ by_name (day_numbers (group_of moves.now) request (room_history request rooms readings.now) back) place }
+#[tactic(auto, using(crate::proofs::Ways::outside, crate::proofs::Ways::past_row, crate::proofs::Ways::at_day, crate::proofs::Ways::at_group, crate::proofs::Ways::at_reason, crate::proofs::Ways::at_sum, crate::proofs::Ways::at_rank, crate::proofs::Ways::at_chosen))]
+pub fn tell_day(case: &Case<'_>, back: u32, place: u32) -> Option<i64>
+    ensures { result ≡ by_name (day_numbers (group_of case.now.moves.now) case.now.request (history_of case.now) back) place }
 {
-    if (1 <= back) & (back <= method::LOOK_BACK) {
-        match place {
-            0 => tell_number(request.event, back),
-            1 => tell_group(moves, request.event, back),
-            2 => reason_number(engine_reasons::reason(moves, request, rooms, readings, back)),
-            3 => tell_sum(engine_reasons::sum(request, rooms, readings, back)),
-            4 => tell_rank(moves, request, rooms, readings, back),
-            5 => tell_chosen(moves, request, rooms, readings, back),
-            _ => host_answer::NOTHING,
-        }
-    } else {
-        host_answer::NOTHING
+    if back < 1 || method::LOOK_BACK < back {
+        return None;
+    }
+    match place {
+        DAY => tell_number(case.request.event, back),
+        GROUP => tell_group(case.moves, case.request.event, back),
+        REASON => told(reason_number(engine_reasons::reason(case, back))),
+        SUM => tell_sum(engine_reasons::sum(case, back)),
+        RANK => tell_rank(case, back),
+        CHOSEN => tell_chosen(case, back),
+        _ => None,
     }
 }

@@ -6,7 +6,8 @@ use mathlib.Core.List.{List, [], ◌∷◌, map}
 use mathlib.Core.Logic.{⊎_elim}
 use native.Mathlib.Omega.{arith}
 use lib.Dec.{ltb}
-use lib.IntN.{ℤ, pos}
+use lib.IntN.{ℤ}
+use Rattle.std.specs.Prelude.{Option, None, Result, Ok}
 use Rattle.base_lists.specs.Lists.{keep, all, any, member, least_of, places}
 use Rattle.base_lists.proofs.Bools.{clash, bool_cases, lt-or-le}
 use Rattle.base_lists.proofs.Keep.{member_head, member_tail, member_cases, keep_yes, keep_no, least_of_top, least_of-member}
@@ -23,10 +24,8 @@ use Rattle.method_laws.proofs.Short.{whole_enough, reach_whole}
 use Rattle.method_laws.proofs.Replies.{test, other, early_other, none_early, earlier_cases, hidden, margin_is}
 use Rattle.method_laws.proofs.ByList.{by_bad}
 use Rattle.file_record.specs.declared.Shape.{Shape}
-use Rattle.file_record.specs.declared.Read.{Read}
-use Rattle.file_record.specs.declared.Read.TheVariants.{File}
 use Rattle.file_record.specs.Reader.{read_file, list_in, request_at}
-use Rattle.host_answer.specs.Names.{untold}
+use Rattle.host_answer.specs.Names.{told}
 use Rattle.host_overlap.specs.Overlap.{overlap_tests, needed_from, is_asked, needed_days, least_told, cut_from}
 use Rattle.host_overlap.specs.Laws.{Laws}
 
@@ -69,14 +68,14 @@ module _ (moves : List ℕ) (r : Request) (t : Table) (room : ℕ) where
           later false b x y f = refl
 
 -- the least of some days is none above any of them
-least_under : (days : List ℕ) (d x : ℕ) → least_told days ≡ pos d → member x days ≡ true → d ≤ x
+least_under : (days : List ℕ) (d x : ℕ) → least_told days ≡ told d → member x days ≡ true → d ≤ x
 unfolding least_told
 least_under [] d x e m = absurd (clash m (unfold member in refl))
 least_under (y ∷ days) d x e m =
     let is : least_of y days ≡ d = cc in
     ⊎_elim (λ z. omega (arith, least_of_top y days)) (λ n. omega (arith, least_of-member y days x n)) (member_cases x y days m)
 
-least_none : (days : List ℕ) (x : ℕ) → least_told days ≡ untold → member x days ≡ false
+least_none : (days : List ℕ) (x : ℕ) → least_told days ≡ None → member x days ≡ false
 unfolding least_told
 least_none [] x e = unfold member in refl
 least_none (y ∷ days) x e = let z : ◌≡◌ {A = ℕ} 0 1 = cc in absurd (omega arith)
@@ -109,27 +108,27 @@ among moves request place (suc count) first low high a =
         (member_tail day (needed_from moves (request first)) (map (needed_from moves) (keep (is_asked moves) rest)) m))
         (λ n. rw (keep_no (is_asked moves) (request first) rest n) m) (bool_cases (is_asked moves (request first)))
 
-module _ (file : List ℕ) (shape : Shape) (accepted : read_file file ≡ File shape) (place : ℕ) (there : place < shape.events) (t : Table) (room : ℕ) where
+module _ (file : List ℕ) (shape : Shape) (accepted : read_file file ≡ Ok shape) (place : ℕ) (there : place < shape.events) (t : Table) (room : ℕ) where
   abbrev days : List ℕ
   days = needed_days (list_in file) (map (request_at file) (places shape.events 0))
 
   its : is_asked (list_in file) (request_at file place) ≡ true → member (needed_from (list_in file) (request_at file place)) days ≡ true
   its a = among (list_in file) (request_at file) place shape.events 0 (omega arith) (omega arith) a
 
-  read_is : {x : ℤ} → cut_from (read_file file) file ≡ x → least_told days ≡ x
-  read_is e = ap (λ (read : Read). cut_from read file) (sym accepted) ∙ e
+  read_is : {x : Option ℤ} → cut_from (read_file file) file ≡ x → least_told days ≡ x
+  read_is e = ap (λ (read : Result Shape Refusal). cut_from read file) (sym accepted) ∙ e
 
   by_asking : (is_asked (list_in file) (request_at file place) ≡ true → is_margin (verdict (list_in file) t (request_at file place) room) ≡ false)
       → is_margin (verdict (list_in file) t (request_at file place) room) ≡ false
   by_asking f = ⊎_elim f (unasked (list_in file) (request_at file place) t room) (bool_cases (is_asked (list_in file) (request_at file place)))
 
-  cut : (d : ℕ) → cut_from (read_file file) file ≡ pos d → t.first ≤ d → is_margin (verdict (list_in file) t (request_at file place) room) ≡ false
+  cut : (d : ℕ) → cut_from (read_file file) file ≡ told d → t.first ≤ d → is_margin (verdict (list_in file) t (request_at file place) room) ≡ false
   cut d e f =
       by_asking
       (λ a. no_margin (list_in file) (request_at file place) t room
       (omega (arith, f, least_under days d (needed_from (list_in file) (request_at file place)) (read_is e) (its a))))
 
-  uncut : cut_from (read_file file) file ≡ untold → is_margin (verdict (list_in file) t (request_at file place) room) ≡ false
+  uncut : cut_from (read_file file) file ≡ None → is_margin (verdict (list_in file) t (request_at file place) room) ≡ false
   uncut e = by_asking (λ a. absurd (clash (its a) (least_none days (needed_from (list_in file) (request_at file place)) (read_is e))))
 
 pub laws : Laws

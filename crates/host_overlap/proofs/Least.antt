@@ -1,84 +1,73 @@
--- The least of the days from which requests need days on, one request after the other.
-use Prim.Native.Nat.{ℕ, suc, ◌+◌, ◌-◌, ◌≤◌, ◌<◌, min}
+-- The least of the days from which the events of a file need days on.
+use Prim.Native.Nat.{ℕ, zero, suc, ◌+◌, ◌≤◌, ◌<◌, min}
 use mathlib.Core.Path.{◌≡◌, refl, sym, ap, ◌∙◌}
-use mathlib.Core.Bool.{true, false, cond}
+use mathlib.Core.Bool.{Bool, true, false, cond}
 use mathlib.Core.List.{List, [], ◌∷◌, map}
-use mathlib.Core.Logic.{⊎_elim}
+use native.Mathlib.Numerals.{add-one}
 use native.Mathlib.Omega.{arith}
-use native.Mathlib.Nat.{sub-zero}
-use borrow.Author.Tests.{lt-ltb, le-ltb}
-use lib.Dec.{ltb}
-use lib.IntN.{ℤ, pos}
+use borrow.Author.Tests.{lt-ltb}
+use Rattle.std.specs.Prelude.{Option, Some, None, Ok}
+use Rattle.std.specs.List.{fold, reduce, filter_map, cons_option, range_with_len}
 use Rattle.base_lists.specs.Lists.{keep, least_of, places}
-use Rattle.base_lists.proofs.Bools.{bool_cases, lt-or-le}
-use Rattle.base_lists.proofs.Keep.{keep_yes, keep_no}
 use Rattle.method.specs.declared.Request.{Request}
-use Rattle.host_overlap.specs.Overlap.{needed_from, is_asked, needed_days, least_told}
-use Rattle.host_overlap.specs.Steps.{no_day, Needs, day_told}
+use Rattle.file_record.specs.declared.Shape.{Shape}
+use Rattle.file_record.specs.Reader.{read_file, list_in, request_at}
+use Rattle.file_record.specs.Steps.{event_within}
+use Rattle.file_record.proofs.Events.{within_is}
+use Rattle.host_answer.specs.Names.{told}
+use Rattle.host_overlap.specs.Overlap.{needed_from, is_asked, needed_days, least_told, cut_from}
+use Rattle.host_overlap.specs.Steps.{needed, needed_there}
 
--- the least of a day that was found, or none, and of the days that are left
-unfoldable pub least_with : ℕ → List ℕ → ℤ
-least_with least days = cond (ltb least no_day) (pos (least_of least days)) (least_told days)
-
+-- ---- the least of some days
 least_of-min : (d top : ℕ) (days : List ℕ) → least_of (min d top) days ≡ min d (least_of top days)
 unfolding least_of
 least_of-min d top [] = refl
 least_of-min d top (x ∷ days) = omega (arith, least_of-min d top days)
 
-with_day : (d least : ℕ) (days : List ℕ) → d < no_day → least_with least (d ∷ days) ≡ least_with (min d least) days
-unfolding least_with least_told least_of
-with_day d least days h = ⊎_elim found first (lt-or-le least no_day)
-  where
-    found : least < no_day → least_with least (d ∷ days) ≡ least_with (min d least) days
-    found l = rw (lt-ltb least no_day l, lt-ltb (min d least) no_day (omega arith)) (ap pos (sym (least_of-min d least days)))
+fold_least : (top : ℕ) (days : List ℕ) → fold min top days ≡ least_of top days
+unfolding least_of
+fold_least top [] = refl
+fold_least top (x ∷ days) =
+    let swapped : min top x ≡ min x top = omega arith in
+    fold_least (min top x) days ∙ rw swapped (least_of-min x top days)
 
-    first : no_day ≤ least → least_with least (d ∷ days) ≡ least_with (min d least) days
-    first l =
-        let is : min d least ≡ d = omega arith in
-        rw (is, le-ltb least no_day l, lt-ltb d no_day h) refl
+least_some : (days : List ℕ) {d : ℕ} → reduce min days ≡ Some d → told d ≡ least_told days
+unfolding least_told
+least_some [] e = absurd (let z : ◌≡◌ {A = ℕ} 0 1 = cc in omega arith)
+least_some (x ∷ days) {d} e = let is : d ≡ fold min x days = cc in ap told (is ∙ fold_least x days)
 
--- the requests from a place on
-module _ (moves : List ℕ) (request : ℕ → Request) (events : ℕ) where
-  abbrev pub left : ℕ → List ℕ
-  left place = needed_days moves (map request (places (events - place) place))
+least_none : (days : List ℕ) → reduce min days ≡ None → None ≡ least_told days
+unfolding least_told
+least_none [] e = refl
+least_none (x ∷ days) e = absurd (let z : ◌≡◌ {A = ℕ} 0 1 = cc in omega arith)
 
-  pub record Going (least place : ℕ) : Type 0 where
-    pub within : place ≤ events
-    pub low : least ≤ no_day
-    pub so_far : least_told (needed_days moves (map request (places events 0))) ≡ least_with least (left place)
+-- ---- the days of a file's events
+module _ (file : List ℕ) {shape : Shape} (r : read_file file ≡ Ok shape) where
+  event_in : (place : ℕ) → place < shape.events → event_within shape file place ≡ Ok (request_at file place)
+  event_in place h = within_is file place r ∙ rw (r, lt-ltb place shape.events h) refl
 
-  pub going_none : Going no_day 0
-  unfolding least_with
-  going_none = record { within = omega arith; low = omega arith; so_far = rw (sub-zero events) refl }
+  module _ (moves : List ℕ) where
+    abbrev there : ℕ → Option ℕ
+    there place = needed_there moves (event_within shape file place)
 
-  pub going_more : {least place day : ℕ} → Going least place → place < events → Needs moves (request place) day → Going (min day least) (place + 1)
-  unfolding needed_days places
-  going_more {least} {place} {day} g h q =
-      record { within = omega arith; low = omega (arith, g.low); so_far = g.so_far ∙ rw (fewer, next) (⊎_elim yes no (bool_cases (is_asked moves (request place)))) }
-    where
-      fewer : events - place ≡ suc (events - (place + 1))
-      fewer = omega arith
+    days_is : (count first : ℕ) → first + count ≤ shape.events → filter_map there (range_with_len first count) ≡ needed_days moves (map (request_at file) (places count first))
+    unfolding needed_days places needed_there needed keep
+    days_is zero first h = refl
+    days_is (suc count) first h =
+        rw (event_in first (omega arith), add-one first) (go (is_asked moves (request_at file first)) _ (days_is count (suc first) (omega arith)))
+      where
+        go : (b : Bool) (asked : List Request) {rest : List ℕ} → rest ≡ map (needed_from moves) asked
+            → cons_option (cond b (Some (needed_from moves (request_at file first))) None) rest ≡ map (needed_from moves) (cond b (request_at file first ∷ asked) asked)
+        go true asked e = ap (λ l. needed_from moves (request_at file first) ∷ l) e
+        go false asked e = e
 
-      next : place + 1 ≡ suc place
-      next = omega arith
+  module _ {moves : List ℕ} (m : moves ≡ list_in file) {least : Option ℕ}
+      (d : least ≡ reduce min (filter_map (λ place. needed_there moves (event_within shape file place)) (range_with_len 0 shape.events))) where
+    least_is : least ≡ reduce min (needed_days (list_in file) (map (request_at file) (places shape.events 0)))
+    least_is = d ∙ rw (← m) (ap (reduce min) (days_is moves shape.events 0 (omega arith)))
 
-      rest : List Request
-      rest = map request (places (events - suc place) (suc place))
+    pub cut_some : {day : ℕ} → least ≡ Some day → told day ≡ cut_from (read_file file) file
+    cut_some e = rw r (least_some _ (sym least_is ∙ e))
 
-      yes : is_asked moves (request place) ≡ true
-          → least_with least (map (needed_from moves) (keep (is_asked moves) (request place ∷ rest))) ≡ least_with (min day least) (map (needed_from moves) (keep (is_asked moves) rest))
-      yes a =
-          let d = q.some a in
-          rw (keep_yes (is_asked moves) (request place) rest a, ← d.0) (with_day day least (map (needed_from moves) (keep (is_asked moves) rest)) d.1)
-
-      no : is_asked moves (request place) ≡ false
-          → least_with least (map (needed_from moves) (keep (is_asked moves) (request place ∷ rest))) ≡ least_with (min day least) (map (needed_from moves) (keep (is_asked moves) rest))
-      no a =
-          let none : min day least ≡ least = omega (arith, q.none a, g.low) in
-          rw (keep_no (is_asked moves) (request place) rest a, none) refl
-
-  pub going_end : {least place : ℕ} → Going least place → events ≤ place → day_told least ≡ least_told (needed_days moves (map request (places events 0)))
-  unfolding least_with needed_days places least_told least_of keep
-  going_end {least} {place} g all =
-      let none : events - place ≡ 0 = omega arith in
-      sym (g.so_far ∙ rw none refl)
+    pub cut_none : least ≡ None → None ≡ cut_from (read_file file) file
+    cut_none e = rw r (least_none _ (sym least_is ∙ e))

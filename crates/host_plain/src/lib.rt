@@ -2,42 +2,42 @@
 #![tactic(auto)]
 
 ghost use Rattle.std.specs.Prelude.{◌≡◌};
-ghost use Rattle.calendar_dates.specs.declared.Dated.TheVariants.{On};
 ghost use Rattle.calendar_dates.specs.Days.{numbered, dated};
-ghost use Rattle.host_plain.specs.Plain.{date_written, day_told, date_told, version as version_of};
+ghost use Rattle.host_plain.specs.Plain.{date_written, day_told, month_digits, date_digits, date_told, version as version_of};
 
-use calendar_dates::{Date, Dated, Numbered};
+use calendar_dates::Date;
+use host_answer::told;
 
 // The version of include/honeyplank.h that these entries are of.
 const VERSION: u32 = 700;
 
 // The day number of a date.
-pub fn day_of(year: u32, month: u32, day: u32) -> i64
+pub fn day_of(year: u32, month: u32, day: u32) -> Option<i64>
     ensures { result ≡ day_told (numbered (date_written year month day)) }
 {
-    let number = calendar_dates::day_number(Date { year, month, day });
-    match number {
-        Numbered::Day(known) => known as i64,
-        Numbered::NoSuchDate => host_answer::NOTHING,
-    }
+    told(Date { year, month, day }.day_number()?)
+}
+
+// A date's month and day as one number.
+pub fn month_digits(date: Date) -> u64
+    ensures { result ≡ month_digits date }
+{
+    100 * u64::from(date.month) + u64::from(date.day)
 }
 
 // A date as one number.
-fn digits_of(date: Date) -> i64
-    ensures { result ≡ date_told (On date) }
+fn digits_of(date: Date) -> u64
+    ensures { result ≡ date_digits date }
 {
-    (10000 * (date.year as u64) + 100 * (date.month as u64) + (date.day as u64)) as i64
+    10000 * u64::from(date.year) + month_digits(date)
 }
 
 // The date of a day number.
-pub fn date_of(day: u32) -> i64
+pub fn date_of(day: u32) -> Option<i64>
     ensures { result ≡ date_told (dated day) }
 {
-    let date = calendar_dates::date_of(day);
-    match date {
-        Dated::On(known) => digits_of(known),
-        Dated::PastCalendar => host_answer::NOTHING,
-    }
+    let date = Date::of_day(day)?;
+    Some(digits_of(date) as i64)
 }
 
 pub fn version() -> u32

@@ -1,17 +1,21 @@
 -- The numerator before the floor, as a difference of two numbers.
 use Prim.Native.Nat.{ℕ, zero, suc, ◌+◌, ◌-◌, ◌*◌, ◌≤◌, ◌<◌}
-use mathlib.Core.Path.{◌≡◌, ap}
+use mathlib.Core.Path.{◌≡◌, sym, ap}
+use mathlib.Core.Bool.{true, false}
 use mathlib.Core.List.{List}
 use mathlib.Core.Logic.{⊎_elim}
 use native.Mathlib.Omega.{arith}
-use borrow.Author.Tests.{lt-ltb, le-ltb, eq-eqb, ne_eqb}
+use borrow.Author.Tests.{lt-ltb, le-ltb, ne_eqb}
 use lib.IntN.{pos, sub_ℕ, ◌+ℤ◌, ◌-ℤ◌}
+use Rattle.std.specs.Prelude.{Some, None}
 use Rattle.base_lists.proofs.Bools.{lt-or-le}
 use Rattle.method.specs.declared.Request.{Request}
 use Rattle.method.specs.Table.{Day, History}
-use Rattle.method.specs.Adjustment.{ruler, adjustment_end, A, B}
+use Rattle.method.specs.Adjustment.{ruler, adjustment_end, A, B, is_average}
+use Rattle.engine_adjustment.specs.Steps.{found}
+use Rattle.engine_adjustment.proofs.Windows.{found_none, found_some, found_past}
 use Rattle.engine_baseline.specs.Engine.{with_days}
-use Rattle.host_answer.specs.Names.{untold}
+use Rattle.host_answer.specs.Names.{told}
 use Rattle.host_quarters.specs.Steps.{numerator_of}
 
 -- a number more on the one side of a difference
@@ -44,16 +48,18 @@ module _ (r : Request) (h : History Day) (days : List ℕ) (count sum : ℕ) whe
   abbrev line : List ℕ
   line = ruler (h.day (r.event - 1)) (h.day r.event)
 
-  pub by_average : r.method ≡ 1 → pos sum ≡ numerator_of r h days count sum
+  pub by_average : is_average r ≡ true → told sum ≡ numerator_of r h days count sum
   unfolding numerator_of
-  by_average e = rw (eq-eqb r.method 1 e)
+  by_average e = rw e
 
-  module _ (high : r.method ≡ 1 → ⊥) {end : ℕ} (is : end ≡ adjustment_end r line) where
-    pub without_window : end ≡ 0 → untold ≡ numerator_of r h days count sum
+  module _ (high : is_average r ≡ false) where
+    pub without_window : found (adjustment_end r line) ≡ None → None ≡ numerator_of r h days count sum
     unfolding numerator_of
-    without_window e = rw (ne_eqb r.method 1 high, ← is, eq-eqb end 0 e)
+    without_window e = rw (high, found_none (adjustment_end r line) (sym e))
 
-    pub with_window : (end ≡ 0 → ⊥) → {own usual : ℕ} → own ≡ A line end → usual ≡ B r.event (with_days h days) end
-        → pos (12 * sum + count * own) -ℤ pos usual ≡ numerator_of r h days count sum
+    pub with_window : {end : ℕ} → found (adjustment_end r line) ≡ Some end → {own usual : ℕ} → own ≡ A line end → usual ≡ B r.event (with_days h days) end
+        → Some (pos (12 * sum + count * own) -ℤ pos usual) ≡ numerator_of r h days count sum
     unfolding numerator_of
-    with_window n {own} {usual} o u = rw (ne_eqb r.method 1 high, ← is, ne_eqb end 0 n, ← o, ← u) (sum_less (12 * sum) (count * own) usual)
+    with_window {end} f {own} {usual} o u =
+        let is : end ≡ adjustment_end r line = found_some (adjustment_end r line) end (sym f) in
+        rw (high, ← is, ne_eqb end 0 (found_past (adjustment_end r line) end (sym f)), ← o, ← u) (ap Some (sum_less (12 * sum) (count * own) usual))

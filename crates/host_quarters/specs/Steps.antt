@@ -1,26 +1,15 @@
 -- What the private functions of telling the adjustment and the quarters give to each other.
-use Rattle.std.specs.Prelude.{ℕ, ◌-◌, ◌≡◌, true, not, cond, List, length, take, ℤ, pos, eqb}
-use Rattle.calendar_groups.specs.declared.Group.{Group}
+use Rattle.std.specs.Prelude.{ℕ, ◌-◌, not, cond, List, ℤ, eqb, Option, Some}
 use Rattle.method.specs.declared.Request.{Request}
 use Rattle.method.specs.Table.{Day, History}
-use Rattle.method.specs.Method.{chosen}
 use Rattle.method.specs.Adjustment.{ruler, adjustment_end, A, B, adjustment, is_average, unfloored}
-use Rattle.method.specs.Requested.{method_of}
-use Rattle.method_working.specs.Working.{chooses}
 use Rattle.engine_baseline.specs.Engine.{with_days}
-use Rattle.host_answer.specs.Names.{told_if}
-use Rattle.host_quarters.specs.declared.Picked.{Picked}
+use Rattle.host_answer.specs.Names.{told, told_if}
 
 -- the numerator before the floor of chosen days with this S(t), where an adjustment is made or none is needed
-unfoldable pub numerator_of : Request → History Day → List ℕ → ℕ → ℕ → ℤ
+unfoldable pub numerator_of : Request → History Day → List ℕ → ℕ → ℕ → Option ℤ
 numerator_of r h days count sum =
     let line = ruler (h.day (r.event - 1)) (h.day r.event) in
     let end = adjustment_end r line in
-    cond (is_average r) (pos sum)
-    (told_if (not (eqb end 0)) (unfloored 12 sum (adjustment count (A line end) (B r.event (with_days h days) end))))
-
--- whether days are chosen, and which
-pub record Picks (group : ℕ → Group) (r : Request) (h : History Day) (p : Picked) : Type 0 where
-  pub some : p.chooses ≡ chooses group r h
-  pub days : p.chooses ≡ true → with_days h (take p.count p.days) ≡ chosen (method_of group r) h
-  pub count : p.chooses ≡ true → p.count ≡ length (chosen (method_of group r) h)
+    cond (is_average r) (told sum)
+    (told_if (not (eqb end 0)) (Some (unfloored 12 sum (adjustment count (A line end) (B r.event (with_days h days) end)))))

@@ -2,142 +2,98 @@
 // any quarter, any place of the row.
 #![tactic(auto)]
 
-ghost use Rattle.std.specs.Prelude.{◌≡◌, false, ◌≤◌, take};
+ghost use Rattle.std.specs.Prelude.{◌≡◌, ◌≤◌, ◌<◌, ◌^◌, take};
 ghost use Rattle.calendar_groups.specs.Holidays.{group as group_of};
-ghost use Rattle.engine_rooms.specs.Rooms.{room_history};
-ghost use Rattle.host_answer.specs.Names.{by_name};
+ghost use Rattle.engine_rooms.specs.Rooms.{history_of};
+ghost use Rattle.host_answer.specs.Names.{told, by_name};
 ghost use Rattle.host_working.specs.Told.{adjustment_numbers, quarter_numbers};
-ghost use Rattle.host_quarters.specs.Steps.{Picks, numerator_of};
+ghost use Rattle.host_quarters.specs.Steps.{numerator_of};
 
-use engine_choice::Choosing;
-use engine_rooms::Directory;
-use method::Request;
+use engine_answer::Chosen;
+use engine_rooms::Case;
+use host_answer::told;
+use method::Method;
 
-// The days that are chosen, the first `count` of five, where any are.
-#[derive(Clone, Copy)]
-pub struct Picked {
-    pub chooses: bool,
-    pub days: [u32; 5],
-    pub count: u32,
-}
+// The places of the row of an adjustment window, and of that of a quarter. Numbers and no enum, as the names that C asks by (`host_answer::names`).
+const END: u32 = 0;
 
-fn none_picked() -> Picked
-    ensures { result.chooses ≡ false }
+const OWN: u32 = 1;
+
+const USUAL: u32 = 2;
+
+const SUM: u32 = 0;
+
+const NUMERATOR: u32 = 1;
+
+// A sum that is told.
+fn told_sum(sum: u64) -> Option<i64>
+    requires { sum < 2 ^ 63 }
+    ensures { result ≡ told sum }
 {
-    Picked {
-        chooses: false,
-        days: [0; 5],
-        count: 0,
-    }
-}
-
-// Whether days are chosen, and which.
-fn pick(moves: &[u32], request: Request, rooms: Directory, readings: &[u32]) -> Picked
-    ensures { Picks (group_of moves.now) request (room_history request rooms readings.now) result }
-{
-    let choice = engine_choice::choose(moves, request, rooms, readings);
-    let choosing = choice.choosing;
-    match choosing {
-        Choosing::Short(_) => none_picked(),
-        Choosing::Few { size: _, reach: _ } => none_picked(),
-        Choosing::Days => {
-            let chosen = choice.chosen;
-            let days = chosen.days;
-            Picked {
-                chooses: true,
-                days,
-                count: chosen.count,
-            }
-        }
-    }
+    Some(sum as i64)
 }
 
 // Of the adjustment window: where it ends, A and B.
-pub fn tell_adjustment(
-    moves: &[u32],
-    request: Request,
-    rooms: Directory,
-    readings: &[u32],
-    place: u32,
-) -> i64
-    ensures { result ≡ by_name (adjustment_numbers (group_of moves.now) request (room_history request rooms readings.now)) place }
+#[tactic(auto, using(crate::proofs::Picking::some_picked, crate::proofs::Picking::none_picked, crate::proofs::Picking::days_picked, method::proofs::Asked::asked_average, method::proofs::Asked::asked_high, crate::proofs::Ways::none_chosen, crate::proofs::Ways::of_average, crate::proofs::Ways::no_window, crate::proofs::Ways::end_told, crate::proofs::Ways::own_told, crate::proofs::Ways::usual_told, crate::proofs::Ways::no_other))]
+pub fn tell_adjustment(case: &Case<'_>, place: u32) -> Option<i64>
+    ensures { result ≡ by_name (adjustment_numbers (group_of case.now.moves.now) case.now.request (history_of case.now)) place }
 {
-    let picked = pick(moves, request, rooms, readings);
-    if picked.chooses {
-        if request.method == method::AVERAGE_X_OF_Y {
-            return host_answer::NOTHING;
+    let Ok(chosen) = engine_choice::choose(case) else {
+        return None;
+    };
+    match case.request.method() {
+        Method::AverageXOfY => None,
+        Method::HighXOfY => {
+            let end = engine_quarters::adjustment_end(case)?;
+            match place {
+                END => told(end),
+                OWN => told_sum(engine_quarters::own_sum(case, end)),
+                USUAL => told_sum(engine_quarters::usual_sum(case, chosen.days, chosen.count, end)),
+                _ => None,
+            }
         }
-        let end = engine_quarters::adjustment_end(request, rooms, readings);
-        if end == 0 {
-            return host_answer::NOTHING;
-        }
-        let days = picked.days;
-        match place {
-            0 => end as i64,
-            1 => engine_quarters::own_sum(request, rooms, readings, end) as i64,
-            2 => engine_quarters::usual_sum(
-                request,
-                rooms,
-                readings,
-                days,
-                picked.count,
-                end,
-            ) as i64,
-            _ => host_answer::NOTHING,
-        }
-    } else {
-        host_answer::NOTHING
     }
 }
 
 // The numerator of an event quarter before the floor, of its S(t) and the chosen days; nothing where there is no adjustment window.
-fn tell_numerator(
-    request: Request,
-    rooms: Directory,
-    readings: &[u32],
-    days: [u32; 5],
-    count: u32,
-    sum: u64,
-) -> i64
-    requires { (count ≤ 5) × (sum ≤ 21474836475) }
-    ensures { result ≡ numerator_of request (room_history request rooms readings.now) (take count days) count sum }
+#[tactic(auto, using(method::proofs::Asked::asked_average, method::proofs::Asked::asked_high, crate::proofs::Numerators::by_average, crate::proofs::Numerators::without_window))]
+fn tell_numerator(case: &Case<'_>, chosen: Chosen, sum: u64) -> Option<i64>
+    requires { (chosen.count ≤ 5) × (sum ≤ 21474836475) }
+    ensures { result ≡ numerator_of case.now.request (history_of case.now) (take chosen.count chosen.days) chosen.count sum }
 {
-    if request.method == method::AVERAGE_X_OF_Y {
-        return sum as i64;
+    match case.request.method() {
+        Method::AverageXOfY => told_sum(sum),
+        Method::HighXOfY => {
+            let end = engine_quarters::adjustment_end(case)?;
+            let count = chosen.count;
+            let own = engine_quarters::own_sum(case, end);
+            let usual = engine_quarters::usual_sum(case, chosen.days, count, end);
+            Some((12 * sum + (count as u64) * own) as i64 - usual as i64)
+        }
     }
-    let end = engine_quarters::adjustment_end(request, rooms, readings);
-    if end == 0 {
-        return host_answer::NOTHING;
-    }
-    let own = engine_quarters::own_sum(request, rooms, readings, end);
-    let usual = engine_quarters::usual_sum(request, rooms, readings, days, count, end);
-    (12 * sum + (count as u64) * own) as i64 - usual as i64
 }
 
 // Of a ruler quarter: S(t), and of an event's quarter the numerator before the floor.
-pub fn tell_quarter(
-    moves: &[u32],
-    request: Request,
-    rooms: Directory,
-    readings: &[u32],
-    t: u32,
-    place: u32,
-) -> i64
-    ensures { result ≡ by_name (quarter_numbers (group_of moves.now) request (room_history request rooms readings.now) t) place }
+#[tactic(auto, using(crate::proofs::Picking::some_picked, crate::proofs::Picking::none_picked, crate::proofs::Picking::days_picked, crate::proofs::Picking::count_picked, engine_choice::proofs::Requested::chosen_five, crate::proofs::Ways::quarter_none, crate::proofs::Ways::sum_told, crate::proofs::Ways::past_ruler, crate::proofs::Ways::numerator_told, crate::proofs::Ways::outside_event, crate::proofs::Ways::past_quarter))]
+pub fn tell_quarter(case: &Case<'_>, t: u32, place: u32) -> Option<i64>
+    ensures { result ≡ by_name (quarter_numbers (group_of case.now.moves.now) case.now.request (history_of case.now) t) place }
 {
-    let picked = pick(moves, request, rooms, readings);
-    if picked.chooses {
-        let days = picked.days;
-        let sum = engine_quarters::quarter_sum(request, rooms, readings, days, picked.count, t);
-        if place == 0 {
-            if t < day_ruler::end(request.event) {
-                return sum as i64;
-            }
-            return host_answer::NOTHING;
-        }
-        if (place == 1) & ((request.s <= t) & (t < request.e)) {
-            return tell_numerator(request, rooms, readings, days, picked.count, sum);
-        }
+    let Ok(chosen) = engine_choice::choose(case) else {
+        return None;
+    };
+    let days = chosen.days;
+    let sum = engine_quarters::quarter_sum(case, days, chosen.count, t);
+    match place {
+        SUM => if t < day_ruler::end(case.request.event) {
+            told_sum(sum)
+        } else {
+            None
+        },
+        NUMERATOR => if case.request.s <= t && t < case.request.e {
+            tell_numerator(case, chosen, sum)
+        } else {
+            None
+        },
+        _ => None,
     }
-    host_answer::NOTHING
 }

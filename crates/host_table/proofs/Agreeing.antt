@@ -9,7 +9,7 @@ use native.Mathlib.Omega.{arith}
 use borrow.Author.Tests.{not-true, leb-true, le-leb, lt-leb, lt-ltb}
 use lib.ListN.{length}
 use lib.Dec.{leb, ltb, eqb}
-use lib.IntN.{ℤ, pos}
+use lib.IntN.{ℤ}
 use Rattle.base_lists.specs.Lists.{all}
 use Rattle.base_lists.proofs.Bools.{bool_cases, clash, and_left, and_right, lt-or-le}
 use Rattle.calendar_groups.specs.declared.Group.{Group}
@@ -32,11 +32,12 @@ use Rattle.engine_rooms.specs.declared.Directory.{Directory}
 use Rattle.engine_rooms.specs.Rooms.{held_rooms, room_history}
 use Rattle.engine_rooms.specs.Agree.{Agree}
 use Rattle.engine_choice.proofs.Rooms.{same_window, same_short, same_day, rooms_seen, rooms_begin}
-use Rattle.host_answer.specs.Names.{told_if, row_from}
+use Rattle.std.specs.Prelude.{Option as Perhaps, Some}
+use Rattle.host_answer.specs.Names.{told, told_if, row_from}
 use Rattle.host_working.specs.Told.{reason_number, told_of, as_number, window_numbers, adjustment_numbers, day_numbers, quarter_numbers, working_row}
 
 -- a number is told alike where the tests are the same, and the numbers are where they hold
-told_same : {b c : Bool} {x y : ℤ} → b ≡ c → (c ≡ true → x ≡ y) → told_if b x ≡ told_if c y
+told_same : {b c : Bool} {x y : Perhaps ℤ} → b ≡ c → (c ≡ true → x ≡ y) → told_if b x ≡ told_if c y
 told_same {b} {c} {x} {y} e f = ap (λ (d : Bool). told_if d x) e ∙ go c f
   where
     go : (d : Bool) → (d ≡ true → x ≡ y) → told_if d x ≡ told_if d y
@@ -205,24 +206,24 @@ module _ (group : ℕ → Group) {r : Request} {rooms : Directory} {readings : L
   of_window : window_numbers group r shown ≡ window_numbers group r h
   unfolding window_numbers
   of_window =
-      λ i. pos (group_number (group r.event)) ∷ pos how.most ∷
-      told_if (not (shorts i)) (pos (length (windows i))) ∷ told_if (not (shorts i)) (pos (how.passed (length (windows i)))) ∷
-      told_if (not (shorts i)) (pos (how.taken (length (windows i)))) ∷ []
+      λ i. told (group_number (group r.event)) ∷ told how.most ∷
+      told_if (not (shorts i)) (told (length (windows i))) ∷ told_if (not (shorts i)) (told (how.passed (length (windows i)))) ∷
+      told_if (not (shorts i)) (told (how.taken (length (windows i)))) ∷ []
 
   of_adjustment : adjustment_numbers group r shown ≡ adjustment_numbers group r h
   unfolding adjustment_numbers
   of_adjustment =
-      λ i. told_same adjustings (λ e. ap pos (ends_same (adjusts-chooses e))) i ∷
-      told_same adjustings (λ e. ap₂ (λ l n. pos (A l n)) (rulers (adjusts-chooses e)) (ends_same (adjusts-chooses e))) i ∷
-      told_same adjustings (λ e. ap₂ (λ l n. pos (B r.event l n)) chosens (ends_same (adjusts-chooses e))) i ∷ []
+      λ i. told_same adjustings (λ e. ap told (ends_same (adjusts-chooses e))) i ∷
+      told_same adjustings (λ e. ap₂ (λ l n. told (A l n)) (rulers (adjusts-chooses e)) (ends_same (adjusts-chooses e))) i ∷
+      told_same adjustings (λ e. ap₂ (λ l n. told (B r.event l n)) chosens (ends_same (adjusts-chooses e))) i ∷ []
 
   of_day : (back : ℕ) → day_numbers group r shown back ≡ day_numbers group r h back
   unfolding day_numbers
   of_day back =
-      λ i. told_if ((leb 1 back && leb back 45) && leb back r.event) (pos (r.event - back)) ∷
-      told_if ((leb 1 back && leb back 45) && leb back r.event) (pos (group_number (group (r.event - back)))) ∷
-      told_same refl (λ e. ap (λ x. pos (reason_number x)) (reasons back (most e))) i ∷ told_same refl (λ e. ap told_of (sums back (most e))) i ∷
-      told_if ((leb 1 back && leb back 45) && not (shorts i)) (pos (ranks back i)) ∷ told_if ((leb 1 back && leb back 45) && not (shorts i)) (as_number (choices back i)) ∷ []
+      λ i. told_if ((leb 1 back && leb back 45) && leb back r.event) (told (r.event - back)) ∷
+      told_if ((leb 1 back && leb back 45) && leb back r.event) (told (group_number (group (r.event - back)))) ∷
+      told_same refl (λ e. ap (λ x. told (reason_number x)) (reasons back (most e))) i ∷ told_same refl (λ e. ap told_of (sums back (most e))) i ∷
+      told_if ((leb 1 back && leb back 45) && not (shorts i)) (told (ranks back i)) ∷ told_if ((leb 1 back && leb back 45) && not (shorts i)) (Some (as_number (choices back i))) ∷ []
     where
       most : (leb 1 back && leb back 45) ≡ true → back ≤ 45
       most e = leb-true back 45 (and_right (leb 1 back) (leb back 45) e)
@@ -230,9 +231,9 @@ module _ (group : ℕ → Group) {r : Request} {rooms : Directory} {readings : L
   of_quarter : (t : ℕ) → quarter_numbers group r shown t ≡ quarter_numbers group r h t
   unfolding quarter_numbers
   of_quarter t =
-      λ i. told_if (choosings i && ltb t (ruler_end r.event)) (pos (S r.event (chosens i) t)) ∷
+      λ i. told_if (choosings i && ltb t (ruler_end r.event)) (told (S r.event (chosens i) t)) ∷
       told_same (ap (λ b. b && leb r.s t && ltb t r.e) answerings)
-      (λ e. numerators (answers-chooses (and_left (answers group r h) (leb r.s t) (and_left (answers group r h && leb r.s t) (ltb t r.e) e))) t) i ∷ []
+      (λ e. ap Some (numerators (answers-chooses (and_left (answers group r h) (leb r.s t) (and_left (answers group r h && leb r.s t) (ltb t r.e) e))) t)) i ∷ []
 
   pub same_working : (at : ℕ) → working_row group r shown at ≡ working_row group r h at
   unfolding working_row

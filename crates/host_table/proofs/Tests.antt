@@ -4,6 +4,7 @@ use mathlib.Core.Path.{◌≡◌, sym, ap, ◌∙◌}
 use mathlib.Core.Bool.{Bool, true, false}
 use mathlib.Core.List.{List, ◌++◌}
 use lib.IntN.{ℤ}
+use Rattle.std.specs.Prelude.{Option, Ok, Err}
 use Rattle.calendar_groups.specs.Holidays.{good_moves, group}
 use Rattle.method.specs.declared.Request.{Request}
 use Rattle.method.specs.declared.Refusal.{Refusal}
@@ -14,7 +15,6 @@ use Rattle.engine_rooms.specs.declared.Directory.{Directory}
 use Rattle.engine_rooms.specs.Rooms.{room_history}
 use Rattle.engine_rooms.specs.Agree.{Agree}
 use Rattle.engine_choice.proofs.Rooms.{rooms-held}
-use Rattle.engine_refusals.specs.declared.Tested.TheVariants.{Passed, Failed}
 use Rattle.engine_refusals.specs.Steps.{tested}
 use Rattle.engine_refusals.proofs.FirstRefusal.{request_passed}
 use Rattle.table_directory.specs.Steps.{directory_of}
@@ -30,7 +30,7 @@ module _ (moves : List ℕ) (t : Table) (r : Request) (at name : ℕ) where
   abbrev asked : List (Bool × Refusal)
   asked = request_refusals (history t) r most_quarters
 
-  abbrev row : List ℤ
+  abbrev row : List (Option ℤ)
   row = working_row (group moves) r (history t) at
 
   in_order : table_sheet moves t r at ≡ row_after (table_refusals t) (row_after (list_refusals moves) (row_after asked row))
@@ -38,12 +38,12 @@ module _ (moves : List ℕ) (t : Table) (r : Request) (at name : ℕ) where
   in_order =
       row_append (table_refusals t ++ list_refusals moves) asked row ∙ row_append (table_refusals t) (list_refusals moves) (row_after asked row)
 
-  pub table_told : {w : Refusal} {x : ℤ} → tested (table_refusals t) ≡ Failed w → x ≡ by_name (refusal_row w) name → x ≡ by_name (table_sheet moves t r at) name
+  pub table_told : {w : Refusal} {x : Option ℤ} → tested (table_refusals t) ≡ Err w → x ≡ by_name (refusal_row w) name → x ≡ by_name (table_sheet moves t r at) name
   table_told {w} e told =
       told ∙ ap (λ l. by_name l name) (sym (in_order ∙ row_failed (table_refusals t) w (row_after (list_refusals moves) (row_after asked row)) e))
 
-  module _ (passed : tested (table_refusals t) ≡ Passed) where
-    pub list_told : {x : ℤ} → good_moves moves ≡ false → x ≡ by_name (refusal_row BadMoves) name → x ≡ by_name (table_sheet moves t r at) name
+  module _ (passed : tested (table_refusals t) ≡ Ok tt) where
+    pub list_told : {x : Option ℤ} → good_moves moves ≡ false → x ≡ by_name (refusal_row BadMoves) name → x ≡ by_name (table_sheet moves t r at) name
     list_told bad told = told ∙ ap (λ l. by_name l name) (sym (in_order ∙ row_passed (table_refusals t) _ passed ∙ (unfold list_refusals row_after in rw bad)))
 
     module _ (good : good_moves moves ≡ true) where
@@ -51,7 +51,7 @@ module _ (moves : List ℕ) (t : Table) (r : Request) (at name : ℕ) where
       after_list = in_order ∙ row_passed (table_refusals t) _ passed ∙ (unfold list_refusals row_after in rw good)
 
       -- no refusal applies: the row is that of the working
-      pub all_passed : tested asked ≡ Passed → table_sheet moves t r at ≡ row
+      pub all_passed : tested asked ≡ Ok tt → table_sheet moves t r at ≡ row
       all_passed e = after_list ∙ row_passed asked row e
 
       abbrev rooms : Directory
@@ -65,13 +65,13 @@ module _ (moves : List ℕ) (t : Table) (r : Request) (at name : ℕ) where
       unfolding request_refusals
       asked-rooms = rw (rooms-held (group moves) agree)
 
-      pub request_told : {w : Refusal} {x : ℤ} → tested (request_refusals (room_history r rooms t.readings) r most_quarters) ≡ Failed w
+      pub request_told : {w : Refusal} {x : Option ℤ} → tested (request_refusals (room_history r rooms t.readings) r most_quarters) ≡ Err w
           → x ≡ by_name (refusal_row w) name → x ≡ by_name (table_sheet moves t r at) name
       request_told {w} e told = told ∙ ap (λ l. by_name l name) (sym (after_list ∙ row_failed asked w row (rw asked-rooms at e)))
 
-      pub working_told : {x : ℤ} → tested (request_refusals (room_history r rooms t.readings) r most_quarters) ≡ Passed
+      pub working_told : {x : Option ℤ} → tested (request_refusals (room_history r rooms t.readings) r most_quarters) ≡ Ok tt
           → x ≡ by_name (working_row (group moves) r (room_history r rooms t.readings) at) name → x ≡ by_name (table_sheet moves t r at) name
       working_told e told =
-          let p : tested asked ≡ Passed = rw asked-rooms at e in
+          let p : tested asked ≡ Ok tt = rw asked-rooms at e in
           told ∙ ap (λ l. by_name l name)
           (same_working (group moves) agree (request_passed (history t) r most_quarters p).holds at ∙ sym (after_list ∙ row_passed asked row p))

@@ -1,11 +1,12 @@
 -- The lines of an event as they are written, piece by piece, are the lines as they are defined.
+use Rattle.std.specs.Prelude.{Option, None}
 use Prim.Native.Nat.{ℕ, ◌+◌, ◌≤◌, ◌<◌, min}
-use mathlib.Core.Path.{◌≡◌}
+use mathlib.Core.Path.{◌≡◌, refl, ap, ◌∙◌}
 use mathlib.Core.List.{List, [], ◌∷◌, ◌++◌, map}
 use native.Mathlib.Omega.{arith}
 use native.Mathlib.Numerals.{add-one}
 use lib.ListN.{length, take, drop, get_or, length-take, drop_of_length-le}
-use lib.Seq.{length-take-le, drop-cons}
+use lib.Seq.{drop-cons}
 use lib.IntN.{ℤ}
 use Rattle.base_lists.specs.Ascii.{ascii}
 use Rattle.base_digits.specs.Digits.{dec, decimal}
@@ -13,8 +14,10 @@ use Rattle.base_text.specs.TextSteps.{Puts, PutsBoth}
 use Rattle.method.specs.declared.Request.{Request}
 use Rattle.method.specs.declared.Refusal.{Refusal}
 use Rattle.method.specs.Verdict.{number, carries}
-use Rattle.engine_answer.specs.declared.Told.{Told}
-use Rattle.engine_answer.proofs.Carried.{Tells}
+use Rattle.method.specs.declared.Refusal.TheVariants.{BadFile, NoEvent, BadTable, BadMark, BadReading, BadRequest, NotHeld}
+use Rattle.method.specs.declared.Refusal.TheVariants.{NotYetParticipating, NoRoom, MarginTooShort, TooFew, NoAdjustmentWindow, Unwritable, BadMoves}
+use Rattle.method.specs.Told.{in_two}
+use Rattle.listing_event_line.specs.Carried.{there}
 use Rattle.listing_lines.specs.Lines.{space, newline, spaced, line_text}
 use Rattle.listing_lines.specs.Listing.{numbers, event_line, refusal_line}
 use Rattle.listing_lines.specs.WriteSteps.{Writes}
@@ -30,12 +33,11 @@ event_is r days reach denominator adjustment =
     line_is (dec r.event) (dec r.s ∷ dec r.e ∷ []) (ascii "days" ∷ dec (length days) ∷ numbers days)
     (ascii "reach" ∷ dec reach ∷ ascii "over" ∷ dec denominator ∷ ascii "adj" ∷ decimal adjustment ∷ [])
 
-pub refusal_is : (r : Request) (w : Refusal) (n : ℕ) (carried : List ℕ) → n ≡ number w → carried ≡ carries w
-    → dec r.event ++ spaced (dec r.s ∷ dec r.e ∷ []) ++ spaced (ascii "refused" ∷ dec n ∷ []) ++ (spaced (numbers carried) ++ (newline ∷ []))
+pub refusal_is : (r : Request) (w : Refusal) (n : ℕ) → n ≡ number w
+    → dec r.event ++ spaced (dec r.s ∷ dec r.e ∷ []) ++ spaced (ascii "refused" ∷ dec n ∷ []) ++ (spaced (numbers (carries w)) ++ (newline ∷ []))
     ≡ line_text (refusal_line r w)
 unfolding refusal_line
-refusal_is r w n carried e f =
-    rw (line_is (dec r.event) (dec r.s ∷ dec r.e ∷ []) (ascii "refused" ∷ dec n ∷ []) (numbers carried), e, f)
+refusal_is r w n e = rw (line_is (dec r.event) (dec r.s ∷ dec r.e ∷ []) (ascii "refused" ∷ dec n ∷ []) (numbers (carries w)), e)
 
 -- what stands after the days, from its five pieces
 module _ {d : List ℕ} {at : ℕ} (reach denominator : ℕ) (adjustment : ℤ) (room : at + 59 ≤ length d) where
@@ -55,9 +57,28 @@ module _ {d : List ℕ} {at : ℕ} (reach denominator : ℕ) (adjustment : ℤ) 
       let three = named (fields_both (ascii "reach" ∷ dec reach ∷ ascii "over" ∷ dec denominator ∷ []) (ascii "adj" ∷ decimal adjustment ∷ [])) (then two third) in
       (then_put three z (omega arith), omega arith)
 
--- how many numbers a refusal carries
-pub carried_length : {w : Refusal} {told : Told} → Tells w told → length (take told.count told.carried) ≡ told.count
-carried_length {w} {told} t = length-take-le told.count told.carried (omega (arith, t.size, t.most))
+-- the two places where a refusal's numbers are hold them all, and no more
+carried_is : (w : Refusal)
+    → map dec (there (get_or (in_two (carries w)) 0 None)) ++ map dec (there (get_or (in_two (carries w)) 1 None)) ≡ numbers (carries w)
+unfolding there
+carried_is (BadFile place) = refl
+carried_is NoEvent = refl
+carried_is BadTable = refl
+carried_is (BadMark place) = refl
+carried_is (BadReading place) = refl
+carried_is BadRequest = refl
+carried_is NotHeld = refl
+carried_is NotYetParticipating = refl
+carried_is NoRoom = refl
+carried_is (MarginTooShort days) = refl
+carried_is (TooFew size reach) = refl
+carried_is (NoAdjustmentWindow reach) = refl
+carried_is Unwritable = refl
+carried_is BadMoves = refl
+
+pub both_carried : (w : Refusal) {two : List (Option ℕ)} → two ≡ in_two (carries w)
+    → spaced (map dec (there (get_or two 0 None))) ++ spaced (map dec (there (get_or two 1 None))) ≡ spaced (numbers (carries w))
+both_carried w e = rw e (fields_both _ _ ∙ ap spaced (carried_is w))
 
 -- the chosen days, of which five at most are told
 pub record Few (count few : ℕ) (days : List ℕ) : Type 0 where

@@ -5,12 +5,14 @@
 ghost use Rattle.std.specs.Prelude.{[], ◌∷◌, ◌++◌, map, ◌+◌, ◌*◌, ◌≤◌, length, take};
 ghost use Rattle.base_lists.specs.Ascii.{ascii};
 ghost use Rattle.base_digits.specs.Digits.{dec, decimal};
+ghost use Rattle.base_text.specs.TextSteps.{Keeps};
 ghost use Rattle.listing_lines.specs.Lines.{newline, spaced, line_text};
 ghost use Rattle.listing_lines.specs.Listing.{numbers, event_line, refusal_line};
 ghost use Rattle.listing_lines.specs.WriteSteps.{Writes, PutsWithin};
+ghost use Rattle.listing_event_line.specs.Carried.{there};
 ghost use Rattle.listing_event_line.specs.Room.{event_room, refusal_room};
 
-use base_numbers::counts;
+use base_text::Text;
 use engine_answer::Chosen;
 use method::{Refusal, Request};
 
@@ -20,39 +22,88 @@ pub const EVENT_ROOM: usize = 162;
 const REFUSAL_ROOM: usize = 100;
 
 // D, s and e, by which the line opens.
-fn put_three(out: &mut [u8], request: Request) -> usize
-    requires { 32 ≤ length out.old }
-    ensures { Writes out.old 0 (dec request.event ++ spaced (dec request.s ∷ dec request.e ∷ [])) result out.new × (result ≤ 32) }
+fn put_three(text: &mut Text<'_>, request: Request)
+    requires { text.old.at + 32 ≤ length text.old.out.now }
+    ensures keeps { Keeps text.old text.new }
+    ensures writes { Writes text.old.out.now text.old.at (dec request.event ++ spaced (dec request.s ∷ dec request.e ∷ [])) text.new.at text.new.out.now }
+    ensures most { text.new.at ≤ text.old.at + 32 }
 {
-    let first = base_text::put_number(out, 0, request.event);
-    let second = base_text::put_field(out, first, b" ", request.s);
-    base_text::put_field(out, second, b" ", request.e)
+    text.put_number(request.event);
+    text.put_field(b" ", request.s);
+    text.put_field(b" ", request.e);
 }
 
 // Numbers, each after a space.
-fn put_numbers(out: &mut [u8], at: usize, numbers: &[u32]) -> usize
-    requires { at + 11 * length numbers.now ≤ length out.old }
-    ensures { Writes out.old at (spaced (map dec numbers.now)) result out.new × (result ≤ at + 11 * length numbers.now) }
+fn put_numbers(text: &mut Text<'_>, numbers: &[u32])
+    requires { text.old.at + 11 * length numbers.now ≤ length text.old.out.now }
+    ensures keeps { Keeps text.old text.new }
+    ensures writes { Writes text.old.out.now text.old.at (spaced (map dec numbers.now)) text.new.at text.new.out.now }
+    ensures most { text.new.at ≤ text.old.at + 11 * length numbers.now }
 {
-    let mut next = at;
-    let mut i = 0;
-    while i < numbers.len() {
-        next = base_text::put_field(out, next, b" ", numbers[i]);
-        i += 1;
+    for &number in numbers {
+        text.put_field(b" ", number);
     }
-    next
 }
 
 // What stands after the days, to the line's end.
-fn put_close(out: &mut [u8], at: usize, reach: u32, denominator: u32, adjustment: i64) -> usize
-    requires { at + 59 ≤ length out.old }
-    ensures { Writes out.old at (spaced (ascii "reach" ∷ dec reach ∷ ascii "over" ∷ dec denominator ∷ ascii "adj" ∷ decimal adjustment ∷ []) ++ (newline ∷ [])) result out.new × (result ≤ at + 59) }
+fn put_close(text: &mut Text<'_>, reach: u32, denominator: u32, adjustment: i64)
+    requires { text.old.at + 59 ≤ length text.old.out.now }
+    ensures keeps { Keeps text.old text.new }
+    ensures writes { Writes text.old.out.now text.old.at (spaced (ascii "reach" ∷ dec reach ∷ ascii "over" ∷ dec denominator ∷ ascii "adj" ∷ decimal adjustment ∷ []) ++ (newline ∷ [])) text.new.at text.new.out.now }
+    ensures most { text.new.at ≤ text.old.at + 59 }
 {
-    let reached = base_text::put_field(out, at, b" reach ", reach);
-    let over = base_text::put_field(out, reached, b" over ", denominator);
-    let adjusted = base_text::put_bytes(out, over, b" adj ");
-    let end = base_text::put_signed(out, adjusted, adjustment);
-    base_text::put_bytes(out, end, b"\n")
+    text.put_field(b" reach ", reach);
+    text.put_field(b" over ", denominator);
+    text.put_bytes(b" adj ");
+    text.put_signed(adjustment);
+    text.put_bytes(b"\n");
+}
+
+// The line of an event that is answered: at most five days are told.
+fn put_answered(
+    text: &mut Text<'_>,
+    request: Request,
+    chosen: Chosen,
+    denominator: u32,
+    adjustment: i64,
+)
+    requires { text.old.at + event_room ≤ length text.old.out.now }
+    ensures keeps { Keeps text.old text.new }
+    ensures writes { Writes text.old.out.now text.old.at (line_text (event_line request (take chosen.count chosen.days) chosen.reach denominator adjustment)) text.new.at text.new.out.now }
+    ensures most { text.new.at ≤ text.old.at + event_room }
+{
+    let count = chosen.count.min(5);
+    put_three(text, request);
+    text.put_field(b" days ", count);
+    put_numbers(text, &chosen.days[..count as usize]);
+    put_close(text, chosen.reach, denominator, adjustment);
+}
+
+// A number that a refusal carries, after a space, where there is one.
+fn put_carried(text: &mut Text<'_>, carried: Option<u32>)
+    requires { text.old.at + 11 ≤ length text.old.out.now }
+    ensures keeps { Keeps text.old text.new }
+    ensures writes { Writes text.old.out.now text.old.at (spaced (map dec (there carried))) text.new.at text.new.out.now }
+    ensures most { text.new.at ≤ text.old.at + 11 }
+{
+    if let Some(number) = carried {
+        text.put_field(b" ", number);
+    }
+}
+
+// The line of an event that is refused.
+fn put_refused(text: &mut Text<'_>, request: Request, refusal: Refusal)
+    requires { text.old.at + refusal_room ≤ length text.old.out.now }
+    ensures keeps { Keeps text.old text.new }
+    ensures writes { Writes text.old.out.now text.old.at (line_text (refusal_line request refusal)) text.new.at text.new.out.now }
+    ensures most { text.new.at ≤ text.old.at + refusal_room }
+{
+    let [first, second] = refusal.carried();
+    put_three(text, request);
+    text.put_field(b" refused ", refusal.number());
+    put_carried(text, first);
+    put_carried(text, second);
+    text.put_bytes(b"\n");
 }
 
 // The line of an event that is answered, at the start of the buffer.
@@ -68,13 +119,9 @@ pub fn put_event_line(
     if out.len() < EVENT_ROOM {
         return 0;
     }
-    let days = chosen.days;
-    let few = counts::least(chosen.count, 5);
-    let count = few as usize;
-    let third = put_three(out, request);
-    let told = base_text::put_field(out, third, b" days ", few);
-    let listed = put_numbers(out, told, &days[..count]);
-    put_close(out, listed, chosen.reach, denominator, adjustment)
+    let mut text = Text { out, at: 0 };
+    put_answered(&mut text, request, chosen, denominator, adjustment);
+    text.at
 }
 
 // The line of an event that is refused, at the start of the buffer.
@@ -84,11 +131,7 @@ pub fn put_refusal(out: &mut [u8], request: Request, refusal: Refusal) -> usize
     if out.len() < REFUSAL_ROOM {
         return 0;
     }
-    let told = engine_answer::tell(refusal);
-    let carried = told.carried;
-    let count = told.count;
-    let third = put_three(out, request);
-    let numbered = base_text::put_field(out, third, b" refused ", told.number);
-    let end = put_numbers(out, numbered, &carried[..count]);
-    base_text::put_bytes(out, end, b"\n")
+    let mut text = Text { out, at: 0 };
+    put_refused(&mut text, request, refusal);
+    text.at
 }

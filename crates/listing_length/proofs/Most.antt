@@ -17,15 +17,16 @@ use Rattle.table_baseline.proofs.Laws.{sound, never_above}
 use Rattle.file_record.specs.Layout.{Below, Fits}
 use Rattle.file_record.specs.Laws.{StopsAt}
 use Rattle.file_record.specs.declared.Shape.{Shape}
-use Rattle.file_record.specs.declared.Read.{Read}
-use Rattle.file_record.specs.declared.Read.TheVariants.{File, Refused}
-use Rattle.file_record.specs.Reader.{is_pf, file_base, first_in, days_in, event_start, events_in, shape_in, read_file, list_in, table_in, event_of, request_at, contents_in}
+use Rattle.std.specs.Prelude.{Result, Ok, Err}
+use Rattle.method.specs.declared.Refusal.{Refusal}
+use Rattle.method.specs.declared.Refusal.TheVariants.{BadFile}
+use Rattle.file_record.specs.Reader.{is_pf, file_base, first_in, days_in, event_start, events_in, shape_in, read_file, list_in, table_in, event_of, request_at, contents_in, good_end}
 use Rattle.file_record.proofs.Bytes.{below_drop, number_below}
 use Rattle.file_record.proofs.Files.{shape_fits, event_start_is}
 use Rattle.file_record.proofs.Limits.{says_what_fits}
-use Rattle.file_record.proofs.RefusedWhere.{refused_where}
+use Rattle.file_record.proofs.RefusedWhere.{refused_where, only_11}
 use Rattle.listing_lines.specs.Lines.{line_text}
-use Rattle.listing_lines.specs.Listing.{replied_lines, event_text, listing}
+use Rattle.listing_lines.specs.Listing.{replied_lines, event_text, refused_line, offset_of, listing}
 use Rattle.listing_lines.specs.WriteSteps.{opening_line, event_texts, events_of}
 use Rattle.listing_lines.proofs.Whole.{listing_is}
 use Rattle.listing_event.specs.Room.{lines_room}
@@ -41,7 +42,7 @@ all_below (x ∷ l) b = let o : x ≤ 4294967295 = omega (arith, b 0) in rw (le-
 
 module _ (file : List ℕ) (bytes : Below 256 file) where
   -- ---- a file that is as laid down
-  module _ {shape : Shape} (accepted : read_file file ≡ File shape) where
+  module _ {shape : Shape} (accepted : read_file file ≡ Ok shape) where
     fits : Fits (contents_in file)
     fits = says_what_fits file shape bytes accepted
 
@@ -71,7 +72,7 @@ module _ (file : List ℕ) (bytes : Below 256 file) where
           events_most count (suc place),
         )
 
-    opening_most : length (line_text (opening_line (File shape))) ≤ 74
+    opening_most : length (line_text (opening_line (Ok shape))) ≤ 74
     unfolding opening_line shape_in contents_in table_in
     opening_most =
         let s = shape_fits file shape accepted in
@@ -80,9 +81,8 @@ module _ (file : List ℕ) (bytes : Below 256 file) where
         (omega (arith, s.days))
 
   -- ---- a refused one
-  refusal_most : {at : ℕ} → read_file file ≡ Refused at → length (line_text (opening_line (Refused at))) ≤ 74
-  unfolding opening_line
-  refusal_most {at} refused = refused_most at (⊎_elim nought stopped (refused_where file at refused))
+  offset_small : {at : ℕ} → read_file file ≡ Err (BadFile at) → at < 2 ^ 32
+  offset_small {at} refused = ⊎_elim nought stopped (refused_where file at refused)
     where
       nought : (is_pf file ≡ false) × (at ≡ 0) → at < 2 ^ 32
       nought q = omega (arith, q.1)
@@ -99,14 +99,21 @@ module _ (file : List ℕ) (bytes : Below 256 file) where
             base_most file,
           )
 
+  refusal_most : {w : Refusal} → read_file file ≡ Err w → length (line_text (opening_line (Err w))) ≤ 74
+  unfolding opening_line offset_of
+  refusal_most {w} refused = ⊎_elim (at_offset 0) (at_offset (good_end file)) (only_11 file w refused)
+    where
+      at_offset : (at : ℕ) → w ≡ BadFile at → length (line_text (refused_line (offset_of w))) ≤ 74
+      at_offset at e = rw e (refused_most at (offset_small (rw e at refused)))
+
   pub listing_most : length (listing file) ≤ most_listing
   listing_most = rw (listing_is file) (go (read_file file) refl)
     where
-      go : (read : Read) → read_file file ≡ read → length (line_text (opening_line read) ++ event_texts file (events_of read) 0) ≤ most_listing
-      go (File shape) e =
+      go : (read : Result Shape Refusal) → read_file file ≡ read → length (line_text (opening_line read) ++ event_texts file (events_of read) 0) ≤ most_listing
+      go (Ok shape) e =
           let s = shape_fits file shape e in
           rw length-append (omega (arith, opening_most e, events_most e shape.events 0, s.events))
-      go (Refused at) e = rw length-append (unfold event_texts in omega (arith, refusal_most e))
+      go (Err w) e = rw length-append (unfold event_texts in omega (arith, refusal_most e))
 
 pub most : Most
 most = record { listings = listing_most; number = refl }

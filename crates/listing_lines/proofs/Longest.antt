@@ -16,7 +16,7 @@ use Rattle.base_lists.specs.Ascii.{ascii}
 use Rattle.method.specs.Table.{most_quarters}
 use Rattle.file_record.specs.Reader.{number_at, opens_with, is_record, is_pf, pf_length, is_mv, mv_length, is_dy, dy_bytes, dy_length, dy_day, is_ev, ev_length, run, is_dy_of}
 use Rattle.file_record.specs.declared.Shape.{Shape}
-use Rattle.file_record.specs.declared.Read.TheVariants.{File}
+use Rattle.std.specs.Prelude.{Ok}
 use Rattle.file_record.specs.Reader.{moves_from, moves_in, days_from, events_from, file_base, most_base, first_in, days_in, event_start, events_in, good_end, read_file}
 use Rattle.listing_lines.specs.Listing.{longest}
 use Rattle.method.proofs.Tables.{size_most}
@@ -96,7 +96,7 @@ end_most : (file : List ℕ) → good_end file ≤ longest
 unfolding good_end
 end_most file = omega (arith, event_start_more file (events_in file), start_most file, events_most file)
 
-pub file_most : (file : List ℕ) (shape : Shape) → read_file file ≡ File shape → length file ≤ longest
+pub file_most : (file : List ℕ) (shape : Shape) → read_file file ≡ Ok shape → length file ≤ longest
 unfolding good_end
 file_most file shape r = omega (arith, end_is_length file shape r, end_most file)
 

@@ -4,8 +4,9 @@ use mathlib.Core.Path.{◌≡◌, refl, ap, ◌∙◌}
 use mathlib.Core.List.{List, [], ◌∷◌, ◌++◌, append_assoc}
 use native.Mathlib.Omega.{arith}
 use lib.ListN.{length, take}
-use Rattle.file_record.specs.declared.Read.{Read}
-use Rattle.file_record.specs.declared.Read.TheVariants.{File, Refused}
+use Rattle.std.specs.Prelude.{Result, Ok, Err}
+use Rattle.method.specs.declared.Refusal.{Refusal}
+use Rattle.file_record.specs.declared.Shape.{Shape}
 use Rattle.file_record.specs.Reader.{read_file, list_in, table_in, request_at}
 use Rattle.listing_lines.specs.Lines.{Line, line_text, lines_text}
 use Rattle.listing_lines.specs.Listing.{replied_lines, event_text, lines_from, listing_lines, listing, longest}
@@ -24,11 +25,11 @@ events_are file (suc count) place =
     lines_both (replied_lines (list_in file) (table_in file) (request_at file place)) (lines_from file count (suc place))
     ∙ ap (λ (t : List ℕ). lines_text (replied_lines (list_in file) (table_in file) (request_at file place)) ++ t) (events_are file count (suc place))
 
-printed : (read : Read) (file : List ℕ)
+printed : (read : Result Shape Refusal) (file : List ℕ)
     → lines_text (listing_lines read file) ≡ line_text (opening_line read) ++ event_texts file (events_of read) 0
 unfolding lines_text listing_lines opening_line event_texts
-printed (File shape) file = ap (λ (t : List ℕ). line_text (opening_line (File shape)) ++ t) (events_are file shape.events 0)
-printed (Refused at) file = refl
+printed (Ok shape) file = ap (λ (t : List ℕ). line_text (opening_line (Ok shape)) ++ t) (events_are file shape.events 0)
+printed (Err refusal) file = refl
 
 -- what is printed: the opening's text, and then the texts of the events at places 0, 1, ..
 pub listing_is : (file : List ℕ) → listing file ≡ line_text (opening_line (read_file file)) ++ event_texts file (events_of (read_file file)) 0
@@ -40,6 +41,6 @@ pub listing_cut : (n : ℕ) (file : List ℕ) → longest < n → longest < leng
 unfolding listing listing_lines
 listing_cut n file m h = rw (read_cut n file m h) (go (read_file file) refl)
   where
-    go : (read : Read) → read_file file ≡ read → lines_text (listing_lines read (take n file)) ≡ lines_text (listing_lines read file)
-    go (File shape) e = absurd (omega (arith, file_most file shape e))
-    go (Refused at) e = refl
+    go : (read : Result Shape Refusal) → read_file file ≡ read → lines_text (listing_lines read (take n file)) ≡ lines_text (listing_lines read file)
+    go (Ok shape) e = absurd (omega (arith, file_most file shape e))
+    go (Err refusal) e = refl

@@ -24,7 +24,7 @@ use Rattle.file_record.specs.Reader.{days_from, events_from, file_base, first_in
 use Rattle.file_record.specs.Reader.{event_start, events_in, good_end, shape_in, read_file, marks_from, numbers, readings_from, table_in, event_of, request_at}
 use Rattle.file_record.specs.Checks.{pf, mv, flat, ev}
 use Rattle.listing_lines.specs.Lines.{spaced, line_text, lines_text}
-use Rattle.listing_lines.specs.Listing.{refused_line, header_line, event_line, quarter_line, quarter_lines, refusal_line, event_lines, replied_lines, lines_from}
+use Rattle.listing_lines.specs.Listing.{refused_line, offset_of, header_line, event_line, quarter_line, quarter_lines, refusal_line, event_lines, replied_lines, lines_from}
 use Rattle.listing_lines.specs.Listing.{listing_lines, listing}
 use Rattle.listing_lines.specs.Worked.{worked_contents, worked_listing}
 use Rattle.listing_lines.specs.Edges.{Edges}
@@ -38,7 +38,7 @@ unfolding keep all any leading member sum_of least_of leap months new_year day_n
     higher insert_by sort_by method_of method_by rules_of high_x_of_y average_x_of_y ruler_start ruler_end quarter_of against table_refusals good_request request_refusals closing first_of methodology list_refusals by_list verdict bytes pf_record reading_bytes
     mv_record dy_record ev_record mv_records dy_records ev_records file_of number_at opens_with is_record is_pf is_mv is_dy is_ev run is_dy_of moves_from moves_in move_numbers
     list_in days_from events_from file_base first_in days_in day_start
-    event_start events_in good_end shape_in read_file marks_from numbers readings_from table_in event_of request_at spaced line_text lines_text refused_line
+    event_start events_in good_end shape_in read_file marks_from numbers readings_from table_in event_of request_at spaced line_text lines_text refused_line offset_of
     header_line event_line quarter_line quarter_lines refusal_line event_lines replied_lines lines_from listing_lines listing
     pf mv flat ev
 definitions = 0

@@ -12,7 +12,7 @@ use borrow.Author.Tests.{lt-leb, le-leb}
 use Rattle.base_lists.proofs.Bools.{lt-or-le}
 use Rattle.base_lists.proofs.Unique.{unique}
 use Rattle.base_text.specs.TextSteps.{put, next, Puts, PutsBoth}
-use Rattle.base_text.proofs.Text.{put-length, put-put, put_whole, next_within, next_past, fitted, as_one}
+use Rattle.base_text.proofs.Putting.{put-length, put-put, put_whole, next_within, next_past, fitted, as_one}
 use Rattle.listing_lines.specs.WriteSteps.{Writes, PutsWithin}
 
 -- a place within the buffer shows that all of it fit

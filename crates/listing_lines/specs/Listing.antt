@@ -1,15 +1,14 @@
 -- 01, "Record file, listing, host entry": the lines of a file's listing.
-use Rattle.std.specs.Prelude.{ℕ, zero, suc, ◌+◌, ◌*◌, List, [], ◌∷◌, ◌++◌, map, length, ℤ}
+use Rattle.std.specs.Prelude.{ℕ, zero, suc, ◌+◌, ◌*◌, List, [], ◌∷◌, ◌++◌, map, length, ℤ, Result, Ok, Err}
 use Rattle.base_digits.specs.Digits.{dec, decimal}
 use Rattle.base_lists.specs.Ascii.{ascii}
 use Rattle.method.specs.declared.Request.{Request}
 use Rattle.method.specs.declared.Refusal.{Refusal}
+use Rattle.method.specs.declared.Refusal.TheVariants.{BadFile}
 use Rattle.method.specs.Adjustment.{rounded}
 use Rattle.method.specs.Table.{Table, most_quarters}
 use Rattle.method.specs.Verdict.{Reply, refused, answered, number, carries, verdict}
 use Rattle.file_record.specs.declared.Shape.{Shape}
-use Rattle.file_record.specs.declared.Read.{Read}
-use Rattle.file_record.specs.declared.Read.TheVariants.{File, Refused}
 use Rattle.file_record.specs.Reader.{dy_bytes, ev_length, most_base, read_file, list_in, table_in, request_at}
 use Rattle.listing_lines.specs.Lines.{Field, Line, lines_text}
 
@@ -19,6 +18,11 @@ numbers ns = map dec ns
 -- "A refused file prints only `file refused OFFSET`."
 unfoldable pub refused_line : ℕ → Line
 refused_line offset = ascii "file" ∷ ascii "refused" ∷ dec offset ∷ []
+
+-- the offset at which a file is refused, by 11 alone
+unfoldable pub offset_of : Refusal → ℕ
+offset_of (BadFile at) = at
+offset_of other = 0
 
 -- "Header: number, P, F, h."
 unfoldable pub header_line : Shape → Line
@@ -66,9 +70,9 @@ unfoldable pub lines_from : List ℕ → ℕ → ℕ → List Line
 lines_from file zero place = []
 lines_from file (suc count) place = replied_lines (list_in file) (table_in file) (request_at file place) ++ lines_from file count (suc place)
 
-unfoldable pub listing_lines : Read → List ℕ → List Line
-listing_lines (File shape) file = header_line shape ∷ lines_from file shape.events 0
-listing_lines (Refused at) file = refused_line at ∷ []
+unfoldable pub listing_lines : Result Shape Refusal → List ℕ → List Line
+listing_lines (Ok shape) file = header_line shape ∷ lines_from file shape.events 0
+listing_lines (Err refusal) file = refused_line (offset_of refusal) ∷ []
 
 -- "The listing program reads a file on standard input.": what it prints
 unfoldable pub listing : List ℕ → List ℕ

@@ -1,20 +1,20 @@
 -- What writing a text into a lent buffer comes to, and the texts that a listing is written from.
-use Rattle.std.specs.Prelude.{ℕ, ◌+◌, ◌≤◌, zero, suc, ◌≡◌, cond, List, [], ◌++◌, length, leb}
+use Rattle.std.specs.Prelude.{ℕ, ◌+◌, ◌≤◌, zero, suc, ◌≡◌, cond, List, [], ◌++◌, length, leb, Result, Ok, Err}
 use Rattle.base_text.specs.TextSteps.{put}
-use Rattle.file_record.specs.declared.Read.{Read}
-use Rattle.file_record.specs.declared.Read.TheVariants.{File, Refused}
+use Rattle.method.specs.declared.Refusal.{Refusal}
+use Rattle.file_record.specs.declared.Shape.{Shape}
 use Rattle.file_record.specs.Reader.{list_in, table_in, request_at}
 use Rattle.listing_lines.specs.Lines.{Line}
-use Rattle.listing_lines.specs.Listing.{event_text, header_line, refused_line}
+use Rattle.listing_lines.specs.Listing.{event_text, header_line, refused_line, offset_of}
 
-unfoldable pub opening_line : Read → Line
-opening_line (File shape) = header_line shape
-opening_line (Refused at) = refused_line at
+unfoldable pub opening_line : Result Shape Refusal → Line
+opening_line (Ok shape) = header_line shape
+opening_line (Err refusal) = refused_line (offset_of refusal)
 
 -- how many events are listed
-abbrev pub events_of : Read → ℕ
-events_of (File shape) = shape.events
-events_of (Refused at) = 0
+abbrev pub events_of : Result Shape Refusal → ℕ
+events_of (Ok shape) = shape.events
+events_of (Err refusal) = 0
 
 -- the texts of so many events of a file, from a place on
 unfoldable pub event_texts : List ℕ → ℕ → ℕ → List ℕ

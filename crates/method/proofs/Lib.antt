@@ -4,3 +4,4 @@ pub mod AnotherOrder
 pub mod Tables
 pub mod Ruler
 pub mod Replies
+pub mod Asked

@@ -9,6 +9,7 @@ pub mod HighXofY
 pub mod AverageXofY
 pub mod Requested
 pub mod Verdict
+pub mod Told
 pub mod Lawful
 pub mod CutTables
 pub mod Checks

@@ -2,7 +2,7 @@
 #![tactic(auto)]
 
 // Why a day of the look-back is used or is not: the first of these that holds.
-#[derive(Clone, Copy)]
+#[derive(Clone, Copy, Debug, PartialEq, Eq)]
 pub enum Reason {
     // below day 0, or before P
     TooEarly,

@@ -14,8 +14,8 @@ use Rattle.base_bytes.specs.PutFirst.{put_first}
 use Rattle.file_record.proofs.Bytes.{below_take}
 use Rattle.listing_lines.specs.Listing.{listing, longest}
 use Rattle.listing_lines.proofs.Whole.{listing_cut}
-use Rattle.listing_whole.specs.declared.Listed.{Listed}
-use Rattle.listing_whole.specs.declared.Listed.TheVariants.{Length, DoesNotFit}
+use Rattle.std.specs.Prelude.{Result, Ok, Err}
+use Rattle.method.specs.declared.Refusal.{Refusal}
 use Rattle.listing_whole.specs.Lists.{most_listing, Lists}
 use Rattle.listing_length.proofs.Most.{listing_most}
 use Rattle.program_list.specs.Prints.{Prints}
@@ -35,15 +35,15 @@ module _ (bytes : List ℕ) (count : ℕ) (within : count ≤ length bytes) (eno
           ap listing (sym first) ∙ listing_cut count (take count bytes ++ more) (omega arith) long
 
   -- a text that any listing fits
-  module _ (known : (i : ℕ) → Fits w8 (get_or bytes i 0)) {before after : List ℕ} {r : Listed} (q : Lists (take count bytes) before r after)
+  module _ (known : (i : ℕ) → Fits w8 (get_or bytes i 0)) {before after : List ℕ} {r : Result ℕ Refusal} (q : Lists (take count bytes) before r after)
       (room : most_listing ≤ length before) where
     fits : length (listing (take count bytes)) ≤ length before
     fits = omega (arith, listing_most (take count bytes) (below_take count bytes (λ i. (known i).fits)))
 
-    found : r ≡ Length (length (listing (take count bytes)))
+    found : r ≡ Ok (length (listing (take count bytes)))
     found = rw (le-leb (length (listing (take count bytes))) (length before) fits) at q.result
 
-    pub printed : {size : ℕ} → r ≡ Length size → Prints bytes count size after
+    pub printed : {size : ℕ} → r ≡ Ok size → Prints bytes count size after
     unfolding put_first
     printed {size} e =
         let text = listing (take count bytes) in
@@ -55,5 +55,5 @@ module _ (bytes : List ℕ) (count : ℕ) (within : count ≤ length bytes) (eno
           listed = λ more ends. first ∙ same_listing more ends;
         }
 
-    pub never_none : {X : Type 0} → r ≡ DoesNotFit → X
-    never_none e = let z : ◌≡◌ {A = ℕ} 0 1 = cc (found) in absurd (omega arith)
+    pub never_refused : {X : Type 0} {w : Refusal} → r ≡ Err w → X
+    never_refused e = let z : ◌≡◌ {A = ℕ} 0 1 = cc (found) in absurd (omega arith)

@@ -9,23 +9,23 @@ ghost use Rattle.listing_lines.specs.Listing.{longest};
 ghost use Rattle.listing_whole.specs.Lists.{most_listing};
 ghost use Rattle.program_list.specs.Prints.{Prints};
 
-use listing_whole::{Listed, MOST_LISTING};
-use program_words::{Line, Wanted};
-use reading::Got;
+use listing_whole::MOST_LISTING;
+use program_words::{Line, Wanted, WrongUse};
 use std::env::FillError;
 use std::rt::Env;
 
 // One byte more than the longest file that is as laid down: what comes after it changes no listing.
 const MOST: usize = 50537;
 
-// The listing of the input, of which so many bytes were read, at the start of the text: how long it is.
+// The listing of the input, of which so many bytes were read, at the start of the text: how long it is. It takes the
+// whole buffer and the count, since what may follow those bytes hangs on whether they fill it (`Prints`).
 fn list(bytes: &[u8], count: usize, text: &mut [u8]) -> usize
     requires { (count ≤ length bytes.now) × (longest < length bytes.now) × (most_listing ≤ length text.old) }
     ensures { Prints bytes.now count result text.new }
 {
     match listing_whole::listing(&bytes[..count], text) {
-        Listed::Length(size) => size as usize,
-        Listed::DoesNotFit => 0,
+        Ok(size) => size as usize,
+        Err(_) => 0,
     }
 }
 
@@ -34,13 +34,9 @@ fn print_listing(rt: &HostRuntime, wanted: Wanted, text: &mut [u8])
     requires { most_listing ≤ length text.old }
 {
     let mut bytes = [0u8; MOST];
-    let got = reading::read(rt, wanted, text, &mut bytes);
-    match got {
-        Got::Bytes(count) => {
-            let end = list(&bytes, count, text);
-            say::print(rt, &text[..end]);
-        }
-        Got::Failed => {}
+    if let Some(count) = reading::read(rt, wanted, text, &mut bytes) {
+        let end = list(&bytes, count, text);
+        say::print(rt, &text[..end]);
     }
 }
 
@@ -54,10 +50,10 @@ fn word_at<'a>(env: &impl Env, place: usize, room: &'a mut [u8]) -> Option<&'a [
     }
 }
 
-// What the command line wants.
-fn command_line(env: &impl Env, room: &mut [u8]) -> Wanted {
+// What the command line wants. The system keeps no count of its words: the range is there so that the loop is seen to end.
+fn command_line(env: &impl Env, room: &mut [u8]) -> Result<Wanted, WrongUse> {
     let mut line = Line {
-        wanted: Wanted::Nothing,
+        wanted: Ok(Wanted::Nothing),
         ended: false,
     };
     for place in 1..usize::MAX {
@@ -77,20 +73,19 @@ pub(crate) fn named<'a>(env: &impl Env, place: usize, room: &'a mut [u8]) -> &'a
 // One buffer has the words of the command line, a file's name and then the text, one after the other: that keeps the stack small.
 fn main(rt: HostRuntime) {
     let mut text = [0u8; MOST_LISTING];
-    let wanted = command_line(&rt, &mut text);
-    match wanted {
-        Wanted::Help => say::help(&rt),
-        Wanted::Version => say::version(&rt),
-        Wanted::Unknown(place) => say::refused(
+    match command_line(&rt, &mut text) {
+        Ok(Wanted::Help) => say::help(&rt),
+        Ok(Wanted::Version) => say::version(&rt),
+        Ok(wanted) => print_listing(&rt, wanted, &mut text),
+        Err(WrongUse::Unknown(place)) => say::refused(
             &rt,
             named(&rt, place, &mut text),
             b": unknown option",
         ),
-        Wanted::Second(place) => say::refused(
+        Err(WrongUse::Second(place)) => say::refused(
             &rt,
             named(&rt, place, &mut text),
             b": more than one file",
         ),
-        Wanted::Nothing | Wanted::Input | Wanted::File(_) => print_listing(&rt, wanted, &mut text),
     }
 }

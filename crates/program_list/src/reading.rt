@@ -1,6 +1,5 @@
 // Reads the start of a file, or of standard input.
-ghost use Rattle.std.specs.Prelude.{◌≤◌, length, IfOk};
-ghost use Rattle.program_list.specs.Reading.{Within};
+ghost use Rattle.std.specs.Prelude.{◌≤◌, length, IfOk, IfSome};
 
 use crate::{named, say};
 use program_words::Wanted;
@@ -12,14 +11,8 @@ use std::{io, str};
 // The system's EILSEQ: bytes that are no text. std opens a file by a name in UTF-8 alone.
 const NO_TEXT: i32 = 84;
 
-// How many bytes were read, to the end or to the buffer's; or opening or reading failed, and that is said.
-#[derive(Clone, Copy)]
-pub(crate) enum Got {
-    Bytes(usize),
-    Failed,
-}
-
-// Fills the bytes from their start, as far as the input goes: how many were read.
+// Fills the bytes from their start, as far as the input goes: how many were read. std's own ways to an input's end want a `Vec`, or end in an error
+// where it is shorter than the bytes.
 fn fill<R: Read>(input: &mut R, bytes: &mut [u8]) -> io::Result<usize>
     ensures { IfOk result (λ count. count ≤ length bytes.new) }
 {
@@ -35,21 +28,25 @@ fn fill<R: Read>(input: &mut R, bytes: &mut [u8]) -> io::Result<usize>
 }
 
 // The same; where it fails, says so of the name.
-#[tactic(auto, unfolding(crate::specs::Reading::count_of))]
-fn fill_from<R: Read>(rt: &HostRuntime, input: &mut R, name: &[u8], bytes: &mut [u8]) -> Got
-    ensures { Within result bytes.new }
+fn fill_from<R: Read>(
+    rt: &HostRuntime,
+    input: &mut R,
+    name: &[u8],
+    bytes: &mut [u8],
+) -> Option<usize>
+    ensures { IfSome result (λ count. count ≤ length bytes.new) }
 {
     match fill(input, bytes) {
-        Ok(count) => Got::Bytes(count),
+        Ok(count) => Some(count),
         Err(error) => {
             say::failed(rt, name, error);
-            Got::Failed
+            None
         }
     }
 }
 
-fn read_input(rt: &HostRuntime, bytes: &mut [u8]) -> Got
-    ensures { Within result bytes.new }
+fn read_input(rt: &HostRuntime, bytes: &mut [u8]) -> Option<usize>
+    ensures { IfSome result (λ count. count ≤ length bytes.new) }
 {
     let mut input = rt.stdin();
     if input.is_terminal() {
@@ -66,23 +63,27 @@ fn open<R: Files>(rt: &R, name: &[u8]) -> io::Result<R::File> {
 }
 
 // Reads the file that the word at a place names, which is put into the room.
-#[tactic(auto, unfolding(crate::specs::Reading::count_of))]
-fn read_file(rt: &HostRuntime, place: usize, room: &mut [u8], bytes: &mut [u8]) -> Got
-    ensures { Within result bytes.new }
+fn read_file(rt: &HostRuntime, place: usize, room: &mut [u8], bytes: &mut [u8]) -> Option<usize>
+    ensures { IfSome result (λ count. count ≤ length bytes.new) }
 {
     let name = named(rt, place, room);
     match open(rt, name) {
         Ok(mut file) => fill_from(rt, &mut file, name, bytes),
         Err(error) => {
             say::failed(rt, name, error);
-            Got::Failed
+            None
         }
     }
 }
 
-// Reads the file that is wanted, or standard input.
-pub(crate) fn read(rt: &HostRuntime, wanted: Wanted, room: &mut [u8], bytes: &mut [u8]) -> Got
-    ensures { Within result bytes.new }
+// Reads the file that is wanted, or standard input: how many bytes were read, to the end or to the buffer's. Where it failed, that is said.
+pub(crate) fn read(
+    rt: &HostRuntime,
+    wanted: Wanted,
+    room: &mut [u8],
+    bytes: &mut [u8],
+) -> Option<usize>
+    ensures { IfSome result (λ count. count ≤ length bytes.new) }
 {
     match wanted {
         Wanted::File(place) => read_file(rt, place, room, bytes),

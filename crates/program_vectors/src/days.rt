@@ -1,152 +1,104 @@
 // The calendar: groups of days, Easter Sundays, and the calendar that document 003 prints as its Table 3.
 ghost use Rattle.std.specs.Prelude.{◌<◌};
 
-use crate::line::{put, put_four, put_two};
-use calendar_dates::{Date, Dated, Numbered};
+use calendar_dates::Date;
 use calendar_groups::Group;
 use std::io;
+use std::io::Print;
 
-fn letter(group: Group) -> u8 {
+fn letter(group: Group) -> &'static str {
     match group {
-        Group::Weekday => b'W',
-        Group::Saturday => b'S',
-        Group::HolidayGroup => b'H',
+        Group::Weekday => "W",
+        Group::Saturday => "S",
+        Group::HolidayGroup => "H",
     }
 }
 
-// The letter of a date's group, where no holiday is moved; nothing where there is no such date.
-fn put_letter(line: &mut [u8; 80], at: usize, date: Date) -> usize {
-    match calendar_dates::day_number(date) {
-        Numbered::Day(day) => put(line, at, letter(calendar_groups::group_of(&[], day))),
-        Numbered::NoSuchDate => at,
-    }
-}
-
-// The letters of a month. It asks for 31 days of every month.
-fn put_letters(line: &mut [u8; 80], at: usize, year: u32, month: u32) -> usize {
-    let mut next = at;
+// A month, one letter a day, for its group where no holiday is moved: `2024-05 HWHHH..`. It asks for 31 days of every month; there is no letter
+// where there is no such date.
+fn month_line(rt: &impl Print, year: u32, month: u32) -> io::Result<()> {
+    print!(rt; "{year:04}-{month:02} ")?;
     for day in 1..=31 {
-        next = put_letter(line, next, Date { year, month, day });
+        if let Some(day) = (Date { year, month, day }).day_number() {
+            print!(rt; "{}", letter(calendar_groups::group_of(&[], day)))?;
+        }
     }
-    next
+    println!(rt)
 }
 
-// A month, one letter a day: `2024-05 HWHHH..`.
-fn month_line(rt: &HostRuntime, year: u32, month: u32) -> io::Result<()> {
-    let mut line = [0u8; 80];
-    let mut at = put_four(&mut line, 0, year);
-    at = put(&mut line, at, b'-');
-    at = put_two(&mut line, at, month);
-    at = put(&mut line, at, b' ');
-    at = put_letters(&mut line, at, year, month);
-    at = put(&mut line, at, b'\n');
-    crate::line::write(rt, line, at)
-}
-
-fn year_lines(rt: &HostRuntime, year: u32) -> io::Result<()> {
-    for month in 1..=12 {
-        month_line(rt, year, month)?;
+pub(crate) fn groups(rt: &impl Print) -> io::Result<()> {
+    println!(rt; "Groups: W weekday, S Saturday, H holiday group")?;
+    for year in [2000, 2019, 2023, 2024, 2025, 2099] {
+        for month in 1..=12 {
+            month_line(rt, year, month)?;
+        }
     }
     Ok(())
 }
 
-pub(crate) fn groups(rt: &HostRuntime) -> io::Result<()> {
-    rt.write_all(b"Groups: W weekday, S Saturday, H holiday group\n")?;
-    year_lines(rt, 2000)?;
-    year_lines(rt, 2019)?;
-    year_lines(rt, 2023)?;
-    year_lines(rt, 2024)?;
-    year_lines(rt, 2025)?;
-    year_lines(rt, 2099)
-}
-
-// A date as `2024-05-05`.
-pub(crate) fn put_date(line: &mut [u8; 80], at: usize, date: Date) -> usize {
-    let mut next = put_four(line, at, date.year);
-    next = put(line, next, b'-');
-    next = put_two(line, next, date.month);
-    next = put(line, next, b'-');
-    put_two(line, next, date.day)
-}
-
-fn date_line(rt: &HostRuntime, day: u32) -> io::Result<()> {
-    let Dated::On(date) = calendar_dates::date_of(day) else {
-        return Ok(());
-    };
-    let mut line = [0u8; 80];
-    let end = put_date(&mut line, 0, date);
-    let next = put(&mut line, end, b'\n');
-    crate::line::write(rt, line, next)
-}
-
-pub(crate) fn easters(rt: &HostRuntime) -> io::Result<()> {
-    rt.write_all(b"Orthodox Easter\n")?;
+pub(crate) fn easters(rt: &impl Print) -> io::Result<()> {
+    println!(rt; "Orthodox Easter")?;
     for year in 2000..=2099 {
-        date_line(rt, calendar_holidays::easter(year))?;
+        if let Some(Date { year, month, day }) = Date::of_day(calendar_holidays::easter(year)) {
+            println!(rt; "{year:04}-{month:02}-{day:02}")?;
+        }
     }
     Ok(())
 }
 
-fn write_weekday(rt: &HostRuntime, day: u32) -> io::Result<()> {
+fn weekday(day: u32) -> &'static str {
     match day % 7 {
-        0 => rt.write_all(b"Saturday"),
-        1 => rt.write_all(b"Sunday"),
-        2 => rt.write_all(b"Monday"),
-        3 => rt.write_all(b"Tuesday"),
-        4 => rt.write_all(b"Wednesday"),
-        5 => rt.write_all(b"Thursday"),
-        _ => rt.write_all(b"Friday"),
+        0 => "Saturday",
+        1 => "Sunday",
+        2 => "Monday",
+        3 => "Tuesday",
+        4 => "Wednesday",
+        5 => "Thursday",
+        _ => "Friday",
     }
 }
 
-// A week ends with its Sunday.
-fn write_gap(rt: &HostRuntime, day: u32) -> io::Result<()> {
-    if day % 7 == 1 {
-        rt.write_all(b"\n")
-    } else {
-        rt.write_all(b"\t")
-    }
+// What stands behind a day: a week ends with its Sunday.
+fn gap(day: u32) -> &'static str {
+    if day % 7 == 1 { "\n" } else { "\t" }
 }
 
 // The three letters of a month.
-fn put_month(line: &mut [u8; 80], at: usize, month: u32) -> usize {
-    let names = b"DecJanFebMarAprMayJunJulAugSepOctNov";
-    let start = (month % 12 * 3) as usize;
-    let mut next = put(line, at, names[start]);
-    next = put(line, next, names[start + 1]);
-    put(line, next, names[start + 2])
-}
-
-// A day as `07-Jan`.
-fn write_day(rt: &HostRuntime, day: u32) -> io::Result<()> {
-    let Dated::On(date) = calendar_dates::date_of(day) else {
-        return Ok(());
-    };
-    let mut line = [0u8; 80];
-    let mut at = put_two(&mut line, 0, date.day);
-    at = put(&mut line, at, b'-');
-    at = put_month(&mut line, at, date.month);
-    crate::line::write(rt, line, at)
-}
-
-// The names of the days of the week that starts with a day.
-fn write_weekdays(rt: &HostRuntime, monday: u32) -> io::Result<()>
-    requires { monday < 36525 }
-{
-    for day in 0..7 {
-        write_weekday(rt, monday + day)?;
-        write_gap(rt, monday + day)?;
+fn month_name(month: u32) -> &'static str {
+    match month {
+        1 => "Jan",
+        2 => "Feb",
+        3 => "Mar",
+        4 => "Apr",
+        5 => "May",
+        6 => "Jun",
+        7 => "Jul",
+        8 => "Aug",
+        9 => "Sep",
+        10 => "Oct",
+        11 => "Nov",
+        _ => "Dec",
     }
-    Ok(())
 }
 
-// Monday 7 January 2019 is day 6946. The table stops at Saturday 2 February, and its last cell is empty.
-pub(crate) fn table_3(rt: &HostRuntime) -> io::Result<()> {
-    rt.write_all(b"003, Table 3\n")?;
-    write_weekdays(rt, 6946)?;
+// Monday 7 January 2019 is day 6946. Each day stands as `07-Jan`. The table stops at Saturday 2 February, and its last cell is empty.
+pub(crate) fn table_3(rt: &impl Print) -> io::Result<()> {
+    println!(rt; "003, Table 3")?;
+    for day in 6946..=6952 {
+        print!(rt; "{}{}", weekday(day), gap(day))?;
+    }
     for day in 6946..=6972 {
-        write_day(rt, day)?;
-        write_gap(rt, day)?;
+        if let Some(
+            Date {
+                month,
+                day: of_month,
+                ..
+            },
+        ) = Date::of_day(day)
+        {
+            print!(rt; "{of_month:02}-{}", month_name(month))?;
+        }
+        print!(rt; "{}", gap(day))?;
     }
-    rt.write_all(b"\n")
+    println!(rt)
 }

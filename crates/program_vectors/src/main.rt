@@ -3,7 +3,6 @@
 #![tactic(auto)]
 
 mod days;
-mod line;
 mod parts;
 
 use std::io;

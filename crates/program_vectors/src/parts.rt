@@ -1,64 +1,46 @@
 // The part of a day of small tables: of days that are held and not held, and of tables that refusal 1 turns away.
 ghost use Rattle.std.specs.Prelude.{◌≤◌, ◌<◌};
 
-use crate::days::put_date;
-use crate::line::{put, put_four, put_two};
-use calendar_dates::Dated;
+use calendar_dates::Date;
 use std::io;
+use std::io::Print;
+use table_days::LentTable;
 
-// How many readings a part has, the first and the last: `96 1000 1095`, or `00`.
-fn put_part(line: &mut [u8; 80], at: usize, part: &[u32]) -> usize {
-    let count = part.len();
-    let mut next = put_two(line, at, (count % 100) as u32);
-    if 0 < count {
-        next = put(line, next, b' ');
-        next = put_four(line, next, part[0]);
-        next = put(line, next, b' ');
-        next = put_four(line, next, part[count - 1]);
-    }
-    next
-}
-
-// A day and its part: `2019-01-12 96 1000 1095`.
-fn part_line(
-    rt: &HostRuntime,
-    first: u32,
-    marks: &[u8],
-    readings: &[u32],
-    day: u32,
-) -> io::Result<()> {
-    let Dated::On(date) = calendar_dates::date_of(day) else {
+// A day and its part: how many readings it has, the first and the last, as `2019-01-12 96 1000 1095`, or `2019-01-11 00`.
+fn part_line(rt: &impl Print, table: &LentTable<'_, '_>, day: u32) -> io::Result<()> {
+    let Some(
+        Date {
+            year,
+            month,
+            day: of_month,
+        },
+    ) = Date::of_day(day)
+    else {
         return Ok(());
     };
-    let part = table_days::day_part(first, marks, readings, day);
-    let mut line = [0u8; 80];
-    let mut at = put_date(&mut line, 0, date);
-    at = put(&mut line, at, b' ');
-    at = put_part(&mut line, at, part);
-    at = put(&mut line, at, b'\n');
-    crate::line::write(rt, line, at)
+    let part = table.day_part(day);
+    print!(rt; "{year:04}-{month:02}-{of_month:02} {:02}", part.len())?;
+    if let (Some(start), Some(end)) = (part.first(), part.last()) {
+        print!(rt; " {start:04} {end:04}")?;
+    }
+    println!(rt)
 }
 
 // The first day of a table, the second and the last, and the days beside them.
-fn table_lines(
-    rt: &HostRuntime,
-    first: u32,
-    last: u32,
-    marks: &[u8],
-    readings: &[u32],
-) -> io::Result<()>
-    requires { (0 < first) × (first < 36525) × (last < 36600) }
+fn table_lines(rt: &impl Print, table: &LentTable<'_, '_>, last: u32) -> io::Result<()>
+    requires { (0 < table.now.first) × (table.now.first < 36525) × (last < 36600) }
 {
-    part_line(rt, first, marks, readings, first - 1)?;
-    part_line(rt, first, marks, readings, first)?;
-    part_line(rt, first, marks, readings, first + 1)?;
-    part_line(rt, first, marks, readings, last)?;
-    part_line(rt, first, marks, readings, last + 1)
+    part_line(rt, table, table.first - 1)?;
+    part_line(rt, table, table.first)?;
+    part_line(rt, table, table.first + 1)?;
+    part_line(rt, table, last)?;
+    part_line(rt, table, last + 1)
 }
 
 // Readings that tell their place.
 fn numbered() -> [u32; 384] {
     let mut readings = [0; 384];
+    // by its number, which is what a reading says
     for i in 0..384 {
         readings[i] = 1000 + i as u32;
     }
@@ -66,26 +48,46 @@ fn numbered() -> [u32; 384] {
 }
 
 // A table of three days and the first so many of the readings.
-fn three_days(rt: &HostRuntime, first: u32, readings: [u32; 384], count: usize) -> io::Result<()>
+fn three_days(rt: &impl Print, first: u32, readings: [u32; 384], count: usize) -> io::Result<()>
     requires { (0 < first) × (first < 36525) × (count ≤ 384) }
 {
     let marks = [0, 3, 0];
-    table_lines(rt, first, first + 2, &marks, &readings[..count])
+    let table = LentTable {
+        first,
+        marks: &marks,
+        readings: &readings[..count],
+    };
+    table_lines(rt, &table, first + 2)
 }
 
 // Tables of no days, of 128 and of 129.
-fn none_and_most(rt: &HostRuntime) -> io::Result<()> {
+fn none_and_most(rt: &impl Print) -> io::Result<()> {
     let marks = [0u8; 129];
     let readings = [7u32; 12384];
-    table_lines(rt, 6951, 6953, &marks[..0], &readings[..0])?;
-    table_lines(rt, 6951, 7078, &marks[..128], &readings[..12288])?;
-    table_lines(rt, 6951, 7079, &marks, &readings)
+    let none = LentTable {
+        first: 6951,
+        marks: &marks[..0],
+        readings: &readings[..0],
+    };
+    let most = LentTable {
+        first: 6951,
+        marks: &marks[..128],
+        readings: &readings[..12288],
+    };
+    let too_many = LentTable {
+        first: 6951,
+        marks: &marks,
+        readings: &readings,
+    };
+    table_lines(rt, &none, 6953)?;
+    table_lines(rt, &most, 7078)?;
+    table_lines(rt, &too_many, 7079)
 }
 
 // Day 6951 is 12 January 2019. The second table ends with the calendar and the third goes past it; the next two have a reading too few and one
 // too many.
-pub(crate) fn parts(rt: &HostRuntime) -> io::Result<()> {
-    rt.write_all(b"Readings of a day: how many, the first and the last\n")?;
+pub(crate) fn parts(rt: &impl Print) -> io::Result<()> {
+    println!(rt; "Readings of a day: how many, the first and the last")?;
     let readings = numbered();
     three_days(rt, 6951, readings, 288)?;
     three_days(rt, 36522, readings, 288)?;

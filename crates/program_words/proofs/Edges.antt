@@ -1,10 +1,10 @@
 -- The edges of the words: each computes.
 use mathlib.Core.Path.{refl}
-use Rattle.program_words.specs.Words.{same, is_help, is_version, is_option, is_end, option_by, asked_by, besides, joined, with_word, words_from}
+use Rattle.program_words.specs.Words.{is_help, is_version, is_option, is_end, option_by, asked_by, besides, joined, with_word, words_from}
 use Rattle.program_words.specs.Edges.{Edges}
 
 pub edges : Edges
-unfolding same is_help is_version is_option is_end option_by asked_by besides joined with_word words_from
+unfolding is_help is_version is_option is_end option_by asked_by besides joined with_word words_from
 edges =
     record {
       none = refl;

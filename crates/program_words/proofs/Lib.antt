@@ -1,2 +1,1 @@
-mod Same
-mod Edges
+pub mod Edges

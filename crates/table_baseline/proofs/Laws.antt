@@ -10,7 +10,7 @@ use Rattle.method.specs.declared.Request.{Request}
 use Rattle.method.specs.Table.{Table, history}
 use Rattle.method.specs.Verdict.{Answer, answered, table_refusals, methodology, by_list, verdict}
 use Rattle.method_laws.proofs.ByList.{by_answered}
-use Rattle.engine_refusals.specs.declared.Tested.TheVariants.{Passed}
+use Rattle.std.specs.Prelude.{Ok}
 use Rattle.engine_refusals.specs.Steps.{tested}
 use Rattle.engine_refusals.proofs.Replies.{answered_past}
 use Rattle.table_refusals.proofs.FirstRefusal.{table_passed}
@@ -19,7 +19,7 @@ use Rattle.engine_baseline.proofs.Exact.{numerators_most}
 use Rattle.table_baseline.proofs.Tables.{good_days}
 
 module _ (moves : List ℕ) (t : Table) (r : Request) (room : ℕ) {a : Answer} (e : verdict moves t r room ≡ answered a) where
-  past : (tested (table_refusals t) ≡ Passed) × (by_list moves (history t) r room ≡ answered a)
+  past : (tested (table_refusals t) ≡ Ok tt) × (by_list moves (history t) r room ≡ answered a)
   unfolding verdict
   past = answered_past (table_refusals t) (by_list moves (history t) r room) e
 

@@ -11,7 +11,7 @@ use lib.ListN.{drop}
 use Rattle.engine_rooms.specs.declared.Directory.{Directory}
 use Rattle.engine_rooms.specs.Agree.{Agree}
 use Rattle.table_directory.proofs.Rooms.{table_agrees}
-use Rattle.engine_refusals.specs.declared.Tested.TheVariants.{Passed, Failed}
+use Rattle.std.specs.Prelude.{Ok, Err}
 use Rattle.engine_refusals.specs.Steps.{tested}
 use Rattle.engine_refusals.proofs.FirstRefusal.{first_failed, first_passed}
 use Rattle.table_refusals.proofs.FirstRefusal.{Good, table_passed}
@@ -28,17 +28,17 @@ good_days t good d e =
     (all-drop good_reading (offset t.first (d - t.first)) t.readings good.readings)
 
 module _ (moves : List ℕ) (t : Table) (r : Request) (room : ℕ) where
-  pub table_refused : {w : Refusal} → tested (table_refusals t) ≡ Failed w → verdict moves t r room ≡ refused w
+  pub table_refused : {w : Refusal} → tested (table_refusals t) ≡ Err w → verdict moves t r room ≡ refused w
   unfolding verdict
   table_refused {w} e = first_failed (table_refusals t) w (by_list moves (history t) r room) e
 
   -- the engine over rooms that agree with a table that passes
-  pub over_rooms_lem : tested (table_refusals t) ≡ Passed → {rooms : Directory} {readings : List ℕ} → Agree r rooms readings (history t)
+  pub over_rooms_lem : tested (table_refusals t) ≡ Ok tt → {rooms : Directory} {readings : List ℕ} → Agree r rooms readings (history t)
       → over_rooms moves r rooms readings room ≡ verdict moves t r room
   unfolding verdict
   over_rooms_lem p agree =
       serves agree (good_days t (table_passed t p)) moves room ∙ sym (first_passed (table_refusals t) (by_list moves (history t) r room) p)
 
-  pub over_table_lem : tested (table_refusals t) ≡ Passed → over_table moves t r room ≡ verdict moves t r room
+  pub over_table_lem : tested (table_refusals t) ≡ Ok tt → over_table moves t r room ≡ verdict moves t r room
   unfolding over_table
   over_table_lem p = over_rooms_lem p (table_agrees t r (table_passed t p).extract)

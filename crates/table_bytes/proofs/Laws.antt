@@ -1,11 +1,12 @@
 -- Laws beside the contract: there is one result, a refusal keeps the bytes, and what refusal 7 means for a buffer of bytes.
 use Prim.Native.Nat.{ℕ, ◌*◌, ◌/◌, ◌≤◌, ◌<◌}
-use mathlib.Core.Path.{◌≡◌, sym, ap, ◌∙◌}
+use mathlib.Core.Path.{◌≡◌, refl}
 use mathlib.Core.List.{List}
 use mathlib.Core.Logic.{⊎_elim}
 use native.Mathlib.Omega.{arith}
 use borrow.Author.Tests.{lt-ltb, le-ltb}
 use lib.Dec.{ltb}
+use Rattle.std.specs.Prelude.{Result, Err}
 use Rattle.base_lists.proofs.Bools.{lt-or-le}
 use Rattle.base_lists.proofs.Unique.{unique}
 use Rattle.method.specs.declared.Refusal.{Refusal}
@@ -15,15 +16,14 @@ use Rattle.engine_answer.specs.Answer.{answer_of}
 use Rattle.table_bytes.specs.Output.{bytes_written, AnswersInBytes}
 
 -- no two differing results meet the contract
-pub answers_in_bytes_unique : {reply : Reply} {r r' : Answer} {out after after' : List ℕ} → AnswersInBytes reply r out after → AnswersInBytes reply r' out after'
+pub answers_in_bytes_unique : {reply : Reply} {r r' : Result Answer Refusal} {out after after' : List ℕ} → AnswersInBytes reply r out after → AnswersInBytes reply r' out after'
     → (r ≡ r') × (after ≡ after')
 answers_in_bytes_unique p q = (unique p.answer q.answer, unique p.output q.output)
 
 -- a refusal keeps the bytes
-pub refuses : {reply : Reply} {given : Answer} {w : Refusal} (out : List ℕ) → given ≡ answer_of (refused w) → reply ≡ refused w
-    → AnswersInBytes reply given out out
-unfolding bytes_written
-refuses out e f = record { answer = e ∙ ap answer_of (sym f); output = rw f }
+pub refuses : (reply : Reply) (w : Refusal) (r : Result Answer Refusal) (out : List ℕ) → reply ≡ refused w → r ≡ Err w → AnswersInBytes reply r out out
+unfolding answer_of bytes_written
+refuses reply w r out e f = rw (e, f) (record { answer = refl; output = refl })
 
 -- "Refusal 7 there means below 4(e-s) bytes."
 pub below_four : (room k : ℕ) → ltb (room / 4) k ≡ ltb room (4 * k)

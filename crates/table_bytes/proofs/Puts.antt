@@ -6,6 +6,7 @@ use native.Mathlib.Omega.{arith}
 use borrow.Author.Tests.{le-leb}
 use lib.ListN.{length, take, drop, length-append}
 use lib.Seq.{take_at}
+use Rattle.std.specs.Prelude.{Result, Ok, Err}
 use Rattle.base_lists.proofs.Places.{length_over}
 use Rattle.calendar_groups.specs.Holidays.{group}
 use Rattle.method.specs.declared.Request.{Request}
@@ -14,7 +15,6 @@ use Rattle.method.specs.Table.{Table, most_quarters, Day, History}
 use Rattle.method.specs.Verdict.{Answer as MethodAnswer, Reply, refused, answered, by_list, written}
 use Rattle.method_laws.proofs.ByList.{by_answered}
 use Rattle.engine_rooms.specs.Rooms.{room_history}
-use Rattle.engine_answer.specs.declared.Given.TheVariants.{Answered, Refused as RefusedGiven}
 use Rattle.engine_answer.specs.declared.Answer.{Answer}
 use Rattle.engine_answer.specs.Answer.{answer_of, Answers}
 use Rattle.engine_refusals.proofs.FirstRefusal.{GoodRequest}
@@ -56,7 +56,7 @@ module _ (moves : List ℕ) (t : Table) (r : Request) where
           let s = sound (group moves) shown r room (by_answered moves shown r room m) in
           record { ranges = s.ranges; enough = s.enough; quarters = sym (ap counted x) ∙ length_over _ (r.e - r.s) r.s }
 
-  module _ (out : List ℕ) {given : Answer} (before : List ℕ) {after : List ℕ} (room : length before ≡ min (length out / 4) most_quarters)
+  module _ (out : List ℕ) {given : Result Answer Refusal} (before : List ℕ) {after : List ℕ} (room : length before ≡ min (length out / 4) most_quarters)
       (q : Answers (over (length before)) given before after) where
     same : over (length before) ≡ over (length out / 4)
     same = ap over room ∙ room_same moves t r (length out / 4)
@@ -65,26 +65,26 @@ module _ (moves : List ℕ) (t : Table) (r : Request) where
     answer_is = q.answer ∙ ap answer_of same
 
     -- refused: the bytes are kept
-    pub kept : {w : Refusal} → given.given ≡ RefusedGiven w → AnswersInBytes (over (length out / 4)) given out out
+    pub kept : {w : Refusal} {r : Result Answer Refusal} → given ≡ Err w → r ≡ Err w → AnswersInBytes (over (length out / 4)) r out out
     unfolding answer_of bytes_written
-    kept {w} g = go (over (length out / 4)) answer_is
+    kept {w} {r} g f = go (over (length out / 4)) (f ∙ sym g ∙ answer_is)
       where
-        go : (reply : Reply) → given ≡ answer_of reply → AnswersInBytes reply given out out
+        go : (reply : Reply) → r ≡ answer_of reply → AnswersInBytes reply r out out
         go (refused v) x = record { answer = x; output = refl }
         go (answered a) x = let z : ◌≡◌ {A = ℕ} 0 1 = cc in absurd (omega arith)
 
     -- the numerators, one for each of the event's quarters
-    pub record Numerators : Type 0 where
+    pub record Numerators (answer : Answer) : Type 0 where
       pub some : r.s ≤ r.e
       pub within : r.e - r.s ≤ length after
       pub size : length (take (r.e - r.s) after) ≡ r.e - r.s
-      pub puts : {now : List ℕ} → now ≡ put_first (reading_bytes (take (r.e - r.s) after)) out → AnswersInBytes (over (length out / 4)) given out now
+      pub puts : {now : List ℕ} → now ≡ put_first (reading_bytes (take (r.e - r.s) after)) out → AnswersInBytes (over (length out / 4)) (Ok answer) out now
 
-    pub numerators : given.given ≡ Answered → Numerators
+    pub numerators : {answer : Answer} → given ≡ Ok answer → Numerators answer
     unfolding answer_of written bytes_written put_first
-    numerators g = go (over (length out / 4)) refl answer_is (q.output ∙ ap (λ (x : Reply). written x before) same)
+    numerators {answer} g = go (over (length out / 4)) refl answer_is (q.output ∙ ap (λ (x : Reply). written x before) same)
       where
-        go : (reply : Reply) → over (length out / 4) ≡ reply → given ≡ answer_of reply → after ≡ written reply before → Numerators
+        go : (reply : Reply) → over (length out / 4) ≡ reply → given ≡ answer_of reply → after ≡ written reply before → Numerators answer
         go (refused w) v x y = let z : ◌≡◌ {A = ℕ} 0 1 = cc in absurd (omega arith)
         go (answered a) v x y =
             let its = has (length out / 4) v in
@@ -99,5 +99,5 @@ module _ (moves : List ℕ) (t : Table) (r : Request) where
               some = omega arith;
               within = rw (y, length-append a.numerators rest) (omega arith);
               size = rw first size;
-              puts = λ h. record { answer = rw v x; output = rw v (rw (first, long, le-leb (4 * length a.numerators) (length out) enough) at h) };
+              puts = λ h. record { answer = rw v (sym g ∙ x); output = rw v (rw (first, long, le-leb (4 * length a.numerators) (length out) enough) at h) };
             }

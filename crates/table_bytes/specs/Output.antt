@@ -1,5 +1,6 @@
 -- 01, "Record file, listing, host entry": "a byte buffer for 4-byte little-endian numerators".
-use Rattle.std.specs.Prelude.{ℕ, ◌*◌, ◌≡◌, List, ◌++◌, length, drop}
+use Rattle.std.specs.Prelude.{ℕ, ◌*◌, ◌≡◌, List, ◌++◌, length, drop, Result}
+use Rattle.method.specs.declared.Refusal.{Refusal}
 use Rattle.method.specs.Verdict.{Reply, refused, answered}
 use Rattle.engine_answer.specs.declared.Answer.{Answer}
 use Rattle.engine_answer.specs.Answer.{answer_of}
@@ -12,6 +13,6 @@ bytes_written (refused w) out = out
 bytes_written (answered a) out = reading_bytes a.numerators ++ drop (4 * length a.numerators) out
 
 -- the answer and the output of a reply
-pub record AnswersInBytes (reply : Reply) (given : Answer) (before after : List ℕ) : Type 0 where
-  pub answer : given ≡ answer_of reply
+pub record AnswersInBytes (reply : Reply) (result : Result Answer Refusal) (before after : List ℕ) : Type 0 where
+  pub answer : result ≡ answer_of reply
   pub output : after ≡ bytes_written reply before

@@ -13,7 +13,7 @@ use Rattle.calendar_dates.specs.Days.{last_day}
 use Rattle.method.specs.Table.{Table, held_days, offset, most_quarters, shaped, is_extract, held, history, size, day_of, day_part}
 use Rattle.method.proofs.Histories.{held_first, held_last}
 use Rattle.method.proofs.Tables.{offset_within, offset_most}
-use Rattle.table_days.specs.declared.Place.TheVariants.{Nowhere, From}
+use Rattle.std.specs.Prelude.{Some, None}
 use Rattle.table_days.specs.Part.{has_day, part_start, DayPart, part_place}
 
 -- what refusal 1 lets pass
@@ -146,7 +146,7 @@ module _ (t : Table) (day : ℕ) where
 
   -- where the part of a day stands, by each way out of the code
   module _ {part : List ℕ} (e : part ≡ day_part t day) where
-    pub place_nowhere : length part ≡ 0 → Nowhere ≡ part_place t day
+    pub place_nowhere : length part ≡ 0 → None ≡ part_place t day
     unfolding part_place
     place_nowhere h = rw (← e, eq-eqb (length part) 0 h)
 
@@ -154,10 +154,13 @@ module _ (t : Table) (day : ℕ) where
       pub part_some : has_day t day ≡ true
       part_some = ⊎_elim (λ h. h) (λ h. absurd (some (ap length (e ∙ part_empty h)))) (bool_cases (has_day t day))
 
-      pub place_from : {start : ℕ} → start ≡ offset t.first (day - t.first) → From start ≡ part_place t day
+      pub place_first : t.first ≤ day
+      place_first = (has_inside part_some).0
+
+      -- it is a place among at most 128 days of readings
+      pub place_small : offset t.first (day - t.first) ≤ most_quarters * 128
+      place_small = offset_most t.first (day - t.first) 128 (has_few part_some)
+
+      pub place_from : {start : ℕ} → start ≡ offset t.first (day - t.first) → Some start ≡ part_place t day
       unfolding part_place part_start
       place_from s = rw (← e, ne_eqb (length part) 0 some, part_some, s)
-
-  -- it is a place among at most 128 days of readings
-  pub place_small : has_day t day ≡ true → offset t.first (day - t.first) ≤ most_quarters * 128
-  place_small h = offset_most t.first (day - t.first) 128 (has_few h)

@@ -1,8 +1,6 @@
 -- The part of a day: its readings, and that they are a part of the lent readings themselves.
-use Rattle.std.specs.Prelude.{ℕ, ◌+◌, ◌-◌, ◌*◌, ◌≡◌, Bool, cond, ◌&&◌, List, length, eqb}
+use Rattle.std.specs.Prelude.{ℕ, ◌+◌, ◌-◌, ◌*◌, ◌≡◌, Bool, cond, ◌&&◌, List, length, eqb, Option, Some, None}
 use Rattle.method.specs.Table.{Table, is_extract, held, history, offset, day_part}
-use Rattle.table_days.specs.declared.Place.{Place}
-use Rattle.table_days.specs.declared.Place.TheVariants.{Nowhere, From}
 
 -- the table is one that refusal 1 lets pass, and it holds the day
 unfoldable pub has_day : Table → ℕ → Bool
@@ -19,5 +17,5 @@ pub record DayPart (t : Table) (day : ℕ) (whole : ℕ × ℕ) (part : List ℕ
   pub byte : at.1 ≡ whole.1 + 4 * part_start t day
 
 -- where the part stands among the readings; an empty part stands nowhere
-unfoldable pub part_place : Table → ℕ → Place
-part_place t day = cond (eqb (length (day_part t day)) 0) Nowhere (From (part_start t day))
+unfoldable pub part_place : Table → ℕ → Option ℕ
+part_place t day = cond (eqb (length (day_part t day)) 0) None (Some (part_start t day))

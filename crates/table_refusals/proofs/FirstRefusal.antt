@@ -12,19 +12,19 @@ use Rattle.method.specs.declared.Refusal.{Refusal}
 use Rattle.method.specs.declared.Refusal.TheVariants.{BadTable, BadMark, BadReading}
 use Rattle.method.specs.Table.{Table, good_mark, good_reading, is_extract}
 use Rattle.method.specs.Verdict.{table_refusals}
-use Rattle.engine_refusals.specs.declared.Tested.TheVariants.{Passed, Failed}
+use Rattle.std.specs.Prelude.{Ok, Err}
 use Rattle.engine_refusals.specs.Steps.{tested}
 use Rattle.engine_refusals.proofs.FirstRefusal.{passed_next}
 
 -- what fails first among the first `n` tests fails first of all
-pub taken_failed : (n : ℕ) (ts : List (Bool × Refusal)) (w : Refusal) → tested (take n ts) ≡ Failed w → tested ts ≡ Failed w
+pub taken_failed : (n : ℕ) (ts : List (Bool × Refusal)) (w : Refusal) → tested (take n ts) ≡ Err w → tested ts ≡ Err w
 unfolding tested
 taken_failed zero ts w e = absurd (let z : ◌≡◌ {A = ℕ} 0 1 = cc in omega arith)
 taken_failed (suc n) [] w e = e
 taken_failed (suc n) (t ∷ ts) w e = go t.0 e (taken_failed n ts w)
   where
-    go : (b : Bool) → cond b (Failed t.1) (tested (take n ts)) ≡ Failed w → (tested (take n ts) ≡ Failed w → tested ts ≡ Failed w)
-        → cond b (Failed t.1) (tested ts) ≡ Failed w
+    go : (b : Bool) → cond b (Err t.1) (tested (take n ts)) ≡ Err w → (tested (take n ts) ≡ Err w → tested ts ≡ Err w)
+        → cond b (Err t.1) (tested ts) ≡ Err w
     go true e f = e
     go false e f = f e
 
@@ -35,7 +35,7 @@ module _ (t : Table) where
     pub marks : all good_mark t.marks ≡ true
     pub readings : all good_reading t.readings ≡ true
 
-  pub table_passed : tested (table_refusals t) ≡ Passed → Good
+  pub table_passed : tested (table_refusals t) ≡ Ok tt → Good
   unfolding table_refusals
   table_passed e =
       let a = passed_next _ _ _ e in
@@ -49,16 +49,16 @@ module _ (t : Table) where
       }
 
   -- 1 and 2, by each way out of the code
-  pub bad_table : is_extract t ≡ false → Failed BadTable ≡ tested (take 2 (table_refusals t))
+  pub bad_table : is_extract t ≡ false → Err BadTable ≡ tested (take 2 (table_refusals t))
   unfolding table_refusals tested
   bad_table e = rw e
 
   module _ (extract : is_extract t ≡ true) {m : ℕ} (mark : m ≡ leading good_mark t.marks) where
-    pub bad_mark : m < length t.marks → Failed (BadMark m) ≡ tested (take 2 (table_refusals t))
+    pub bad_mark : m < length t.marks → Err (BadMark m) ≡ tested (take 2 (table_refusals t))
     unfolding table_refusals tested
     bad_mark h = rw (extract, all-leading good_mark t.marks, ← mark, ne_eqb m (length t.marks) (λ e. omega arith))
 
-    pub good_marks : length t.marks ≤ m → Passed ≡ tested (take 2 (table_refusals t))
+    pub good_marks : length t.marks ≤ m → Ok tt ≡ tested (take 2 (table_refusals t))
     unfolding table_refusals tested
     good_marks h =
         rw (
@@ -68,11 +68,11 @@ module _ (t : Table) where
         )
 
   -- a table that 1 or 2 turns away is turned away by it
-  pub refused_early : {w : Refusal} → tested (take 2 (table_refusals t)) ≡ Failed w → tested (table_refusals t) ≡ Failed w
+  pub refused_early : {w : Refusal} → tested (take 2 (table_refusals t)) ≡ Err w → tested (table_refusals t) ≡ Err w
   refused_early {w = w} e = taken_failed 2 (table_refusals t) w e
 
   -- what a table shows that neither turns away, and 3 by each way out of the code
-  module _ (early : tested (take 2 (table_refusals t)) ≡ Passed) where
+  module _ (early : tested (take 2 (table_refusals t)) ≡ Ok tt) where
     pub early_passed : (is_extract t ≡ true) × (all good_mark t.marks ≡ true)
     unfolding table_refusals
     early_passed =
@@ -81,7 +81,7 @@ module _ (t : Table) where
         (not-false (is_extract t) a.0, not-false (all good_mark t.marks) b.0)
 
     module _ {k : ℕ} (place : k ≡ leading good_reading t.readings) where
-      pub bad_reading : k < length t.readings → Failed (BadReading k) ≡ tested (table_refusals t)
+      pub bad_reading : k < length t.readings → Err (BadReading k) ≡ tested (table_refusals t)
       unfolding table_refusals tested
       bad_reading h = rw (
         early_passed.0,
@@ -92,7 +92,7 @@ module _ (t : Table) where
             (λ e. omega arith),
       )
 
-      pub good_readings : length t.readings ≤ k → Passed ≡ tested (table_refusals t)
+      pub good_readings : length t.readings ≤ k → Ok tt ≡ tested (table_refusals t)
       unfolding table_refusals tested
       good_readings h =
           rw (

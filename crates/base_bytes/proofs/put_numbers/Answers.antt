@@ -1,17 +1,10 @@
+-- `base_bytes::put_numbers` meets its contract: the bytes of the numbers take the place of as many.
 use native.Mathlib.Omega.{arith}
-use Rattle.base_bytes.proofs.Bytes.{number_put, numbers_put, numbers_kept}
+use Rattle.base_bytes.proofs.Bytes.{numbers_put, numbers_kept}
 use Rattle.base_bytes.proofs.put_numbers.Goals as goal
 
 pub returns-then-out-numbers : goal.returns-then-out-numbers
 returns-then-out-numbers c = let a = c.args in numbers_kept a.numbers.now a.out.now c.if-out-numbers.true
 
-pub loop-i-preserved : goal.loop-i-preserved
-loop-i-preserved c =
-    let l = c.loop-i in
-    let a = c.args in
-    (omega arith, number_put a.numbers.now l.i l.invariant.1 (omega arith) (omega arith) c.put_number.ensures)
-
 pub returns : goal.returns
-returns c =
-    let l = c.loop-i in
-    numbers_put c.args.numbers.now l.i l.invariant.1 l.invariant.0 (omega arith) (omega arith)
+returns c = let a = c.args in numbers_put a.numbers.now a.out.now c.write_u32_into.ensures (omega arith)

@@ -1,19 +1,11 @@
-use Rattle.std.proofs.Common.{ap, arith, drop_of_length-le}
-use Rattle.base_lists.specs.Lists.{sum_of}
-use Rattle.base_lists.proofs.Sums.{sum_step}
+use Rattle.std.proofs.Common.{◌+◌, ◌%◌, ◌^◌, arith, rules, tests}
+use Rattle.std.proofs.lemmas.Iterator.{YieldsList-from_slice}
+use Rattle.std.proofs.lemmas.Iterator.Consumers.{fold_from_yields_List}
+use Rattle.base_sums.proofs.Folded.{summed}
 use Rattle.base_sums.proofs.sum.Goals as goal
 
-pub loop-i-preserved : goal.loop-i-preserved
-loop-i-preserved c =
-    let l = c.loop-i in
-    omega (
-      arith,
-      sum_step c.args.xs.now l.i (omega arith),
-      c.type_inv.xs l.i,
-    )
-
 pub returns : goal.returns
-unfolding sum_of
 returns c =
-    let l = c.loop-i in
-    omega (arith, ap sum_of (drop_of_length-le c.args.xs.now c.loop-i-test.false))
+    let xs = c.args.xs.now in
+    summed xs (λ k. omega (arith, c.type_inv.xs k))
+    (fold_from_yields_List _ (λ total x. (total + x) % 2 ^ 64) 0 _ c.fold.ensures.ran (YieldsList-from_slice xs (search rules)) (λ a x b q k. search (rules, tests)))

@@ -8,5 +8,5 @@ pub returns-else-start-last : goal.returns-else-start-last
 unfolding sum_of
 returns-else-start-last c =
     let a = c.args in
-    rw (no_part a.start a.end a.xs.now (rw c.least-last.ensures at c.if-start-last.false))
+    rw (no_part a.start a.end a.xs.now (rw c.min-last.ensures at c.if-start-last.false))
     (record { sum = refl; bound = omega arith })

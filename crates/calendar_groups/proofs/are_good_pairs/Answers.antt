@@ -1,18 +1,22 @@
-use mathlib.Core.Path.{sym, ◌∙◌}
-use native.Mathlib.Omega.{arith}
-use Rattle.calendar_groups.proofs.Moves.{one_good, half_bad, none_left}
+use mathlib.Core.Path.{◌∙◌}
+use mathlib.Core.Bool.{◌&&◌}
+use borrow.Author.Tests.{ne_eqb}
+use lib.Dec.{leb}
+use Rattle.std.proofs.Common.{rules, tests}
+use Rattle.std.proofs.lemmas.Iterator.{YieldsList-from_slice}
+use Rattle.std.proofs.lemmas.Iterator.Search.{all_from_yields_List}
+use Rattle.std.specs.Prelude.{slice_index}
+use Rattle.calendar_dates.specs.Days.{last_day}
+use Rattle.calendar_holidays.specs.Yearly.{is_fixed_holiday}
+use Rattle.calendar_groups.specs.Steps.{pairs}
+use Rattle.calendar_groups.proofs.ByPairs.{all_good, half_bad}
 use Rattle.calendar_groups.proofs.are_good_pairs.Goals as goal
 
-pub returns-then-moves-eq1 : goal.returns-then-moves-eq1
-returns-then-moves-eq1 c = half_bad c.args.moves.now (omega arith)
-
-pub loop-k-preserved : goal.loop-k-preserved
-loop-k-preserved c =
-    let l = c.loop-k in
+pub returns-then-moves-eq0 : goal.returns-then-moves-eq0
+returns-then-moves-eq0 c =
     let moves = c.args.moves.now in
-    (omega arith, rw c.is_good_pair-good.ensures (one_good moves l.k l.good (omega arith) ∙ l.invariant.1))
+    all_from_yields_List (λ pair. is_fixed_holiday (slice_index pair 0) && leb (slice_index pair 1) last_day) _ _ _ c.all.ensures.ran
+    (YieldsList-from_slice (pairs moves) (search rules)) (λ x b q k. search (rules, tests)) ∙ all_good moves c.if-moves-eq0.true
 
-pub returns : goal.returns
-returns c =
-    let l = c.loop-k in
-    sym (none_left c.args.moves.now l.k l.good (λ odd. omega arith) c.loop-k-test.false) ∙ l.invariant.1
+pub returns-else-moves-eq0 : goal.returns-else-moves-eq0
+returns-else-moves-eq0 c = ne_eqb _ _ c.if-moves-eq0.false ∙ half_bad c.args.moves.now c.if-moves-eq0.false

@@ -1,10 +1,10 @@
--- `calendar_groups::is_repeated` meets its contract. The invariant: what was found so far, or the first days from the `k`-th on, is any.
-use Prim.Native.Nat.{◌*◌, ◌/◌, ◌≤◌}
-use mathlib.Core.Path.{◌≡◌}
-use mathlib.Core.Bool.{◌||◌}
-use lib.ListN.{length, drop}
+-- `calendar_groups::is_repeated` meets its contract. The invariant: a first day that comes again in the list does so in what is left of it.
+use Rattle.std.proofs.Common.{◌≡◌, length}
 use Rattle.calendar_groups.specs.Holidays.{first_days, repeated}
 use Rattle.calendar_groups.proofs.is_repeated.Given as goal
 
-abbrev pub invariant-loop-k : goal.invariant-loop-k
-invariant-loop-k l = (l.k ≤ length l.moves / 2) × ((l.again || repeated (first_days (drop (2 * l.k) l.moves))) ≡ repeated (first_days l.moves))
+abbrev pub invariant-loop-rest : goal.invariant-loop-rest
+invariant-loop-rest l = repeated (first_days l.rest) ≡ repeated (first_days l.moves)
+
+abbrev pub decreases-loop-rest : goal.decreases-loop-rest
+decreases-loop-rest l = length l.rest

@@ -1,14 +1,11 @@
-use mathlib.Core.Path.{sym, ◌∙◌}
-use native.Mathlib.Omega.{arith}
-use Rattle.calendar_groups.proofs.Moves.{one_rising, all_rise}
+use Rattle.std.proofs.Common.{rules, tests}
+use Rattle.std.proofs.lemmas.Fn.{always_returns_same}
+use Rattle.std.specs.Prelude.{slice_index}
+use lib.Dec.{ltb}
+use Rattle.calendar_groups.proofs.ByPairs.{rises}
 use Rattle.calendar_groups.proofs.is_rising.Goals as goal
-
-pub loop-k-preserved : goal.loop-k-preserved
-loop-k-preserved c =
-    let l = c.loop-k in
-    (omega arith, one_rising c.args.moves.now l.k l.rising (omega arith) ∙ l.invariant.1)
 
 pub returns : goal.returns
 returns c =
-    let l = c.loop-k in
-    sym (all_rise c.args.moves.now l.k l.rising (omega arith)) ∙ l.invariant.1
+    let told = c.is_sorted_by.ensures.cases (λ p q. ltb (slice_index p 0) (slice_index q 0)) (always_returns_same _ _ _ (λ a r f k. search (rules, tests))) in
+    rises c.args.moves.now _ (rw c.pairs.ensures at told)

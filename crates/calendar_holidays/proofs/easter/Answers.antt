@@ -8,17 +8,17 @@ use Rattle.calendar_holidays.proofs.easter.Goals as goal
 
 pub easter_from_march-requires : goal.easter_from_march-requires
 easter_from_march-requires c =
-    let march = date_is c.args.year 3 1 (numbered_is _ _ (sym c.day_number.ensures ∙ c.in-Day.is)).0 in
+    let march = date_is c.args.year 3 1 (numbered_is _ _ (sym c.day_number.ensures ∙ c.in-Some.is)).0 in
     search rules
 
 pub overflow_add-result : goal.overflow_add-result
 overflow_add-result c =
-    omega (arith, from_march c.args.year c.in-Day.day (sym c.day_number.ensures ∙ c.in-Day.is))
+    omega (arith, from_march c.args.year c.in-Some.day (sym c.day_number.ensures ∙ c.in-Some.is))
 
-pub returns-in-Day : goal.returns-in-Day
-returns-in-Day c =
-    omega (arith, from_march c.args.year c.in-Day.day (sym c.day_number.ensures ∙ c.in-Day.is))
+pub returns-in-Some : goal.returns-in-Some
+returns-in-Some c =
+    omega (arith, from_march c.args.year c.in-Some.day (sym c.day_number.ensures ∙ c.in-Some.is))
 
-pub returns-in-NoSuchDate : goal.returns-in-NoSuchDate
-returns-in-NoSuchDate c =
-    sym (no_march c.args.year (sym c.day_number.ensures ∙ c.in-NoSuchDate.is))
+pub returns-in-None : goal.returns-in-None
+returns-in-None c =
+    sym (no_march c.args.year (sym c.day_number.ensures ∙ c.in-None.is))

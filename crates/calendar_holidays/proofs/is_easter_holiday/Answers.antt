@@ -1,4 +1,5 @@
 -- `calendar_holidays::is_easter_holiday` meets its contract: none past the calendar, then each way out is a law of Holidays, at the days passed of the day's year.
+use mathlib.Core.Logic.{⊎_elim}
 use native.Mathlib.Omega.{arith}
 use borrow.Author.Tests.{le-leb, lt-leb}
 use Rattle.calendar_dates.specs.Steps.{place_of}
@@ -17,44 +18,37 @@ unfolding place_of is_easter_holiday
 returns-then-passed-lt45 c =
     let within = c.if-day-gt-LAST_DAY.false in
     let day = c.args.day in
-    let passed = rw c.place_of-place.ensures at c.if-passed-lt45.true in
-    rw (le-leb _ _ within) (far_from_easter _ day (year_in_calendar day within) (λ l h. omega arith))
-
-pub returns-then-passed-gt178 : goal.returns-then-passed-gt178
-unfolding place_of is_easter_holiday
-returns-then-passed-gt178 c =
-    let within = c.if-day-gt-LAST_DAY.false in
-    let day = c.args.day in
-    let passed = rw c.place_of-place.ensures at c.if-passed-gt178.true in
-    rw (le-leb _ _ within) (far_from_easter _ day (year_in_calendar day within) (λ l h. omega arith))
+    let away = rw c.place_of-year.ensures at c.then-passed-lt45.either in
+    rw (le-leb _ _ within)
+    (far_from_easter _ day (year_in_calendar day within) (λ l h. ⊎_elim (λ early. omega arith) (λ late. omega arith) away))
 
 pub overflow_add-monday : goal.overflow_add-monday
 overflow_add-monday c =
-    omega (arith, place_leap c.args.day c.place_of-place.ensures)
+    omega (arith, place_leap c.args.day c.place_of-year.ensures)
 
 pub easter_from_march-requires : goal.easter_from_march-requires
 unfolding place_of
 easter_from_march-requires c =
-    rw c.place_of-place.ensures (year_of_in c.args.day c.if-day-gt-LAST_DAY.false)
+    rw c.place_of-year.ensures (year_of_in c.args.day c.if-day-gt-LAST_DAY.false)
 
 pub overflow_add-monday-2 : goal.overflow_add-monday-2
 overflow_add-monday-2 c =
-    omega (arith, place_leap c.args.day c.place_of-place.ensures)
+    omega (arith, place_leap c.args.day c.place_of-year.ensures)
 
-pub returns-then-passed-monday : goal.returns-then-passed-monday
+pub returns-else-monday-passed : goal.returns-else-monday-passed
 unfolding place_of is_easter_holiday
-returns-then-passed-monday c =
+returns-else-monday-passed c =
     let within = c.if-day-gt-LAST_DAY.false in
     let day = c.args.day in
-    rw (le-leb _ _ within)
+    rw (lt-leb _ _ c.if-monday-passed.false, le-leb _ _ within)
     (before_easter _ _ _ _ (year_in_calendar day within) (since_new_year day)
-    (rw c.place_of-place.ensures at c.easter_from_march.ensures.0) (rw c.place_of-place.ensures at c.if-passed-monday.true))
+    (rw c.place_of-year.ensures at c.easter_from_march.ensures.0) (rw c.place_of-year.ensures at c.if-monday-passed.false))
 
-pub returns : goal.returns
+pub returns-then-monday-passed : goal.returns-then-monday-passed
 unfolding place_of is_easter_holiday
-returns c =
+returns-then-monday-passed c =
     let within = c.if-day-gt-LAST_DAY.false in
     let day = c.args.day in
-    rw (c.place_of-place.ensures, le-leb _ _ within)
+    rw (c.is_from_clean_monday.ensures, c.place_of-year.ensures, le-leb _ _ within)
     (near_easter _ _ _ _ (year_in_calendar day within) (since_new_year day)
-    (rw c.place_of-place.ensures at c.easter_from_march.ensures.0) (rw c.place_of-place.ensures at c.if-passed-monday.false))
+    (rw c.place_of-year.ensures at c.easter_from_march.ensures.0) (rw c.place_of-year.ensures at c.if-monday-passed.true))

@@ -15,14 +15,14 @@ returns-then-day-gt-LAST_DAY c = rw (lt-leb _ _ c.if-day-gt-LAST_DAY.true)
 pub returns-then-passed-lt59 : goal.returns-then-passed-lt59
 unfolding place_of is_fixed_holiday
 returns-then-passed-lt59 c =
-    rw (c.place_of-place.ensures, le-leb _ _ c.if-day-gt-LAST_DAY.false)
-    (fixed_early _ _ _ (since_new_year c.args.day) (rw c.place_of-place.ensures at c.if-passed-lt59.true))
+    rw (c.is_before_march.ensures, c.place_of-leap.ensures, le-leb _ _ c.if-day-gt-LAST_DAY.false)
+    (fixed_early _ _ _ (since_new_year c.args.day) (rw c.place_of-leap.ensures at c.if-passed-lt59.true))
 
-pub overflow_sub-later : goal.overflow_sub-later
-overflow_sub-later c = omega (arith, place_leap c.args.day c.place_of-place.ensures)
+pub overflow_sub-passed : goal.overflow_sub-passed
+overflow_sub-passed c = omega (arith, place_leap c.args.day c.place_of-leap.ensures)
 
-pub returns : goal.returns
+pub returns-else-passed-lt59 : goal.returns-else-passed-lt59
 unfolding place_of is_fixed_holiday
-returns c =
-    rw (c.place_of-place.ensures, le-leb _ _ c.if-day-gt-LAST_DAY.false)
-    (fixed_later _ _ _ (since_new_year c.args.day) (rw c.place_of-place.ensures at c.if-passed-lt59.false))
+returns-else-passed-lt59 c =
+    rw (c.is_after_february.ensures, c.place_of-leap.ensures, le-leb _ _ c.if-day-gt-LAST_DAY.false)
+    (fixed_later _ _ _ (since_new_year c.args.day) (rw c.place_of-leap.ensures at c.if-passed-lt59.false))

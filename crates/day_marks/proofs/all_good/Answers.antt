@@ -1,17 +1,14 @@
-use mathlib.Core.Path.{sym, ◌∙◌}
-use borrow.Author.Rules.{rules}
-use Rattle.base_lists.proofs.All.{all_step, all_end}
-use Rattle.method.specs.Table.{good_mark}
+use mathlib.Core.Path.{◌∙◌}
+use mathlib.Core.Bool.{true, ◌&&◌}
+use lib.Dec.{ltb}
+use Rattle.std.proofs.Common.{rules, tests}
+use Rattle.std.proofs.lemmas.Iterator.{YieldsList-from_slice}
+use Rattle.std.proofs.lemmas.Iterator.Consumers.{fold_from_yields_List}
+use Rattle.day_marks.proofs.Marks.{all_folded}
 use Rattle.day_marks.proofs.all_good.Goals as goal
-
-pub loop-i-preserved : goal.loop-i-preserved
-loop-i-preserved c =
-    let l = c.loop-i in (
-      search rules,
-      all_step good_mark l.good c.args.marks.now l.i 0 c.loop-i-test.true ∙ l.invariant.1,
-    )
 
 pub returns : goal.returns
 returns c =
-    let l = c.loop-i in
-    sym (all_end good_mark l.good c.args.marks.now l.i c.loop-i-test.false) ∙ l.invariant.1
+    let xs = c.args.marks.now in
+    fold_from_yields_List _ (λ good mark. good && ltb mark 4) true _ c.fold.ensures.ran (YieldsList-from_slice xs (search rules)) (λ a x b q k. search (rules, tests))
+    ∙ all_folded xs

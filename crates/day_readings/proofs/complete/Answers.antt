@@ -8,14 +8,12 @@ pub returns-then-joined-lt-MISSING : goal.returns-then-joined-lt-MISSING
 returns-then-joined-lt-MISSING c =
     sym (joined_present c.args.day.now (λ i. omega (arith, c.type_inv.day i)) c.joined.result c.joined.ensures c.if-joined-lt-MISSING.true)
 
-pub loop-i-preserved : goal.loop-i-preserved
-loop-i-preserved c =
-    let l = c.loop-i in (
-      search rules,
-      all_step present l.all_present c.args.day.now l.i 0 c.loop-i-test.true ∙ l.invariant.1,
-    )
+pub loop-reading-preserved : goal.loop-reading-preserved
+loop-reading-preserved c =
+    let l = c.loop-reading in
+    all_step present l.all_present c.args.day.now l.reading-index 0 (search rules) ∙ l.invariant
 
 pub returns : goal.returns
 returns c =
-    let l = c.loop-i in
-    sym (all_end present l.all_present c.args.day.now l.i c.loop-i-test.false) ∙ l.invariant.1
+    let l = c.loop-reading in
+    sym (all_end present l.all_present c.args.day.now l.reading-index (search rules)) ∙ l.invariant

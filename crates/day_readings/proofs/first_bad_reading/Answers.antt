@@ -1,26 +1,17 @@
-use Rattle.std.proofs.Common.{sym, ◌∙◌, rules}
-use Rattle.base_lists.proofs.All.{leading_step, leading_stop, leading_end}
+use mathlib.Core.Bool.{not}
+use lib.ListN.{length, take, drop}
+use Rattle.std.proofs.Common.{◌-◌, ◌∙◌, rules, tests}
+use Rattle.std.proofs.lemmas.Iterator.{YieldsList-from_slice}
+use Rattle.std.proofs.lemmas.Iterator.Search.{position_from_yields_List}
+use Rattle.std.proofs.lemmas.Iterator.Adapters.{position_from-zero}
 use Rattle.method.specs.Table.{good_reading}
+use Rattle.day_readings.proofs.Joining.{first_bad, after}
 use Rattle.day_readings.proofs.first_bad_reading.Goals as goal
-
-pub loop-i-preserved : goal.loop-i-preserved
-loop-i-preserved c =
-    let l = c.loop-i in
-    let xs = c.args.readings.now in
-    let good = sym c.is_good.ensures ∙ c.if-is_good.true in
-    record {
-      within = search rules;
-      passed = leading_step good_reading xs l.i 0 c.loop-i-test.true good ∙ l.invariant.passed;
-    }
-
-pub returns-else-is_good : goal.returns-else-is_good
-returns-else-is_good c =
-    let l = c.loop-i in
-    let xs = c.args.readings.now in
-    let bad = sym c.is_good.ensures ∙ c.if-is_good.false in
-    sym (leading_stop good_reading xs l.i 0 c.loop-i-test.true bad) ∙ l.invariant.passed
 
 pub returns : goal.returns
 returns c =
-    let l = c.loop-i in
-    sym (leading_end good_reading c.args.readings.now l.i c.loop-i-test.false) ∙ l.invariant.passed
+    let xs = c.args.readings.now in
+    let start = c.good_blocks-start.result in
+    let rest = take (length xs - start) (drop start xs) in
+    let place = position_from_yields_List (λ x. not (good_reading x)) _ _ _ c.position-bad.ensures.ran (YieldsList-from_slice rest (search rules)) (λ x b q k. search (rules, tests)) ∙ position_from-zero _ rest in
+    after xs start c.good_blocks-start.ensures (rw place at c.unwrap_or.ensures ∙ first_bad rest)

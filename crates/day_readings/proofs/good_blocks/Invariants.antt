@@ -3,8 +3,8 @@ use Rattle.std.proofs.Common.{◌-◌, length}
 use Rattle.day_readings.specs.Steps.{GoodBefore}
 use Rattle.day_readings.proofs.good_blocks.Given as goal
 
-abbrev pub invariant-loop-at : goal.invariant-loop-at
-invariant-loop-at l = GoodBefore l.readings l.at
+abbrev pub invariant-loop-block : goal.invariant-loop-block
+invariant-loop-block l = GoodBefore l.readings l.at
 
-abbrev pub decreases-loop-at : goal.decreases-loop-at
-decreases-loop-at l = length l.readings - l.at
+abbrev pub decreases-loop-block : goal.decreases-loop-block
+decreases-loop-block l = length l.readings - l.at

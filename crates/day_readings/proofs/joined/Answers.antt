@@ -1,9 +1,8 @@
-use Rattle.std.proofs.Common.{rules}
 use Rattle.day_readings.proofs.Joining.{joins}
 use Rattle.day_readings.proofs.joined.Goals as goal
 
-pub loop-i-preserved : goal.loop-i-preserved
-loop-i-preserved c =
-    let l = c.loop-i in
+pub loop-reading-preserved : goal.loop-reading-preserved
+loop-reading-preserved c =
+    let l = c.loop-reading in
     let a = c.args in
-    (search rules, rw c.wrapping_add_u32-bits.ensures.value (joins a.block.now a.more l.i l.bits l.invariant.1))
+    joins a.block.now a.more l.reading-index l.bits l.invariant

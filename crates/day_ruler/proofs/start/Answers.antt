@@ -5,4 +5,4 @@ use Rattle.method.proofs.Ruler.{start_size}
 use Rattle.day_ruler.proofs.start.Goals as goal
 
 pub returns : goal.returns
-returns c = c.size.ensures ∙ ap size c.minus.ensures ∙ start_size c.args.event
+returns c = c.size.ensures ∙ ap size c.saturating_sub.ensures ∙ start_size c.args.event

@@ -1,12 +1,11 @@
 -- `engine_adjustment::adjustment_end` meets its contract, by the two callees'.
 use Rattle.std.proofs.Common.{sym, ◌∙◌}
-use Rattle.method.specs.Adjustment.{adjustment_end}
+use Rattle.engine_adjustment.proofs.Windows.{found_at_n, found_up_to_s}
 use Rattle.engine_adjustment.proofs.adjustment_end.Goals as goal
 
 pub returns-then-window_ends : goal.returns-then-window_ends
-unfolding adjustment_end
-returns-then-window_ends c = rw (sym c.window_ends.ensures ∙ c.if-window_ends.true)
+returns-then-window_ends c = found_at_n _ _ (sym c.window_ends.ensures ∙ c.if-window_ends.true)
 
 pub returns-else-window_ends : goal.returns-else-window_ends
-unfolding adjustment_end
-returns-else-window_ends c = rw (sym c.window_ends.ensures ∙ c.if-window_ends.false) c.latest_end.ensures
+returns-else-window_ends c =
+    c.latest_end.ensures ∙ found_up_to_s _ c.args.request (sym c.window_ends.ensures ∙ c.if-window_ends.false)

@@ -1,17 +1,13 @@
-use Rattle.std.proofs.Common.{◌++◌, rules}
-use Rattle.base_lists.specs.Lists.{all}
-use Rattle.engine_adjustment.proofs.Windows.{run_more}
+-- `engine_adjustment::present_before` meets its contract: the law is `run_found`.
+use Rattle.std.proofs.Common.{◌≡◌, ◌-◌, ◌++◌, get_or, rules, tests}
+use Rattle.std.proofs.lemmas.Iterator.{first_from_Range}
+use Rattle.method.specs.Table.{missing}
+use Rattle.engine_adjustment.proofs.Windows.{run_found}
 use Rattle.engine_adjustment.proofs.present_before.Goals as goal
 
-pub loop-run-init : goal.loop-run-init
-unfolding all
-loop-run-init c = search rules
-
-pub loop-run-preserved : goal.loop-run-preserved
-loop-run-preserved c =
-    let l = c.loop-run in
-    let a = c.args in (
-      search rules,
-      run_more (a.yesterday.now ++ a.today.now) a.end l.run c.reading_at.result (search rules)
-          c.reading_at.ensures c.if-reading_at.false l.invariant.1,
-    )
+pub returns : goal.returns
+returns c =
+    let a = c.args in
+    let xs = a.yesterday.now ++ a.today.now in
+    rw c.unwrap_or.ensures (run_found xs a.end c.find.result c.requires
+    (first_from_Range _ _ _ _ (λ k. get_or xs (a.end - k - 1) 0 ≡ missing) (λ k. get_or xs (a.end - k - 1) 0 ≡ missing → ⊥) c.find.ensures.ran (λ x q k. search (rules, tests)) (λ x q k. search (rules, tests))))

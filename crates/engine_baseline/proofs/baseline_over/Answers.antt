@@ -1,32 +1,44 @@
--- `engine_baseline::baseline_over` meets its contract: what was found of the request is known at `d`; what was found of the list is searched for.
+-- `engine_baseline::baseline_over` meets its contract: each way out is a law of `Steps` or `Chain`. What was found of the list is searched for.
 use mathlib.Core.Path.{sym, ◌∙◌}
-use lib.ListN.{length}
+use Rattle.std.proofs.Common.{rules}
+use Rattle.method.proofs.Asked.{asked_average, asked_high}
 use Rattle.engine_answer.proofs.Laws.{refuses}
-use Rattle.engine_baseline.proofs.Steps.{found_so, over_bad, over_refused, fit, over_passed}
+use Rattle.engine_baseline.proofs.Steps.{found_so, over_bad, over_refused}
+use Rattle.engine_baseline.proofs.Chain.{is_ready, over_unchosen, over_chosen}
 use Rattle.engine_baseline.proofs.baseline_over.Goals as goal
 
--- a refusal of 4 to 7 stands after 14
-pub returns-in-Failed : goal.returns-in-Failed
-returns-in-Failed c =
-    refuses _ c.refuse.ensures
-    (over_refused _ _ _ _ _ (search found_so) (sym c.in-Failed.is ∙ c.of_request-of_request.ensures _))
+pub returns-then-not-is_good_list : goal.returns-then-not-is_good_list
+returns-then-not-is_good_list c = refuses _ _ _ _ (over_bad _ _ _ _ _ (search found_so)) (search rules)
 
-pub choose_days-requires : goal.choose_days-requires
-choose_days-requires c =
-    let a = c.args in
-    let room = length a.out.now in
-    fit a.moves.now a.request a.rooms a.readings.now room (sym c.in-Passed.is ∙ c.of_request-of_request.ensures a.readings.now)
+pub returns-in_err-of_request : goal.returns-in_err-of_request
+returns-in_err-of_request c =
+    refuses _ c.in_err-of_request.field-0.0 _ _ (over_refused _ _ _ _ _ (search found_so) (sym (c.of_request.ensures.first _) ∙ c.in_err-of_request.was))
+    (search rules)
 
-pub returns-in-Passed : goal.returns-in-Passed
-returns-in-Passed c =
-    let a = c.args in
-    let room = length a.out.now in
-    rw (over_passed a.moves.now a.request a.rooms a.readings.now room
-    (sym c.in-Passed.is ∙ c.of_request-of_request.ensures a.readings.now)
-    (search found_so)) at c.choose_days.ensures
+pub returns-in_err-chosen : goal.returns-in_err-chosen
+returns-in_err-chosen c =
+    refuses _ c.in_err-chosen.field-0.0 _ _
+    (over_unchosen _ _ _ _ _ (sym (c.of_request.ensures.first _) ∙ c.in_ok-of_request.was) (search found_so) (sym c.choose.ensures ∙ c.in_err-chosen.was))
+    (search rules)
 
-pub returns-else-is_good_list : goal.returns-else-is_good_list
-returns-else-is_good_list c =
-    let a = c.args in
-    refuses a.out.now c.refuse-else-is_good_list.ensures
-    (over_bad a.moves.now a.request a.rooms a.readings.now (length a.out.now) (search found_so))
+pub average-requires : goal.average-requires
+average-requires c = (
+  is_ready _ _ _ _ _ (sym (c.of_request.ensures.first _) ∙ c.in_ok-of_request.was) (sym c.choose.ensures ∙ c.in_ok-chosen.was),
+  asked_average c.args.case.now.request (sym c.method.ensures ∙ c.in-AverageXOfY.is),
+)
+
+pub adjusted-requires : goal.adjusted-requires
+adjusted-requires c = (
+  is_ready _ _ _ _ _ (sym (c.of_request.ensures.first _) ∙ c.in_ok-of_request.was) (sym c.choose.ensures ∙ c.in_ok-chosen.was),
+  asked_high c.args.case.now.request (sym c.method.ensures ∙ c.in-HighXOfY.is),
+)
+
+pub returns-in-AverageXOfY : goal.returns-in-AverageXOfY
+returns-in-AverageXOfY c =
+    rw (over_chosen _ _ _ _ _ (sym (c.of_request.ensures.first _) ∙ c.in_ok-of_request.was) (search found_so) (sym c.choose.ensures ∙ c.in_ok-chosen.was))
+    at c.average.ensures
+
+pub returns-in-HighXOfY : goal.returns-in-HighXOfY
+returns-in-HighXOfY c =
+    rw (over_chosen _ _ _ _ _ (sym (c.of_request.ensures.first _) ∙ c.in_ok-of_request.was) (search found_so) (sym c.choose.ensures ∙ c.in_ok-chosen.was))
+    at c.adjusted.ensures

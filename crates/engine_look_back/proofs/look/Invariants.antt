@@ -1,4 +1,4 @@
--- `engine_look_back::look` meets its contract. The invariant: what was found is what the `back` nearest days hold.
+-- `engine_look_back::look` meets its contract. The invariant: what was found is what the days nearer than `back` hold.
 use Prim.Native.Nat.{◌-◌}
 use Rattle.calendar_groups.specs.Holidays.{group as group_of}
 use Rattle.engine_relevant.specs.Steps.{relevant_to}
@@ -6,8 +6,8 @@ use Rattle.engine_look_back.specs.Steps.{rooms_of}
 use Rattle.engine_look_back.proofs.Looking.{Back}
 use Rattle.engine_look_back.proofs.look.Given as goal
 
-abbrev pub invariant-loop-back : goal.invariant-loop-back
-invariant-loop-back l = Back (relevant_to (group_of l.moves) l.group l.request) l.request (rooms_of l.request l.rooms l.readings) l.most l.spares l.before l.back l.found
-
-abbrev pub decreases-loop-back : goal.decreases-loop-back
-decreases-loop-back l = l.before - l.back
+abbrev pub invariant-loop-nearer : goal.invariant-loop-nearer
+invariant-loop-nearer l =
+    let case = l.case in
+    Back (relevant_to (group_of case.moves.now) l.group case.request) case.request (rooms_of case.request case.rooms.now case.readings.now) l.most l.spares l.before l.nearer
+    l.found

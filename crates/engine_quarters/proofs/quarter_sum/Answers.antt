@@ -1,19 +1,11 @@
-use native.Mathlib.Omega.{arith}
-use Rattle.engine_rooms.specs.Rooms.{room_history}
+use Rattle.std.proofs.Common.{◌∙◌, arith}
 use Rattle.engine_quarters.proofs.Sums.{S_none, S_more}
 use Rattle.engine_quarters.proofs.quarter_sum.Goals as goal
 
-pub loop-k-init : goal.loop-k-init
-loop-k-init c =
-    let a = c.args in
-    (omega arith, S_none a.request.event (room_history a.request a.rooms a.readings.now) a.t, omega arith)
+pub loop-day-init : goal.loop-day-init
+loop-day-init c = (S_none _ _ _, omega arith)
 
-pub loop-k-preserved : goal.loop-k-preserved
-loop-k-preserved c =
-    let a = c.args in
-    let l = c.loop-k in (
-      omega arith,
-      S_more a.request.event (room_history a.request a.rooms a.readings.now) a.t a.days l.k (omega arith) l.invariant.1
-          c.reading_of.ensures,
-      omega (arith, l.invariant.2),
-    )
+pub loop-day-preserved : goal.loop-day-preserved
+loop-day-preserved c =
+    let l = c.loop-day in
+    (S_more _ _ _ _ l.day-index c.loop-day-test.true l.invariant.0 (c.from-sum.ensures ∙ c.reading_of.ensures), omega (arith, l.invariant.1))

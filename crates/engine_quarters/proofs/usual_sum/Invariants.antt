@@ -1,15 +1,10 @@
 -- `engine_quarters::usual_sum` meets its contract. The loop's invariant: the sum of S over the first `q` quarters of the window.
-use Prim.Native.Nat.{◌-◌, ◌*◌, ◌≤◌}
-use mathlib.Core.Path.{◌≡◌}
-use lib.ListN.{take}
-use Rattle.engine_rooms.specs.Rooms.{room_history}
+use Rattle.std.proofs.Common.{◌≡◌, ◌*◌, ◌≤◌, take}
+use Rattle.engine_rooms.specs.Rooms.{history_of}
 use Rattle.engine_baseline.specs.Engine.{with_days}
 use Rattle.engine_quarters.proofs.Sums.{sums_from}
 use Rattle.engine_quarters.proofs.usual_sum.Given as goal
 
 abbrev pub invariant-loop-q : goal.invariant-loop-q
-invariant-loop-q l = (l.q ≤ 12) × (l.sum ≡ sums_from l.request.event (with_days (room_history l.request l.rooms l.readings) (take l.count l.days)) l.q l.start)
-    × (l.sum ≤ 21474836475 * l.q)
-
-abbrev pub decreases-loop-q : goal.decreases-loop-q
-decreases-loop-q l = 12 - l.q
+invariant-loop-q l =
+    (l.sum ≡ sums_from l.case.request.event (with_days (history_of l.case) (take l.count l.days)) l.q l.start) × (l.sum ≤ 21474836475 * l.q)

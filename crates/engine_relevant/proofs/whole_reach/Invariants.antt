@@ -1,5 +1,5 @@
--- `engine_relevant::whole_reach` meets its contract. The invariant: no relevant day lies farther back than `back`.
-use Prim.Native.Nat.{◌≤◌}
+-- `engine_relevant::whole_reach` meets its contract. The invariant: no relevant day lies as far back as `back`.
+use Prim.Native.Nat.{◌-◌}
 use mathlib.Core.Path.{◌≡◌}
 use Rattle.calendar_groups.specs.Holidays.{group as group_of}
 use Rattle.method.specs.Method.{whole_reach}
@@ -8,7 +8,4 @@ use Rattle.engine_relevant.proofs.Reaching.{reach_within}
 use Rattle.engine_relevant.proofs.whole_reach.Given as goal
 
 abbrev pub invariant-loop-back : goal.invariant-loop-back
-invariant-loop-back l = (l.back ≤ l.request.event) × (whole_reach (method_of (group_of l.moves) l.request) ≡ reach_within (group_of l.moves) l.request l.back)
-
-abbrev pub decreases-loop-back : goal.decreases-loop-back
-decreases-loop-back l = l.back
+invariant-loop-back l = whole_reach (method_of (group_of l.moves) l.request) ≡ reach_within (group_of l.moves) l.request (l.back - 1)

@@ -5,7 +5,4 @@ use Rattle.engine_sums.proofs.add_day.Goals as goal
 pub returns : goal.returns
 returns c =
     let a = c.args in
-    clipped a.sums.now a.day.now a.start c.least-from.result
-    c.least-length.result c.slice_known-1.given
-    c.least-from.ensures c.least-length.ensures
-    c.add_part.ensures
+    clipped a.sums.now a.day.now a.start _ _ c.min-from.ensures c.min-length.ensures c.add_part.ensures c.type_inv.sums

@@ -1,13 +1,15 @@
--- `file_days::reading` meets its contract: refused, and a file of days.
-use mathlib.Core.Path.{sym, ◌∙◌}
+-- `file_days::reading` meets its contract: the file has the shape that was read.
+use Rattle.std.proofs.Common.{rules, ◌≡◌, sym, ◌∙◌}
+use Rattle.std.specs.Prelude.{Ok}
 use Rattle.file_days.proofs.Days.{days_within, reading_is}
 use Rattle.file_days.proofs.reading.Goals as goal
 
 pub reading_within-requires : goal.reading_within-requires
 reading_within-requires c =
-    days_within c.args.file.now (sym c.read_file.ensures ∙ c.in-File.is)
+    let read : c.read_file.result ≡ Ok c.in_ok-shape.shape = search rules in
+    days_within c.args.file.now (sym c.read_file.ensures ∙ read)
 
-pub returns-in-File : goal.returns-in-File
-returns-in-File c =
-    let a = c.args in
-    c.reading_within.ensures ∙ reading_is a.file.now (sym c.read_file.ensures ∙ c.in-File.is) a.day a.quarter
+pub returns : goal.returns
+returns c =
+    let read : c.read_file.result ≡ Ok c.in_ok-shape.shape = search rules in
+    c.reading_within.ensures ∙ reading_is c.args.file.now (sym c.read_file.ensures ∙ read) c.args.day c.args.quarter

@@ -1,46 +1,20 @@
 -- `file_days::reading_within` meets its contract: a day that is held, a quarter past its last, and a day that is not held.
-use Prim.Native.Nat.{ℕ, ◌+◌, ◌*◌}
-use mathlib.Core.Path.{sym, ap, ◌∙◌}
-use native.Mathlib.Omega.{arith}
+use Rattle.std.proofs.Common.{rules, arith, ◌+◌, ◌*◌, ap, ◌∙◌, ℕ, ◌-◌, length}
 use Rattle.file_record.specs.Reader.{number_at}
-use Rattle.file_days.proofs.Days.{record_within, holding_low, holding_high, reading_there, reading_past, reading_none}
+use Rattle.file_record.proofs.Numbers.{read_four}
+use Rattle.file_days.proofs.Days.{held_within, reading_there, reading_past, reading_none}
 use Rattle.file_days.proofs.reading_within.Goals as goal
+use Rattle.file_days.proofs.reading_within.Goals.{then-not-holds-via-then-not-holds, then-not-holds-via-else-not-holds+then-size-quarter}
 
-pub overflow_add-at : goal.overflow_add-at
-overflow_add-at c =
-    let t = sym c.holds.ensures ∙ c.if-holds.true in
-    let a = c.args in
-    let inside = record_within a.shape a.file.now a.day (holding_low a.shape a.file.now a.day t) (holding_high a.shape a.file.now a.day t) c.requires in
-    omega (arith, c.start.ensures, inside, c.if-quarter-size.true, c.size.ensures)
+pub returns-then-not-holds : goal.returns-then-not-holds
+returns-then-not-holds c = let a = c.args in elim c.then-not-holds.branch [
+  | then-not-holds-via-then-not-holds w ↦ reading_none a.shape a.file.now a.day a.quarter (search rules)
+  | then-not-holds-via-else-not-holds+then-size-quarter w ↦ reading_past a.shape a.file.now a.day a.quarter (search rules) (omega (arith, w.size.ensures, w.if-size-quarter.true))
+]
 
-pub overflow_add-at-then-quarter-size : goal.overflow_add-at-then-quarter-size
-overflow_add-at-then-quarter-size c =
-    let t = sym c.holds.ensures ∙ c.if-holds.true in
+pub returns : goal.returns
+returns c =
     let a = c.args in
-    let inside = record_within a.shape a.file.now a.day (holding_low a.shape a.file.now a.day t) (holding_high a.shape a.file.now a.day t) c.requires in
-    omega (arith, c.start.ensures, inside, c.if-quarter-size.true, c.size.ensures)
-
-pub number_at-requires : goal.number_at-requires
-number_at-requires c =
-    let t = sym c.holds.ensures ∙ c.if-holds.true in
-    let a = c.args in
-    let inside = record_within a.shape a.file.now a.day (holding_low a.shape a.file.now a.day t) (holding_high a.shape a.file.now a.day t) c.requires in
-    omega (arith, c.start.ensures, inside, c.if-quarter-size.true, c.size.ensures)
-
-pub returns-then-quarter-size : goal.returns-then-quarter-size
-returns-then-quarter-size c =
-    let a = c.args in
-    reading_there a.shape a.file.now a.day a.quarter (sym c.holds.ensures ∙ c.if-holds.true)
-    (omega (arith, c.if-quarter-size.true, c.size.ensures))
-    (c.number_at.ensures ∙ ap (λ (n : ℕ). number_at 4 (n + 6 + 4 * a.quarter) a.file.now) c.start.ensures)
-
-pub returns-else-quarter-size : goal.returns-else-quarter-size
-returns-else-quarter-size c =
-    let a = c.args in
-    reading_past a.shape a.file.now a.day a.quarter (sym c.holds.ensures ∙ c.if-holds.true)
-    (omega (arith, c.if-quarter-size.false, c.size.ensures))
-
-pub returns-else-holds : goal.returns-else-holds
-returns-else-holds c =
-    let a = c.args in
-    reading_none a.shape a.file.now a.day a.quarter (sym c.holds.ensures ∙ c.if-holds.false)
+    let read = c.read_u32.ensures ∙ read_four (c.start.result + 6 + 4 * a.quarter) (length a.file.now - (c.start.result + 6 + 4 * a.quarter)) a.file.now (search (rules, held_within)) in
+    reading_there a.shape a.file.now a.day a.quarter (search rules) (omega (arith, c.size.ensures, c.if-size-quarter.false))
+    (read ∙ ap (λ (n : ℕ). number_at 4 (n + 6 + 4 * a.quarter) a.file.now) c.start.ensures)

@@ -1,13 +1,11 @@
 -- `file_events::request_of` meets its contract.
-use Prim.Native.Nat.{◌+◌}
-use mathlib.Core.Path.{sym, ◌∙◌}
-use Rattle.file_record.proofs.Numbers.{number_two}
+use Rattle.std.proofs.Common.{rules, ◌∙◌}
+use Rattle.file_record.proofs.Numbers.{read_two}
 use Rattle.file_record.proofs.Events.{event_read}
 use Rattle.file_events.proofs.request_of.Goals as goal
 
 pub returns : goal.returns
 returns c =
     let a = c.args in
-    let day = c.number2.ensures.0 ∙ sym (number_two (a.at + 2) a.file.now) in
-    event_read a.file.now a.at a.participation day c.byte.ensures.0 c.byte-2.ensures.0
-    c.byte-3.ensures.0 c.byte-4.ensures.0
+    let day = c.from.ensures ∙ c.read_u16.ensures ∙ read_two 2 _ a.ev.now (search rules) in
+    event_read a.ev.now a.participation day c.from-2.ensures c.from-3.ensures c.from-4.ensures c.from-5.ensures

@@ -15,12 +15,12 @@ loop-k-init c =
 pub overflow_add-marks : goal.overflow_add-marks
 overflow_add-marks c =
     let more = c.loop-k-test.true in
-    omega (arith, day_within c.args.shape c.args.file.now more c.base-base.ensures c.day_start.ensures c.requires.0)
+    omega (arith, day_within c.args.shape c.args.file.now more c.base-base.ensures c.day_start.ensures.start c.requires.0)
 
 pub bounds-file-day_start : goal.bounds-file-day_start
 bounds-file-day_start c =
     let more = c.loop-k-test.true in
-    omega (arith, day_within c.args.shape c.args.file.now more c.base-base.ensures c.day_start.ensures c.requires.0)
+    omega (arith, day_within c.args.shape c.args.file.now more c.base-base.ensures c.day_start.ensures.start c.requires.0)
 
 pub loop-k-preserved : goal.loop-k-preserved
 loop-k-preserved c =
@@ -29,7 +29,7 @@ loop-k-preserved c =
     let q = c.loop-k.invariant in
     let start = day_start (shape_base shape) shape.first in (
       omega arith,
-      rw (c.day_start.ensures, c.base-base.ensures)
+      rw (c.day_start.ensures.start, c.base-base.ensures)
           (filling_one q.1 _ _ (omega arith)
           (marks_more c.args.file.now (start k) (start (k + 1)) k shape.days shape.first (omega arith) (day_start_more (shape_base shape) shape.first k))),
     )

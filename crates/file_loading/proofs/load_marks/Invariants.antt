@@ -6,7 +6,4 @@ use Rattle.base_bytes.proofs.Filling.{Filling}
 use Rattle.file_loading.proofs.load_marks.Given as goal
 
 abbrev pub invariant-loop-k : goal.invariant-loop-k
-invariant-loop-k l = (l.k ≤ l.shape.days) × Filling l.initial.marks (marks_from l.shape.days l.shape.first (drop (shape_base l.shape) l.file)) l.marks (marks_from (l.shape.days - l.k) (l.shape.first + l.k) (drop (day_start (shape_base l.shape) l.shape.first l.k) l.file)) l.k
-
-abbrev pub decreases-loop-k : goal.decreases-loop-k
-decreases-loop-k l = l.shape.days - l.k
+invariant-loop-k l = (l.k ≤ l.fn.shape.days) × Filling l.initial.marks (marks_from l.fn.shape.days l.fn.shape.first (drop (shape_base l.fn.shape) l.file)) l.marks (marks_from (l.fn.shape.days - l.k) (l.fn.shape.first + l.k) (drop (day_start (shape_base l.fn.shape) l.fn.shape.first l.k) l.file)) l.k

@@ -8,7 +8,4 @@ use Rattle.file_loading.proofs.Loading.{start, place}
 use Rattle.file_loading.proofs.load_readings.Given as goal
 
 abbrev pub invariant-loop-k : goal.invariant-loop-k
-invariant-loop-k l = (l.span.start ≤ l.k) × (l.k ≤ l.span.end) × Filling l.initial.readings (span_within l.shape l.span l.file).readings l.readings (readings_from (l.span.end - l.k) (l.shape.first + l.k) (drop (start l.shape l.k) l.file)) (place l.shape l.span l.k)
-
-abbrev pub decreases-loop-k : goal.decreases-loop-k
-decreases-loop-k l = l.span.end - l.k
+invariant-loop-k l = (l.fn.span.start ≤ l.k) × (l.k ≤ l.fn.span.end) × Filling l.initial.readings (span_within l.fn.shape l.fn.span l.file).readings l.readings (readings_from (l.fn.span.end - l.k) (l.fn.shape.first + l.k) (drop (start l.fn.shape l.k) l.file)) (place l.fn.shape l.fn.span l.k)

@@ -7,7 +7,4 @@ use Rattle.file_record.specs.Steps.{list_within}
 use Rattle.file_moves.proofs.load.Given as goal
 
 abbrev pub invariant-loop-k : goal.invariant-loop-k
-invariant-loop-k l = (l.k ≤ l.shape.moves) × Filling l.initial.moves (list_within l.shape l.file) l.moves (move_numbers (l.shape.moves - l.k) (drop (move_start l.k) l.file)) (2 * l.k)
-
-abbrev pub decreases-loop-k : goal.decreases-loop-k
-decreases-loop-k l = l.shape.moves - l.k
+invariant-loop-k l = (l.k ≤ l.fn.shape.moves) × Filling l.initial.moves (list_within l.fn.shape l.file) l.moves (move_numbers (l.fn.shape.moves - l.k) (drop (move_start l.k) l.file)) (2 * l.k)

@@ -1,12 +1,10 @@
--- `file_reading::is_record` meets its contract: one law for each way out.
-use mathlib.Core.Path.{◌∙◌}
-use Rattle.file_record.proofs.Records.{record_cut, record_marked}
+-- `file_reading::is_record` meets its contract: both bytes of the mark are tested as one number.
+use Rattle.std.proofs.Common.{rules, arith}
+use Rattle.file_record.proofs.Records.{marked, record_marked}
 use Rattle.file_reading.proofs.is_record.Goals as goal
 
-pub returns-then-file-at : goal.returns-then-file-at
-returns-then-file-at c = let a = c.args in record_cut a.file.now a.mark.now a.at a.size c.if-file-at.true
-
-pub returns : goal.returns
-returns c =
+pub returns-then-at-size-clause-value : goal.returns-then-at-size-clause-value
+returns-then-at-size-clause-value c =
     let a = c.args in
-    c.opens.ensures ∙ record_marked a.file.now a.mark.now a.at a.size c.if-file-at.false
+    record_marked a.file.now a.mark.now a.at a.size (omega arith)
+    (rw (c.read_u16.ensures, c.from_le_bytes.ensures) (marked a.file.now a.mark.now a.at _ (λ i. omega (arith, c.type_inv.file i)) (λ i. omega (arith, c.fits-mark i)) (search rules)))

@@ -1,34 +1,34 @@
 -- `file_reading::read_file` meets its contract: one law for each way out.
-use mathlib.Core.Path.{sym, ◌∙◌}
-use native.Mathlib.Omega.{arith}
-use Rattle.file_record.proofs.Starts.{base_most, day_start_most}
-use Rattle.file_record.proofs.Files.{base_from, file_cut, file_foreign, file_good, file_bad}
+use Rattle.std.proofs.Common.{rules, ◌∙◌, ◌≡◌, true, ◌-◌, length}
+use Rattle.base_lists.specs.Ascii.{ascii}
+use Rattle.file_record.specs.Reader.{is_record, first_in, pf_length}
+use Rattle.file_record.proofs.Numbers.{read_four}
+use Rattle.file_record.proofs.Counts.{moves_counted, days_counted, events_counted}
+use Rattle.file_record.proofs.Files.{base_from, first_from, file_foreign, file_good, file_bad}
 use Rattle.file_reading.proofs.read_file.Goals as goal
 
-pub returns-then-file-lt-PF_LENGTH : goal.returns-then-file-lt-PF_LENGTH
-returns-then-file-lt-PF_LENGTH c = file_cut c.args.file.now (omega arith)
-
-pub first_in-first-requires : goal.first_in-first-requires
-first_in-first-requires c =
-    let b = base_from c.args.file.now c.count_moves-moves.ensures.0 c.move_start-base.ensures in
-    (b, rw c.move_start-base.ensures c.count_moves-moves.ensures.1)
-
-pub overflow_cast-at : goal.overflow_cast-at
-overflow_cast-at c =
-    let base = c.move_start-base in
-    let moves = c.count_moves-moves in
-    let file = c.args.file.now in
-    let first = c.first_in-first.result in
-    let days = c.count_days-days.result in
-    omega (arith, base_from file moves.ensures.0 base.ensures, base_most file, c.day_start-start.ensures, day_start_most base.result first days)
+pub returns-then-not-is_record : goal.returns-then-not-is_record
+returns-then-not-is_record c = file_foreign c.args.file.now (search rules)
 
 pub returns-then-end-file : goal.returns-then-end-file
 returns-then-end-file c =
-    file_good c.args.file.now c.count_moves-moves.ensures.0 c.move_start-base.ensures c.first_in-first.ensures.0 c.count_days-days.ensures.0 c.day_start-start.ensures c.count_events-events.ensures.0 (omega arith) (sym c.opens.ensures ∙ c.if-opens.true) c.if-end-file.true c.number2.ensures.0 c.number4.ensures
+    let file = c.args.file.now in
+    let opens : is_record pf_length (ascii "PF") file ≡ true = search rules in
+    let moves = c.count_moves-moves.ensures.counted ∙ moves_counted file in
+    let base = base_from file moves c.move_start-base.ensures in
+    let first : c.first_in-first.result ≡ first_in file = first_from file base (search rules) in
+    let days = c.count_days-days.ensures.counted ∙ days_counted file _ _ in
+    let events = c.count_events-events.ensures.counted ∙ events_counted file _ in
+    file_bad file moves c.move_start-base.ensures first days c.day_start-start.ensures.start events opens (search rules)
 
-pub returns-else-end-file : goal.returns-else-end-file
-returns-else-end-file c =
-    file_bad c.args.file.now c.count_moves-moves.ensures.0 c.move_start-base.ensures c.first_in-first.ensures.0 c.count_days-days.ensures.0 c.day_start-start.ensures c.count_events-events.ensures.0 (omega arith) (sym c.opens.ensures ∙ c.if-opens.true) c.if-end-file.false
-
-pub returns-else-opens : goal.returns-else-opens
-returns-else-opens c = file_foreign c.args.file.now (omega arith) (sym c.opens.ensures ∙ c.if-opens.false)
+pub returns : goal.returns
+returns c =
+    let file = c.args.file.now in
+    let opens : is_record pf_length (ascii "PF") file ≡ true = search rules in
+    let moves = c.count_moves-moves.ensures.counted ∙ moves_counted file in
+    let base = base_from file moves c.move_start-base.ensures in
+    let first : c.first_in-first.result ≡ first_in file = first_from file base (search rules) in
+    let days = c.count_days-days.ensures.counted ∙ days_counted file _ _ in
+    let events = c.count_events-events.ensures.counted ∙ events_counted file _ in
+    let portfolio = c.read_u32.ensures ∙ read_four 4 (length file - 4) file (search rules) in
+    file_good file moves c.move_start-base.ensures first days c.day_start-start.ensures.start events opens c.if-end-file.false c.number.ensures.value portfolio

@@ -10,5 +10,8 @@ overflow_mul-result-2 c = let a = c.args in omega (arith, c.offset.ensures, offs
 pub overflow_add-result-2 : goal.overflow_add-result-2
 overflow_add-result-2 c = let a = c.args in omega (arith, c.offset.ensures, offset_most a.first a.k a.k (omega arith))
 
-pub returns : goal.returns
-returns c = let a = c.args in omega (arith, c.offset.ensures, day_start_is a.base a.first a.k)
+pub returns-clause-start : goal.returns-clause-start
+returns-clause-start c = let a = c.args in omega (arith, c.offset.ensures, day_start_is a.base a.first a.k)
+
+pub returns-clause-most : goal.returns-clause-most
+returns-clause-most c = let a = c.args in omega (arith, c.offset.ensures, offset_most a.first a.k a.k (omega arith))

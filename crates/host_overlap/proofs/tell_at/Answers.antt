@@ -4,7 +4,6 @@ use mathlib.Core.Path.{sym}
 use native.Mathlib.Omega.{arith}
 use lib.Seq.{length-take-le}
 use Rattle.file_moves.proofs.Moves.{list_few, list_first}
-use Rattle.host_answer.proofs.Telling.{back}
 use Rattle.host_overlap.proofs.Ways.{of_place, of_event}
 use Rattle.host_overlap.proofs.tell_at.Goals as goal
 
@@ -14,18 +13,12 @@ slice_bounds-moves-end c = omega (arith, list_few c.args.file.now c.requires)
 pub slice_bounds-tell_event-end : goal.slice_bounds-tell_event-end
 slice_bounds-tell_event-end c = sym (length-take-le (2 * c.args.shape.moves) _ (omega (arith, list_few c.args.file.now c.requires)))
 
-pub returns-in-Refused : goal.returns-in-Refused
-returns-in-Refused c =
-    of_place c.args.file.now c.args.place c.args.name c.requires c.event_within.ensures c.in-Refused.is
-    (back c.tell_refusal.result c.tell_refusal.type_inv c.tell_refusal.ensures)
+pub returns-in-Err : goal.returns-in-Err
+returns-in-Err c =
+    of_place c.args.file.now c.args.place c.args.name c.requires c.event_within.ensures c.in-Err.is c.tell_refusal.ensures
 
-pub returns-in-NoEvent : goal.returns-in-NoEvent
-returns-in-NoEvent c =
-    of_place c.args.file.now c.args.place c.args.name c.requires c.event_within.ensures c.in-NoEvent.is
-    (back c.tell_refusal-in-NoEvent.result c.tell_refusal-in-NoEvent.type_inv c.tell_refusal-in-NoEvent.ensures)
-
-pub returns-in-Event : goal.returns-in-Event
-returns-in-Event c =
-    of_place c.args.file.now c.args.place c.args.name c.requires c.event_within.ensures c.in-Event.is
-    (of_event c.args.file.now c.args.place c.args.name c.requires c.in-Event.request (list_first c.args.file.now c.requires _ (omega arith) c.load_list.ensures.said c.load_list.ensures.held)
-    (back c.tell_event.result c.tell_event.type_inv c.tell_event.ensures))
+pub returns-in-Ok : goal.returns-in-Ok
+returns-in-Ok c =
+    of_place c.args.file.now c.args.place c.args.name c.requires c.event_within.ensures c.in-Ok.is
+    (of_event c.args.file.now c.args.place c.args.name c.requires c.in-Ok.request (list_first c.args.file.now c.requires _ (omega arith) c.load_list.ensures.said c.load_list.ensures.held)
+    c.tell_event.ensures)

@@ -11,14 +11,13 @@ use Rattle.file_loading.proofs.Loading.{place_whole, fits_own}
 use Rattle.file_loading.proofs.Buffers.{WithinBuffers, within_buffers}
 use Rattle.file_moves.proofs.Moves.{list_few, list_first}
 use Rattle.listing_whole.proofs.Holding.{holds, table_in_lem}
-use Rattle.host_answer.proofs.Telling.{back}
 use Rattle.host_sheet.proofs.tell_event.Goals as goal
 
 pub slice_bounds-marks-end : goal.slice_bounds-marks-end
 slice_bounds-marks-end c = omega (arith, (shape_fits c.args.file.now c.args.shape c.requires).days)
 
-pub slice_bounds-tell_table-end : goal.slice_bounds-tell_table-end
-slice_bounds-tell_table-end c =
+pub slice_bounds-table-end : goal.slice_bounds-table-end
+slice_bounds-table-end c =
     let its : ((let a = c.args in let l = c.load_within in WithinBuffers a.shape (span 0 a.shape.days) a.file.now c.offset-count.result l.new.marks l.new.readings)) = (let s = c in
     let a = s.args in
     let all = span 0 a.shape.days in
@@ -34,8 +33,8 @@ slice_bounds-readings-end c =
     let few = (shape_fits c.args.file.now c.args.shape c.requires).days in
     omega (arith, offset_most c.args.shape.first c.args.shape.days 128 few)
 
-pub slice_bounds-tell_table-end-2 : goal.slice_bounds-tell_table-end-2
-slice_bounds-tell_table-end-2 c =
+pub slice_bounds-table-end-2 : goal.slice_bounds-table-end-2
+slice_bounds-table-end-2 c =
     let its : ((let a = c.args in let l = c.load_within in WithinBuffers a.shape (span 0 a.shape.days) a.file.now c.offset-count.result l.new.marks l.new.readings)) = (let s = c in
     let a = s.args in
     let all = span 0 a.shape.days in
@@ -49,8 +48,8 @@ slice_bounds-tell_table-end-2 c =
 pub slice_bounds-moves-end : goal.slice_bounds-moves-end
 slice_bounds-moves-end c = omega (arith, list_few c.args.file.now c.requires)
 
-pub slice_bounds-tell_table-end-3 : goal.slice_bounds-tell_table-end-3
-slice_bounds-tell_table-end-3 c =
+pub slice_bounds-tell_table-end : goal.slice_bounds-tell_table-end
+slice_bounds-tell_table-end c =
     sym (length-take-le (2 * c.args.shape.moves) _ (omega (arith, list_few c.args.file.now c.requires)))
 
 pub returns : goal.returns
@@ -64,4 +63,4 @@ returns c =
     (omega (arith, count, offset_most a.shape.first a.shape.days 128 few)) in
     within_buffers a.shape all a.file.now _ _ c.load_within.ensures.held_marks c.load_within.ensures.held_readings (c.load_within.ensures.said ∙ fits) (c.offset-count.ensures ∙ sym count)) in
     let q = holds c.requires (its) (list_first c.args.file.now c.requires _ (omega arith) c.load_list.ensures.said c.load_list.ensures.held) in
-    rw (table_in_lem q, q.its_moves) at (back c.tell_table.result c.tell_table.type_inv c.tell_table.ensures)
+    rw (table_in_lem q, q.its_moves) at c.tell_table.ensures

@@ -1,29 +1,21 @@
 -- `host_sheet::tell_sheet` meets its contract.
 use mathlib.Core.Path.{sym, ◌∙◌}
-use Rattle.host_answer.proofs.Telling.{back}
 use Rattle.host_sheet.proofs.Places.{refused_there, event_there}
 use Rattle.host_sheet.proofs.tell_sheet.Goals as goal
 
-pub returns-in-Refused : goal.returns-in-Refused
-returns-in-Refused c =
+pub returns-in-Err : goal.returns-in-Err
+returns-in-Err c =
     let a = c.args in
-    refused_there a.file.now a.place a.at a.name c.read_file.ensures c.in-Refused.is
-    (back c.tell_refusal.result c.tell_refusal.type_inv c.tell_refusal.ensures)
+    refused_there a.file.now a.place a.at a.name c.read_file.ensures c.in-Err.is c.tell_refusal-in-Err.ensures
 
-pub returns-in-Refused-event_within : goal.returns-in-Refused-event_within
-returns-in-Refused-event_within c =
+pub returns-in-Err-event_within : goal.returns-in-Err-event_within
+returns-in-Err-event_within c =
     let a = c.args in
-    event_there a.file.now a.place a.at a.name (sym c.read_file.ensures ∙ c.in-File.is)
-    c.event_within.ensures c.in-Refused-event_within.is (back c.tell_refusal-in-Refused-event_within.result c.tell_refusal-in-Refused-event_within.type_inv c.tell_refusal-in-Refused-event_within.ensures)
+    event_there a.file.now a.place a.at a.name (sym c.read_file.ensures ∙ c.in-Ok.is) c.event_within.ensures c.in-Err-event_within.is
+    c.tell_refusal.ensures
 
-pub returns-in-NoEvent : goal.returns-in-NoEvent
-returns-in-NoEvent c =
+pub returns-in-Ok-event_within : goal.returns-in-Ok-event_within
+returns-in-Ok-event_within c =
     let a = c.args in
-    event_there a.file.now a.place a.at a.name (sym c.read_file.ensures ∙ c.in-File.is)
-    c.event_within.ensures c.in-NoEvent.is (back c.tell_refusal-in-NoEvent.result c.tell_refusal-in-NoEvent.type_inv c.tell_refusal-in-NoEvent.ensures)
-
-pub returns-in-Event : goal.returns-in-Event
-returns-in-Event c =
-    let a = c.args in
-    event_there a.file.now a.place a.at a.name (sym c.read_file.ensures ∙ c.in-File.is)
-    c.event_within.ensures c.in-Event.is (back c.tell_event.result c.tell_event.type_inv c.tell_event.ensures)
+    event_there a.file.now a.place a.at a.name (sym c.read_file.ensures ∙ c.in-Ok.is) c.event_within.ensures c.in-Ok-event_within.is
+    c.tell_event.ensures

@@ -10,4 +10,4 @@ returns-then-out-end c =
 pub returns : goal.returns
 returns c =
     let a = c.args in
-    copied a.file.now a.out.now c.put_listing-end.ensures.0 c.if-out-end.false c.put_bytes.ensures.0
+    copied a.file.now a.out.now c.put_listing-end.ensures.0 c.if-out-end.false c.copy_from_slice.ensures.after

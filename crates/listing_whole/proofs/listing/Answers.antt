@@ -5,4 +5,4 @@ use Rattle.listing_whole.proofs.listing.Goals as goal
 pub returns : goal.returns
 returns c =
     let a = c.args in
-    straight a.file.now a.out.now c.put_listing-end.ensures.0
+    straight a.file.now a.out.now c.put_listing.ensures.0

@@ -8,10 +8,9 @@ use Rattle.listing_event.specs.Room.{lines_room}
 use Rattle.listing_whole.proofs.put_events.Given as goal
 
 abbrev pub invariant-loop-place : goal.invariant-loop-place
-invariant-loop-place l = (Writing l.initial.out l.at (event_texts l.file l.events 0) l.next l.out (event_texts l.file (l.events - l.place) l.place))
-    × (l.place ≤ l.events)
-    × (l.next ≤ l.at + lines_room * l.place)
-    × (length l.out ≡ length l.initial.out)
-
-abbrev pub decreases-loop-place : goal.decreases-loop-place
-decreases-loop-place l = l.events - l.place
+invariant-loop-place l = record {
+  so_far : Writing l.initial.out l.at (event_texts l.loaded.file.now l.loaded.shape.events 0) l.next l.out
+      (event_texts l.loaded.file.now (l.loaded.shape.events - l.place) l.place);
+  most : l.next ≤ l.at + lines_room * l.place;
+  size : length l.out ≡ length l.initial.out;
+}

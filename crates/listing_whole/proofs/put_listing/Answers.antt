@@ -4,7 +4,7 @@ use native.Mathlib.Omega.{arith}
 use Rattle.listing_whole.proofs.Whole.{refusal_listed}
 use Rattle.listing_whole.proofs.put_listing.Goals as goal
 
-pub returns-in-Refused : goal.returns-in-Refused
-returns-in-Refused c =
-    let refused = sym c.read_file.ensures ∙ c.in-Refused.is in
+pub returns-in-Err : goal.returns-in-Err
+returns-in-Err c =
+    let refused = sym c.read_file.ensures ∙ c.in-Err.is in
     (refusal_listed c.args.file.now (omega arith) refused c.opening.ensures, omega (arith, c.opening.ensures.most))

@@ -1,15 +1,15 @@
 -- `program_list::list` meets its contract: the listing always fits, and is that of every such input.
-use Rattle.program_list.proofs.Printing.{printed, never_none}
+use Rattle.program_list.proofs.Printing.{printed, never_refused}
 use Rattle.program_list.proofs.list.Goals as goal
 
-pub returns-in-Length : goal.returns-in-Length
-returns-in-Length c =
+pub returns-in-Ok : goal.returns-in-Ok
+returns-in-Ok c =
     let a = c.args in
     let r = c.requires in
-    printed a.bytes.now a.count r.0 r.1 c.type_inv.bytes c.listing.ensures r.2 c.in-Length.is
+    printed a.bytes.now a.count r.0 r.1 c.type_inv.bytes c.listing.ensures r.2 c.in-Ok.is
 
-pub returns-in-DoesNotFit : goal.returns-in-DoesNotFit
-returns-in-DoesNotFit c =
+pub returns-in-Err : goal.returns-in-Err
+returns-in-Err c =
     let a = c.args in
     let r = c.requires in
-    never_none a.bytes.now a.count r.0 r.1 c.type_inv.bytes c.listing.ensures r.2 c.in-DoesNotFit.is
+    never_refused a.bytes.now a.count r.0 r.1 c.type_inv.bytes c.listing.ensures r.2 c.in-Err.is

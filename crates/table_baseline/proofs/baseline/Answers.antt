@@ -1,21 +1,13 @@
--- `table_baseline::baseline` meets its contract: what was found of the table is known at `d`.
+-- `table_baseline::baseline` meets its contract: what was found of the table says the rest.
 use mathlib.Core.Path.{sym, ◌∙◌}
-use lib.ListN.{length}
-use Rattle.table_days.specs.Lent.{table_of}
+use Rattle.std.proofs.Common.{rules}
 use Rattle.engine_answer.proofs.Laws.{refuses}
 use Rattle.table_baseline.proofs.Tables.{table_refused, over_table_lem}
 use Rattle.table_baseline.proofs.baseline.Goals as goal
 
-pub returns-in-Failed : goal.returns-in-Failed
-returns-in-Failed c =
-    let a = c.args in
-    let t = table_of a.first a.marks.now a.readings.now in
-    let room = length a.out.now in
-    refuses a.out.now c.refuse.ensures
-    (table_refused a.moves.now t a.request room (sym c.of_table-of_table.ensures ∙ c.in-Failed.is))
+pub returns-in_err-of_table : goal.returns-in_err-of_table
+returns-in_err-of_table c =
+    refuses _ c.in_err-of_table.field-0.0 _ _ (table_refused _ _ _ _ (sym c.of_table.ensures ∙ c.in_err-of_table.was)) (search rules)
 
-pub returns-in-Passed : goal.returns-in-Passed
-returns-in-Passed c =
-    let a = c.args in
-    let t = table_of a.first a.marks.now a.readings.now in
-    rw (over_table_lem a.moves.now t a.request (length a.out.now) (sym c.of_table-of_table.ensures ∙ c.in-Passed.is)) at c.over_table.ensures
+pub returns : goal.returns
+returns c = rw (over_table_lem _ _ _ _ (sym c.of_table.ensures ∙ c.in_ok-of_table.was)) at c.over_table.ensures

@@ -2,7 +2,6 @@ use Prim.Native.Nat.{ℕ, ◌-◌, ◌<◌}
 use mathlib.Core.Path.{◌≡◌, refl}
 use mathlib.Core.List.{List, []}
 use native.Mathlib.Omega.{arith}
-use borrow.Author.Rules.{rules}
 use lib.ListN.{get_or}
 use Rattle.method.specs.Table.{offset}
 use Rattle.method.proofs.Tables.{offset_most}
@@ -20,7 +19,7 @@ within {first} {event} {n} {i} {marks} e h = entry (table_of first marks []) eve
 
 pub loop-i-init : goal.loop-i-init
 unfolding filled places
-loop-i-init c = (search rules, refl, refl)
+loop-i-init c = (refl, refl)
 
 pub overflow_sub-day : goal.overflow_sub-day
 overflow_sub-day c = let e = within c.entries-entries.ensures c.loop-i-test.true in omega arith
@@ -35,24 +34,23 @@ overflow_cast-at c =
     let most = offset_most a.first (a.event - c.loop-i.i - a.first) 128 (omega arith) in
     omega (arith, c.offset.ensures, most)
 
-pub bounds-at-place : goal.bounds-at-place
-bounds-at-place c = let e = within c.entries-entries.ensures c.loop-i-test.true in omega arith
+pub bounds-at-i : goal.bounds-at-i
+bounds-at-i c = let e = within c.entries-entries.ensures c.loop-i-test.true in omega arith
 
 pub bounds-marks-before : goal.bounds-marks-before
 bounds-marks-before c = let e = within c.entries-entries.ensures c.loop-i-test.true in omega arith
 
-pub bounds-kept-place : goal.bounds-kept-place
-bounds-kept-place c = let e = within c.entries-entries.ensures c.loop-i-test.true in omega arith
+pub bounds-kept-i : goal.bounds-kept-i
+bounds-kept-i c = let e = within c.entries-entries.ensures c.loop-i-test.true in omega arith
 
 pub loop-i-preserved : goal.loop-i-preserved
 loop-i-preserved c =
     let a = c.args in
     let l = c.loop-i in
     let e = within c.entries-entries.ensures c.loop-i-test.true in (
-      omega arith,
-      rw l.invariant.1 (filled_more (λ j. offset a.first (a.event - j - a.first)) 46 l.i c.offset.result e.place
+      rw l.invariant.0 (filled_more (λ j. offset a.first (a.event - j - a.first)) 46 l.i c.offset.result e.place
           c.offset.ensures),
-      rw l.invariant.2 (filled_more (λ j. get_or a.marks.now (a.event - j - a.first) 0) 46 l.i
+      rw l.invariant.1 (filled_more (λ j. get_or a.marks.now (a.event - j - a.first) 0) 46 l.i
           (get_or a.marks.now (a.event - l.i - a.first) 0) e.place refl),
     )
 
@@ -61,6 +59,6 @@ returns c = λ readings.
     let a = c.args in
     let l = c.loop-i in
     let n = c.entries-entries.result in
-    let all : l.i ≡ n = omega (arith, l.invariant.0, c.loop-i-test.false) in
-    directory_is a.first a.marks.now readings a.event n (c.entries-entries.ensures readings) (rw all at l.invariant.1)
-    (rw all at l.invariant.2)
+    let all : l.i ≡ n = omega arith in
+    directory_is a.first a.marks.now readings a.event n (c.entries-entries.ensures readings) (rw all at l.invariant.0)
+    (rw all at l.invariant.1)

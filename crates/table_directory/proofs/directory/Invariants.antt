@@ -1,5 +1,5 @@
 -- `table_directory::directory` meets its contract. The loop's invariant: the first `i` places of both rows are filled.
-use Prim.Native.Nat.{◌-◌, ◌≤◌}
+use Prim.Native.Nat.{◌-◌}
 use mathlib.Core.Path.{◌≡◌}
 use lib.ListN.{get_or}
 use Rattle.method.specs.Table.{offset}
@@ -7,8 +7,5 @@ use Rattle.base_lists.proofs.Places.{filled}
 use Rattle.table_directory.proofs.directory.Given as goal
 
 abbrev pub invariant-loop-i : goal.invariant-loop-i
-invariant-loop-i l = (l.i ≤ l.entries) × (l.at ≡ filled (λ j. offset l.first (l.event - j - l.first)) 46 l.i) ×
+invariant-loop-i l = (l.at ≡ filled (λ j. offset l.first (l.event - j - l.first)) 46 l.i) ×
     (l.kept ≡ filled (λ j. get_or l.marks (l.event - j - l.first) 0) 46 l.i)
-
-abbrev pub decreases-loop-i : goal.decreases-loop-i
-decreases-loop-i l = l.entries - l.i

@@ -6,18 +6,18 @@ use borrow.Author.Tests.{lt-ltb, le-ltb}
 use Rattle.table_days.specs.Lent.{table_of}
 use Rattle.table_days.proofs.Extracts.{within, before}
 use Rattle.table_directory.proofs.Rooms.{entries_many, entries_none, entries_are}
+use Rattle.table_directory.proofs.entries.Goals.{then-marks-gt128-via-then-marks-gt128, then-marks-gt128-via-else-marks-gt128+then-event-first}
 use Rattle.table_directory.proofs.entries.Goals as goal
 
 pub returns-then-marks-gt128 : goal.returns-then-marks-gt128
 returns-then-marks-gt128 c = λ readings.
     let a = c.args in
-    entries_many (table_of a.first a.marks.now readings) a.event c.if-marks-gt128.true
-
-pub returns-then-event-first : goal.returns-then-event-first
-returns-then-event-first c = λ readings.
-    let a = c.args in
     let t = table_of a.first a.marks.now readings in
-    entries_none t a.event c.if-marks-gt128.false (sym (before t a.event c.if-event-first.true))
+    elim c.then-marks-gt128.branch [
+      | then-marks-gt128-via-then-marks-gt128 w ↦ entries_many t a.event w.if-marks-gt128.true
+      | then-marks-gt128-via-else-marks-gt128+then-event-first w ↦
+          entries_none t a.event w.if-marks-gt128.false (sym (before t a.event w.if-event-first.true))
+    ]
 
 pub returns-then-before-marks : goal.returns-then-before-marks
 returns-then-before-marks c = λ readings.
@@ -25,7 +25,7 @@ returns-then-before-marks c = λ readings.
     let t = table_of a.first a.marks.now readings in
     entries_are t a.event c.if-marks-gt128.false
     (sym (within t a.event c.if-event-first.false) ∙ lt-ltb (a.event - a.first) (length a.marks.now) c.if-before-marks.true)
-    c.least.ensures
+    c.min.ensures
 
 pub returns-else-before-marks : goal.returns-else-before-marks
 returns-else-before-marks c = λ readings.

@@ -4,4 +4,4 @@ use Rattle.table_engine.proofs.over_table.Goals as goal
 
 pub returns : goal.returns
 unfolding over_table
-returns c = rw (c.directory-rooms.ensures c.args.readings.now) at c.baseline_over.ensures
+returns c = rw (c.directory-rooms.ensures c.args.table.now.readings.now) at c.baseline_over.ensures

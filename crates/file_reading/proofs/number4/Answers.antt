@@ -1,9 +1,0 @@
--- `file_reading::number4` meets its contract.
-use mathlib.Core.Path.{sym, ◌∙◌}
-use Rattle.file_record.proofs.Numbers.{number_four}
-use Rattle.file_reading.proofs.number4.Goals as goal
-
-pub returns : goal.returns
-returns c =
-    let a = c.args in
-    c.number4.ensures ∙ sym (number_four a.at a.file.now)
