@@ -55,6 +55,7 @@ function judge(text,    signature, clauses, n, i, name, told, parameter) {
     told = told " " telling(braced(clauses[i]))
   }
   if (signature ~ /->/ && !has(told, "result")) say("nothing", name ": of its result")
+  if (signature ~ /\( *&('[a-z_]+ +)?mut self *[,)]/ && !has(told, "self.new")) say("nothing", name ": of self at the end")
   sub(/^[^(]*\(/, "", signature)
   sub(/\)[^)]*$/, "", signature)
   while (match(signature, /[a-z_][a-z0-9_]*:/)) {
