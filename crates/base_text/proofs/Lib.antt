@@ -1,3 +1,4 @@
 pub mod Putting
 pub mod Pieces
 mod TextExamples
+pub mod Copying

@@ -46,15 +46,11 @@ module _ {d : List ℕ} {at : ℕ} (a : List ℕ) {b : List ℕ} where
           holds = rw (put_kept d at (a ++ b) (rw length-append (omega arith))) (p.holds ∙ put_kept d (at + length a) b over);
         }
 
-    pub label_room : s ≤ length e → at + length a ≤ length e
-    label_room o = let size : length e ≡ length d = kept_length in omega (arith, fitted p (omega arith))
-
-    pub both_in : s ≤ length e → PutsBoth d at a b s (put_mid at (at + length a - at) e a)
-    both_in o =
+    pub both_in : {r : ℕ} {f : List ℕ} → s ≤ length e → Puts e at a r f → PutsBoth d at a b s f
+    both_in o q =
         let size : length e ≡ length d = kept_length in
         let back = put_back d at a b (fitted p (omega arith)) in
-        let here = all_in e at a (label_room o) in
-        record { next = rw (next_within d at a h) p.next; holds = rw (← back, ← p.holds) here.holds }
+        record { next = rw (next_within d at a h) p.next; holds = rw (← back, ← p.holds) q.holds }
 
 -- a number with no label
 pub no_label : {d : List ℕ} {at : ℕ} {b : List ℕ} {r : ℕ} {e : List ℕ} → PutsBoth d at [] b r e → Puts d at b r e

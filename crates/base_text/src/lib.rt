@@ -2,7 +2,7 @@
 // that something did not fit, and nothing is written there. How far that place can be is said too.
 #![tactic(auto)]
 
-ghost use Rattle.std.specs.Prelude.{◌≤◌, ◌+◌, length};
+ghost use Rattle.std.specs.Prelude.{◌≡◌, ◌≤◌, ◌+◌, length};
 ghost use Rattle.base_digits.specs.Digits.{dec, decimal};
 ghost use Rattle.base_text.specs.TextSteps.{Puts, PutsBoth, Keeps};
 
@@ -13,6 +13,16 @@ use itoa::Buffer;
 pub struct Text<'a> {
     pub out: &'a mut [u8],
     pub at: usize,
+}
+
+// The bytes into a part as long as they are. By a loop: `copy_from_slice` leaves a call of the system's memmove, which the archive does not ask for.
+fn copy(part: &mut [u8], bytes: &[u8])
+    requires { length part.old ≡ length bytes.now }
+    ensures { part.new ≡ bytes.now }
+{
+    for (i, byte) in part.iter_mut().enumerate() {
+        *byte = bytes[i];
+    }
 }
 
 impl Text<'_> {
@@ -27,7 +37,7 @@ impl Text<'_> {
         }
         let end = self.at + bytes.len();
         if end <= self.out.len() {
-            self.out[self.at..end].copy_from_slice(bytes);
+            copy(&mut self.out[self.at..end], bytes);
         }
         self.at = end;
     }
@@ -62,8 +72,11 @@ impl Text<'_> {
         let start = self.at;
         self.at += label.len();
         self.put_bytes(Buffer::new().format(n).as_bytes());
-        if self.at <= self.out.len() {
-            self.out[start..start + label.len()].copy_from_slice(label);
+        let behind = self.at;
+        if behind <= self.out.len() {
+            self.at = start;
+            self.put_bytes(label);
+            self.at = behind;
         }
     }
 }

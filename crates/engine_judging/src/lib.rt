@@ -1,7 +1,7 @@
 // What a day's mark and readings make of it: eligible or spare with its word, or neither (document 01, "Choosing the days").
 #![tactic(auto)]
 
-ghost use Rattle.std.specs.Prelude.{◌≡◌, ◌-◌, ◌%◌, ◌^◌, take, drop};
+ghost use Rattle.std.specs.Prelude.{◌≡◌, ◌+◌, ◌*◌, ◌-◌, ◌%◌, ◌^◌, min, length, take, drop};
 ghost use Rattle.method.specs.Ruler.{against};
 ghost use Rattle.method.specs.Eligible.{event_sum};
 ghost use Rattle.engine_judging.specs.Steps.{day_from, judged_at};
@@ -15,18 +15,16 @@ pub enum Judged {
     Spare(u64),
 }
 
-// The readings of a day over the event's own quarters, as far as it has them.
+// The readings of a day over the event's own quarters, as far as it has them, as that part of the day's readings itself.
 pub fn event_quarters<'a>(request: Request, part: &'a [u32]) -> &'a [u32]
-    ensures { result.now ≡ take (request.e - request.s) (drop (against request.event request.s) part.now) }
+    ensures list { result.now ≡ take (request.e - request.s) (drop (against request.event request.s) part.now) }
+    ensures block { result.ref_ptr.0 ≡ part.entry.ref_ptr.0 }
+    ensures byte { result.ref_ptr.1 ≡ part.entry.ref_ptr.1 + 4 * min (against request.event request.s) (length part.now) }
 {
     let start = day_ruler::against(request.event, request.s) as usize;
     let count = request.e.saturating_sub(request.s) as usize;
-    let end = (start + count).min(part.len());
-    if start < end {
-        &part[start..end]
-    } else {
-        &part[..0]
-    }
+    let from = start.min(part.len());
+    &part[from..(start + count).min(part.len())]
 }
 
 // The sum of a day's readings over the event's own quarters, as a number of 64 bits.

@@ -21,6 +21,8 @@ impl Places {
     // Where the days stand that are counted: of more than five, five.
     pub fn starts(&self) -> &[u32]
         ensures list { result.now ≡ take (min self.now.count 5) self.now.at }
+        ensures block { result.ref_ptr.0 ≡ self.entry.ref_ptr.0 }
+        ensures byte { result.ref_ptr.1 ≡ self.entry.ref_ptr.1 }
         ensures few { length result.now ≤ 5 }
     {
         &self.at[..self.count.min(5) as usize]

@@ -4,7 +4,8 @@
 ghost use Rattle.std.specs.Prelude.{◌≡◌, ◌+◌, ◌*◌, ◌^◌, ◌≤◌, ◌<◌, cond, length, drop};
 ghost use Rattle.std.specs.Bool.{IsTrue};
 ghost use Rattle.std.specs.List.{prefix_len, range_with_len};
-ghost use Rattle.file_record.specs.Reader.{number_at, is_record, is_mv, dy_length, dy_day, is_dy, is_ev, ev_length, is_dy_of, moves_in, move_start, days_from, events_from, day_start, read_file};
+ghost use Rattle.method.specs.Table.{most_quarters};
+ghost use Rattle.file_record.specs.Reader.{dy_bytes, number_at, is_record, is_mv, dy_length, dy_day, is_dy, is_ev, ev_length, is_dy_of, moves_in, move_start, days_from, events_from, day_start, read_file};
 
 use byteorder::{ByteOrder, LittleEndian};
 use file_record::Shape;
@@ -18,7 +19,7 @@ use method::Refusal;
 #[tactic(auto, using(method::proofs::Tables::size_most))]
 fn day_length(day: u32) -> usize
     ensures value { result ≡ dy_length day }
-    ensures most { result ≤ 390 }
+    ensures most { result ≤ dy_bytes most_quarters }
 {
     BESIDE_READINGS + 4 * (day_ruler::size(day) as usize)
 }

@@ -2,7 +2,8 @@
 #![tactic(auto)]
 
 ghost use Rattle.std.specs.Prelude.{◌≡◌, ◌+◌, ◌*◌, ◌≤◌};
-ghost use Rattle.file_record.specs.Reader.{move_start, shape_base, day_start};
+ghost use Rattle.method.specs.Table.{most_quarters};
+ghost use Rattle.file_record.specs.Reader.{dy_bytes, move_start, shape_base, day_start};
 
 use file_record::Shape;
 
@@ -28,7 +29,7 @@ pub const MOST_EVENTS: u32 = 64;
 // Where the k-th DY starts, counted from 0, the first standing at `base`; after the last DY, where the first EV does.
 pub fn day_start(base: u32, first: u32, k: u32) -> usize
     ensures start { result ≡ day_start base first k }
-    ensures most { result ≤ base + 390 * k }
+    ensures most { result ≤ base + dy_bytes most_quarters * k }
 {
     (base as usize) + BESIDE_READINGS * (k as usize) + 4 * day_ruler::offset(first, k)
 }

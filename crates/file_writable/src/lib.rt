@@ -88,7 +88,7 @@ pub fn is_sayable(
 {
     in_bounds(participation, first, days)
         && few_of(2, MOST_MOVES as usize, moves.len())
-        && moves_fit(moves)
         && few_of(EVENT_NUMBERS, MOST_EVENTS as usize, events.len())
+        && moves_fit(moves)
         && all_fit(events)
 }

@@ -26,7 +26,7 @@ use method::Request;
 use table_days::LentTable;
 
 // HP_NOTHING: what C gets where nothing is told.
-const NOTHING: i64 = i64::MIN;
+pub const NOTHING: i64 = i64::MIN;
 
 // Room for the numerators of any event, four bytes each.
 const MOST_BYTES: usize = 4 * method::QUARTERS;

@@ -1,5 +1,5 @@
 -- The refusals of an event whatever days are held, and what is told of it: one law for each way out of the code.
-use Prim.Native.Nat.{ℕ, ◌-◌, ◌≤◌}
+use Prim.Native.Nat.{ℕ, ◌-◌, ◌≤◌, min}
 use mathlib.Core.Path.{◌≡◌, refl, sym, ap, ◌∙◌}
 use mathlib.Core.Bool.{Bool, true, false, not, cond, ◌||◌}
 use mathlib.Core.List.{List, [], ◌∷◌}
@@ -8,6 +8,7 @@ use borrow.Author.Tests.{le-ltb}
 use lib.Dec.{ltb}
 use lib.IntN.{ℤ}
 use Rattle.std.specs.Prelude.{Option, Some, None, Result, Ok, Err}
+use Rattle.std.specs.List.{reduce, filter_map}
 use Rattle.base_lists.specs.Lists.{any}
 use Rattle.calendar_groups.specs.Holidays.{good_moves}
 use Rattle.method.specs.declared.Request.{Request}
@@ -31,7 +32,7 @@ use Rattle.file_days.proofs.Days.{holding_is}
 use Rattle.host_answer.specs.Names.{by_name, refusal_row, row_from, row_after}
 use Rattle.host_answer.proofs.Refused.{row_passed, row_failed}
 use Rattle.host_overlap.specs.Overlap.{overlap_tests, enough_days, numbers_of, overlap_numbers, row_at, overlap_row, is_asked, cut_from}
-use Rattle.host_overlap.specs.Steps.{needed}
+use Rattle.host_overlap.specs.Steps.{needed, needed_there}
 
 -- refusals tested one after the other: whether one applies, and what is told after them
 abbrev test : Bool × Refusal → Bool
@@ -102,6 +103,20 @@ module _ (moves : List ℕ) (r : Request) where
         → x ≡ by_name (row_from 41 (numbers_of t b far r.event)) name → x ≡ row
     told_numbers e t b f h =
         rw (row_passed (overlap_tests moves r) (row_from 41 (numbers_of there before (enough_days moves r) r.event)) e) (rw (t, b, f) at h)
+
+-- by a list that refusal 14 turns away no event needs a day
+module _ (moves : List ℕ) (bad : good_moves moves ≡ false) where
+  unneeded : (at : Result Request Refusal) → needed_there moves at ≡ None
+  unfolding needed_there
+  unneeded (Ok r) = sym (needs_none moves r BadMoves (sym (bad_list moves r bad)))
+  unneeded (Err w) = refl
+
+  all_unneeded : (at : ℕ → Result Request Refusal) (places : List ℕ) → filter_map (λ place. needed_there moves (at place)) places ≡ []
+  all_unneeded at [] = refl
+  all_unneeded at (place ∷ places) = rw (unneeded (at place)) (all_unneeded at places)
+
+  pub none_needed : (at : ℕ → Result Request Refusal) (places : List ℕ) → None ≡ reduce min (filter_map (λ place. needed_there moves (at place)) places)
+  none_needed at places = rw (all_unneeded at places) refl
 
 pub cut_refused : (file : List ℕ) {w : Refusal} → read_file file ≡ Err w → None ≡ cut_from (read_file file) file
 cut_refused file r = rw r

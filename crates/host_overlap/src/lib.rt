@@ -2,8 +2,9 @@
 // be cut.
 #![tactic(auto)]
 
-ghost use Rattle.std.specs.Prelude.{◌≡◌, ◌-◌, ◌≤◌, min, Ok};
+ghost use Rattle.std.specs.Prelude.{ℕ, ◌≡◌, ◌-◌, ◌≤◌, min, true, List, Ok};
 ghost use Rattle.std.specs.List.{reduce, filter_map, range_with_len};
+ghost use Rattle.calendar_groups.specs.Holidays.{good_moves};
 ghost use Rattle.file_record.specs.Reader.{read_file};
 ghost use Rattle.file_record.specs.Steps.{event_within};
 ghost use Rattle.file_days.specs.Steps.{holds_day};
@@ -18,17 +19,24 @@ use file_record::Shape;
 use host_answer::{names, tell_refusal, told};
 use method::{QUARTERS, Refusal, Request};
 
-// 14, 4 and 6 of a request: what it is refused for where its own day is held and there is room for any event.
+// 4 and 6 of a request by a good list: what it is refused for where its own day is held and there is room for any event.
+fn of_good_list(request: Request) -> Result<(), Refusal>
+    ensures { (moves : List ℕ) → good_moves moves ≡ true → result ≡ tested (overlap_tests moves request) }
+{
+    let own = Directory {
+        at: [0; DAYS],
+        marks: [0; DAYS],
+        held: 1,
+    };
+    engine_refusals::of_request(request, &own, QUARTERS)
+}
+
+// 14, 4 and 6 of a request.
 fn of_event(moves: &[u32], request: Request) -> Result<(), Refusal>
     ensures { result ≡ tested (overlap_tests moves.now request) }
 {
     if calendar_groups::is_good_list(moves) {
-        let own = Directory {
-            at: [0; DAYS],
-            marks: [0; DAYS],
-            held: 1,
-        };
-        engine_refusals::of_request(request, &own, QUARTERS)
+        of_good_list(request)
     } else {
         Err(Refusal::BadMoves)
     }
@@ -97,12 +105,13 @@ pub fn tell_overlap(file: &[u8], place: usize, name: u32) -> Option<i64>
     }
 }
 
-// The day from which a request needs days on, if it does.
+// The day from which a request needs days on by a good list, if it does.
 #[tactic(auto, using(crate::proofs::Ways::needs_none, crate::proofs::Ways::needs_some))]
 fn needed_from(moves: &[u32], request: Request) -> Option<u32>
+    requires { good_moves moves.now ≡ true }
     ensures { result ≡ needed moves.now request }
 {
-    match of_event(moves, request) {
+    match of_good_list(request) {
         Ok(()) => {
             let far = engine_relevant::whole_reach(moves, request);
             Some(request.event.saturating_sub(far))
@@ -114,6 +123,7 @@ fn needed_from(moves: &[u32], request: Request) -> Option<u32>
 // And of the event at a place of a file of this shape.
 #[tactic(auto, unfolding(crate::specs::Steps::needed_there))]
 fn needed_at(file: &[u8], shape: Shape, moves: &[u32], place: usize) -> Option<u32>
+    requires { good_moves moves.now ≡ true }
     ensures { result ≡ needed_there moves.now (event_within shape file.now place) }
 {
     match file_events::event_within(file, shape, place) {
@@ -122,10 +132,17 @@ fn needed_at(file: &[u8], shape: Shape, moves: &[u32], place: usize) -> Option<u
     }
 }
 
-// The least of the events of a file of this shape.
+// The least of the events of a file of this shape. The list is tested once for all of them, where there is one: where refusal 14 turns it away,
+// none needs a day.
 fn least_needed(file: &[u8], shape: Shape, moves: &[u32]) -> Option<u32>
     ensures { result ≡ reduce min (filter_map (λ place. needed_there moves.now (event_within shape file.now place)) (range_with_len 0 shape.events)) }
 {
+    if shape.events == 0 {
+        return None;
+    }
+    if !calendar_groups::is_good_list(moves) {
+        return None;
+    }
     let events = 0..shape.events as usize;
     events
         .filter_map(|place| needed_at(file, shape, moves, place))

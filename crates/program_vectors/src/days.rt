@@ -3,8 +3,8 @@ ghost use Rattle.std.specs.Prelude.{◌<◌};
 
 use calendar_dates::Date;
 use calendar_groups::Group;
-use std::io;
 use std::io::Print;
+use std::{fmt, io};
 
 fn letter(group: Group) -> &'static str {
     match group {
@@ -14,16 +14,29 @@ fn letter(group: Group) -> &'static str {
     }
 }
 
-// A month, one letter a day, for its group where no holiday is moved: `2024-05 HWHHH..`. It asks for 31 days of every month; there is no letter
-// where there is no such date.
-fn month_line(rt: &impl Print, year: u32, month: u32) -> io::Result<()> {
-    print!(rt; "{year:04}-{month:02} ")?;
-    for day in 1..=31 {
-        if let Some(day) = (Date { year, month, day }).day_number() {
-            print!(rt; "{}", letter(calendar_groups::group_of(&[], day)))?;
+// The letters of a month, one a day, for its group where no holiday is moved: `HWHHH..`. It asks for 31 days of every month; there is no letter where
+// there is no such date.
+#[derive(Clone, Copy)]
+struct Letters {
+    year: u32,
+    month: u32,
+}
+
+impl fmt::Display for Letters {
+    fn fmt<W: fmt::Write>(&self, f: &mut fmt::Formatter<W>) -> fmt::Result {
+        let Letters { year, month } = *self;
+        for day in 1..=31 {
+            if let Some(day) = (Date { year, month, day }).day_number() {
+                f.write_str(letter(calendar_groups::group_of(&[], day)))?;
+            }
         }
+        Ok(())
     }
-    println!(rt)
+}
+
+// A month as `2024-05 HWHHH..`. Nothing keeps what was printed from one call to the next: each line is written whole, by one.
+fn month_line(rt: &impl Print, year: u32, month: u32) -> io::Result<()> {
+    println!(rt; "{year:04}-{month:02} {}", Letters { year, month })
 }
 
 pub(crate) fn groups(rt: &impl Print) -> io::Result<()> {
@@ -85,7 +98,8 @@ fn month_name(month: u32) -> &'static str {
 pub(crate) fn table_3(rt: &impl Print) -> io::Result<()> {
     println!(rt; "003, Table 3")?;
     for day in 6946..=6952 {
-        print!(rt; "{}{}", weekday(day), gap(day))?;
+        print!(rt; "{}", weekday(day))?;
+        print!(rt; "{}", gap(day))?;
     }
     for day in 6946..=6972 {
         if let Some(

@@ -2,11 +2,28 @@
 ghost use Rattle.std.specs.Prelude.{◌≤◌, ◌<◌};
 
 use calendar_dates::Date;
-use std::io;
 use std::io::Print;
+use std::{fmt, io};
 use table_days::LentTable;
 
-// A day and its part: how many readings it has, the first and the last, as `2019-01-12 96 1000 1095`, or `2019-01-11 00`.
+// The part of a day: how many readings it has, the first and the last, as `96 1000 1095`, or `00`.
+#[derive(Clone, Copy)]
+struct Part<'a> {
+    readings: &'a [u32],
+}
+
+impl fmt::Display for Part<'_> {
+    fn fmt<W: fmt::Write>(&self, f: &mut fmt::Formatter<W>) -> fmt::Result {
+        let readings = self.readings;
+        write!(f, "{:02}", readings.len())?;
+        if let (Some(start), Some(end)) = (readings.first(), readings.last()) {
+            write!(f, " {start:04} {end:04}")?;
+        }
+        Ok(())
+    }
+}
+
+// A day and its part, a line that is written whole: `2019-01-12 96 1000 1095`, or `2019-01-11 00`.
 fn part_line(rt: &impl Print, table: &LentTable<'_, '_>, day: u32) -> io::Result<()> {
     let Some(
         Date {
@@ -18,12 +35,10 @@ fn part_line(rt: &impl Print, table: &LentTable<'_, '_>, day: u32) -> io::Result
     else {
         return Ok(());
     };
-    let part = table.day_part(day);
-    print!(rt; "{year:04}-{month:02}-{of_month:02} {:02}", part.len())?;
-    if let (Some(start), Some(end)) = (part.first(), part.last()) {
-        print!(rt; " {start:04} {end:04}")?;
-    }
-    println!(rt)
+    let part = Part {
+        readings: table.day_part(day),
+    };
+    println!(rt; "{year:04}-{month:02}-{of_month:02} {part}")
 }
 
 // The first day of a table, the second and the last, and the days beside them.

@@ -8,6 +8,6 @@ returns-then-self-clause-puts c = past _ _ _ c.if-self.true
 
 pub returns-clause-puts : goal.returns-clause-puts
 returns-clause-puts c = elim c.if-end-self.branch [
-  | then-end-self w ↦ rw (w.self-is, w.copy_from_slice.ensures.after) (all_in _ _ _ w.if-end-self.true)
+  | then-end-self w ↦ rw (w.self-is, w.copy.ensures) (all_in _ _ _ w.if-end-self.true)
   | else-end-self w ↦ rw w.self-is (too_long _ _ _ c.if-self.false w.if-end-self.false)
 ]
