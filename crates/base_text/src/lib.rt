@@ -61,6 +61,7 @@ impl Text<'_> {
     }
 
     // A label and a number in decimal digits, both or neither.
+    #[inline(always)]
     pub fn put_field(&mut self, label: &[u8], n: u32)
         ensures keeps { Keeps self.old self.new }
         ensures puts { PutsBoth self.old.out.now self.old.at label.now (dec n) self.new.at self.new.out.now }

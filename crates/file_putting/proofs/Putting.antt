@@ -6,7 +6,7 @@ use mathlib.Core.List.{List, [], ◌∷◌, ◌++◌, append-nil}
 use native.Mathlib.Omega.{arith}
 use borrow.Author.Tests.{le-leb, leb-true}
 use lib.Dec.{leb}
-use lib.ListN.{length, get_or, take, drop, set, length-set, length-append, length-drop, drop_of_length-le}
+use lib.ListN.{length, take, drop, set, length-set, length-append, length-drop, drop_of_length-le}
 use borrow.Rule.Slice.PartMut.{put_mid, mid_of, mid_len}
 use Rattle.base_lists.specs.Ascii.{ascii}
 use Rattle.base_bytes.specs.Bytes.{bytes, reading_bytes}
@@ -26,16 +26,13 @@ put_exactly values buffer e =
     rw (le-leb (length values) (length buffer) fits, drop_of_length-le buffer none) (append-nil values)
 
 -- a mark and a number of two bytes take the place of the first four
-pub head_is : (out mark : List ℕ) (number : ℕ) {part first : List ℕ} → 4 ≤ length out → length mark ≡ 2 → first ≡ mark → part ≡ take 2 (to_le_bytes w32 number)
-    → put_mid 2 2 (put_mid 0 2 out first) part ≡ (get_or mark 0 0 ∷ get_or mark 1 0 ∷ bytes 2 number) ++ drop 4 out
-head_is [] mark number h e f p = absurd (omega arith)
-head_is (a ∷ []) mark number h e f p = absurd (omega arith)
-head_is (a ∷ b ∷ []) mark number h e f p = absurd (omega arith)
-head_is (a ∷ b ∷ c ∷ []) mark number h e f p = absurd (omega arith)
-head_is (a ∷ b ∷ c ∷ d ∷ l) [] number h e f p = absurd (omega arith)
-head_is (a ∷ b ∷ c ∷ d ∷ l) (m ∷ []) number h e f p = absurd (omega arith)
-head_is (a ∷ b ∷ c ∷ d ∷ l) (m ∷ n ∷ []) number h e f p = rw (f, p ∙ le_two number) (unfold bytes in refl)
-head_is (a ∷ b ∷ c ∷ d ∷ l) (m ∷ n ∷ o ∷ k) number h e f p = absurd (omega arith)
+pub head_is : (out : List ℕ) (m n number : ℕ) {part : List ℕ} → 4 ≤ length out → part ≡ take 2 (to_le_bytes w32 number)
+    → put_mid 2 2 (set (set out 0 m) 1 n) part ≡ (m ∷ n ∷ bytes 2 number) ++ drop 4 out
+head_is [] m n number h p = absurd (omega arith)
+head_is (a ∷ []) m n number h p = absurd (omega arith)
+head_is (a ∷ b ∷ []) m n number h p = absurd (omega arith)
+head_is (a ∷ b ∷ c ∷ []) m n number h p = absurd (omega arith)
+head_is (a ∷ b ∷ c ∷ d ∷ l) m n number h p = rw (p ∙ le_two number) (unfold bytes in refl)
 
 -- the head of a record is put, and the rest of it is left
 head_put : (before head left : List ℕ) {now : List ℕ} → length head ≡ 4 → 4 ≤ length before → now ≡ head ++ drop 4 before

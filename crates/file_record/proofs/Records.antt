@@ -1,17 +1,13 @@
 -- One law for each way in which the code tests a record.
-use Prim.Native.Nat.{ℕ, ◌+◌, ◌*◌, ◌^◌, ◌<◌, ◌≤◌}
+use Prim.Native.Nat.{ℕ, ◌+◌, ◌^◌, ◌<◌, ◌≤◌}
 use mathlib.Core.Path.{◌≡◌, refl, sym, ◌∙◌}
-use mathlib.Core.Bool.{Bool, true, false, ◌&&◌, and-true, and-false, and_assoc}
+use mathlib.Core.Bool.{true, false, ◌&&◌, and-true, and-false, and_assoc}
 use mathlib.Core.List.{List}
 use mathlib.Core.Logic.{⊎_elim}
 use native.Mathlib.Omega.{arith}
-use borrow.Author.Tests.{lt-leb, le-leb, leb-true, ltb-true, eq-eqb, eqb-true, eqb-false, ne_eqb}
-use lib.ListN.{length, take, drop, get_or, length-drop}
+use borrow.Author.Tests.{lt-leb, leb-true, ltb-true, eq-eqb, eqb-true}
+use lib.ListN.{length, drop, get_or}
 use lib.Seq.{get_or-drop}
-use native.Mathlib.Nat.{add-zero}
-use Rattle.std.specs.Int.{w16, from_le_bytes}
-use Rattle.byteorder.specs.Endian.{little_number}
-use Rattle.file_record.proofs.Numbers.{number_two, read_two}
 use lib.Dec.{eqb, leb, ltb}
 use Rattle.base_lists.proofs.Bools.{both, bool_cases}
 use Rattle.base_lists.specs.Ascii.{ascii}
@@ -105,25 +101,3 @@ event_fields v t =
       n = ltb-true v.n 256 to_n.1;
       method = ltb-true v.method 256 all.1;
     }
-
--- a mark, tested as one number
-eqb_bytes : (a b x y : ℕ) → a < 256 → x < 256 → eqb (a + 256 * b) (x + 256 * y) ≡ (eqb a x && eqb b y)
-eqb_bytes a b x y f m = go (eqb a x) (eqb b y) refl refl
-  where
-    go : (p q : Bool) → eqb a x ≡ p → eqb b y ≡ q → eqb (a + 256 * b) (x + 256 * y) ≡ (eqb a x && eqb b y)
-    go true true s t = rw (s, t) (eq-eqb (a + 256 * b) (x + 256 * y) (omega (arith, eqb-true a x s, eqb-true b y t)))
-    go true false s t = rw (s, t) (ne_eqb (a + 256 * b) (x + 256 * y) (λ e. eqb-false b y t (omega (arith, e, eqb-true a x s))))
-    go false q s t = rw s (ne_eqb (a + 256 * b) (x + 256 * y) (λ e. eqb-false a x s (omega (arith, e))))
-
-pub marked : (file mark : List ℕ) (at n : ℕ) → ((i : ℕ) → get_or file i 0 < 256) → ((i : ℕ) → get_or mark i 0 < 256) → 2 ≤ n
-    → eqb (little_number 2 (take n (drop at file))) (from_le_bytes w16 mark) ≡ opens_with mark (drop at file)
-unfolding opens_with
-marked file mark at n f m h =
-    let its : from_le_bytes w16 mark ≡ get_or mark 0 0 + 256 * get_or mark 1 0 = omega arith in
-    rw (read_two at n file h, number_two at file, its, get_or-drop at file 0 0, get_or-drop at file 1 0, add-zero at)
-    (eqb_bytes (get_or file at 0) (get_or file (at + 1) 0) (get_or mark 0 0) (get_or mark 1 0) (f at) (m 0))
-
-pub record_marked : (file mark : List ℕ) (at size : ℕ) {opens : Bool} → at + size ≤ length file → opens ≡ opens_with mark (drop at file)
-    → opens ≡ is_record size mark (drop at file)
-unfolding is_record
-record_marked file mark at size h o = let whole : size ≤ length (drop at file) = omega (arith, length-drop at file) in rw (le-leb size (length (drop at file)) whole, o) refl

@@ -46,11 +46,11 @@ fn all_fit(events: &[u32]) -> bool
     true
 }
 
-// Whether every day of a list of moves fits its bytes.
+// Whether every day of a list of moves fits its bytes. A `fold` has no branch, so that it takes several days at a time.
 fn moves_fit(moves: &[u32]) -> bool
     ensures { result ≡ list_all fits_day moves.now }
 {
-    moves.iter().all(|&day| day < TWO_BYTES)
+    moves.iter().fold(true, |fit, &day| fit & (day < TWO_BYTES))
 }
 
 // Whether so many numbers are whole moves or events, `each` numbers for one, and at most `most` of them.

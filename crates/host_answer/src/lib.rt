@@ -10,6 +10,9 @@ use method::Refusal;
 
 pub mod names;
 
+// HP_NOTHING of include/honeyplank.h: what C gets where nothing is told.
+pub const NOTHING: i64 = i64::MIN;
+
 // A number that is told.
 pub fn told(number: u32) -> Option<i64>
     ensures { result ≡ told number }

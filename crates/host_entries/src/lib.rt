@@ -22,11 +22,9 @@ ghost use Rattle.calendar_dates.specs.Days.{numbered, dated};
 ghost use Rattle.host_plain.specs.Plain.{date_written, day_told, date_told, version};
 ghost use Rattle.host_entries.specs.Host.{or_nothing, most_bytes, request_of, TableCall, FileCall, WriteCall, ListingCall};
 
+use host_answer::NOTHING;
 use method::Request;
 use table_days::LentTable;
-
-// HP_NOTHING: what C gets where nothing is told.
-pub const NOTHING: i64 = i64::MIN;
 
 // Room for the numerators of any event, four bytes each.
 const MOST_BYTES: usize = 4 * method::QUARTERS;

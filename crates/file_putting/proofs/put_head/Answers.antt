@@ -4,4 +4,4 @@ use Rattle.file_putting.proofs.Putting.{head_is}
 use Rattle.file_putting.proofs.put_head.Goals as goal
 
 pub returns : goal.returns
-returns c = let a = c.args in head_is a.out.now a.mark.now a.number c.requires (search rules) c.copy_from_slice.ensures.after (search rules)
+returns c = let a = c.args in head_is a.out.now _ _ a.number c.requires (search rules)
