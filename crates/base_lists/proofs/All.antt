@@ -8,10 +8,25 @@ use native.Mathlib.Numerals.{add-one}
 use native.Mathlib.Omega.{arith}
 use lib.ListN.{length, take, drop, get_or, replicate, length-drop, drop_of_length-le}
 use lib.Seq.{drop-cons, drop-nil, drop-drop, get_or-take, get_or-drop}
+use Rattle.std.specs.Prelude.{fold}
+use Rattle.std.specs.List.{list_all}
 use Rattle.base_lists.specs.Lists.{all, leading}
 use Rattle.base_lists.proofs.Bools.{bool_cases, both}
 
 module _ {A : Type 0} (p : A → Bool) where
+  -- what `all` of std says is what ours does, and what a `fold` that asks every element says
+  pub all_is : (xs : List A) → list_all p xs ≡ all p xs
+  unfolding all
+  all_is [] = refl
+  all_is (x ∷ xs) = ap (λ (b : Bool). p x && b) (all_is xs)
+
+  pub all_folded : (xs : List A) → fold (λ holds x. holds && p x) true xs ≡ list_all p xs
+  all_folded xs = go xs true
+    where
+      go : (l : List A) (b : Bool) → fold (λ holds x. holds && p x) b l ≡ (b && list_all p l)
+      go [] b = sym (and-true b)
+      go (x ∷ l) b = rw (go l (b && p x)) (and_assoc b (p x) (list_all p l))
+
   pub all-append : (xs ys : List A) → all p (xs ++ ys) ≡ (all p xs && all p ys)
   unfolding all
   all-append [] ys = refl

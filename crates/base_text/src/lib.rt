@@ -60,7 +60,7 @@ impl Text<'_> {
         self.put_bytes(Buffer::new().format(z).as_bytes());
     }
 
-    // A label and a number in decimal digits, both or neither.
+    // A label and a number in decimal digits, both or neither. Inlined: called, it made a listing of events that are refused 1.3 times as long.
     #[inline(always)]
     pub fn put_field(&mut self, label: &[u8], n: u32)
         ensures keeps { Keeps self.old self.new }

@@ -55,12 +55,18 @@ fn is_before_march(passed: u32) -> bool
     matches!(passed, 0 | 5)
 }
 
-// Whether so many days of a common year have passed on one of its six holidays after February that have a fixed date.
+// Whether so many days of a common year have passed on one of its six holidays after February that have a fixed date. Without a branch, so that
+// several pairs of a list are tested at a time: with `matches!` a `fold` over 16 of them took twice as long.
 #[tactic(auto, unfolding(base_lists::specs::Lists::member))]
 fn is_after_february(passed: u32) -> bool
     ensures { result ≡ member passed (83 ∷ 120 ∷ 226 ∷ 300 ∷ 358 ∷ 359 ∷ []) }
 {
-    matches!(passed, 83 | 120 | 226 | 300 | 358 | 359)
+    (passed == 83)
+        | (passed == 120)
+        | (passed == 226)
+        | (passed == 300)
+        | (passed == 358)
+        | (passed == 359)
 }
 
 // Whether one of the six holidays that are counted from Easter Sunday lies so many days after Clean Monday.

@@ -1,18 +1,18 @@
 -- What the masks say of a mark byte.
 use Prim.Native.Nat.{ℕ, zero, suc, ◌+◌, ◌*◌, ◌/◌, ◌%◌, ◌<◌, ◌≤◌}
-use mathlib.Core.Path.{◌≡◌, refl, sym, ap, ◌∙◌}
-use mathlib.Core.Bool.{Bool, not, true, false, ◌&&◌, and-true, and_assoc}
+use mathlib.Core.Path.{◌≡◌, refl, ap, ◌∙◌}
+use mathlib.Core.Bool.{Bool, not, true, false}
 use mathlib.Core.List.{List, [], ◌∷◌}
 use mathlib.Core.Logic.{⊎_elim}
 use native.Mathlib.Omega.{arith}
 use native.Mathlib.Nat.{zero-add}
 use borrow.Author.Tests.{lt-ltb, le-ltb, eqb-true, eqb-false}
 use lib.Bits.{bit_and, and_mask, and_high}
-use lib.Dec.{eqb, ltb}
+use lib.Dec.{eqb}
 use lib.ListN.{length, get_or}
-use Rattle.std.specs.Prelude.{fold, unwrap_or}
+use Rattle.std.specs.Prelude.{unwrap_or}
 use Rattle.std.specs.List.{position_from}
-use Rattle.base_lists.specs.Lists.{all, leading}
+use Rattle.base_lists.specs.Lists.{leading}
 use Rattle.base_lists.proofs.Bools.{bool_cases}
 use Rattle.method.specs.Table.{event_bit, outage_bit, good_mark}
 
@@ -43,15 +43,7 @@ clear_mask m h e = let o : m < 4 = omega (arith, other_bits m h) in lt-ltb m 4 o
 pub set_mask : (m : ℕ) → m < 256 → (bit_and m 252 ≡ 0 → ⊥) → good_mark m ≡ false
 set_mask m h e = let o : 4 ≤ m = omega (arith, other_bits m h) in le-ltb m 4 o
 
--- ---- the marks of a list: all of them good, and the place of the first that is not
-pub all_folded : (xs : List ℕ) → fold (λ good mark. good && ltb mark 4) true xs ≡ all good_mark xs
-unfolding all
-all_folded xs = go xs true
-  where
-    go : (l : List ℕ) (good : Bool) → fold (λ b mark. b && ltb mark 4) good l ≡ (good && all good_mark l)
-    go [] good = sym (and-true good)
-    go (x ∷ l) good = rw (go l (good && ltb x 4)) (and_assoc good (ltb x 4) (all good_mark l))
-
+-- ---- the place of the first mark of a list that is not good
 abbrev bad : ℕ → Bool
 bad mark = not (eqb (bit_and mark 252) 0)
 

@@ -8,8 +8,8 @@ ghost use Rattle.file_record.specs.Layout.{pf_record, mv_record, dy_record, ev_r
 
 use file_starts::{BEFORE_READINGS, EV_LENGTH, MV_LENGTH, PF_LENGTH};
 
-// What every record opens with: its mark, and a number of two bytes. The mark is put letter by letter: `copy_from_slice` of what may lie anywhere leaves a
-// test in each record.
+// What every record opens with: its mark, and a number of two bytes. The mark is put letter by letter: this compiler's `copy_from_slice` of what
+// may lie anywhere leaves a test in each record.
 fn put_head(out: &mut [u8], mark: &[u8; 2], number: u32)
     requires { 4 ≤ length out.old }
     ensures { out.new ≡ (get_or mark.now 0 0 ∷ get_or mark.now 1 0 ∷ bytes 2 number) ++ drop 4 out.old }

@@ -1,31 +1,17 @@
 -- The tests of what a file can say: what std asks of a list is what the definitions ask of it.
 use Prim.Native.Nat.{ℕ, suc, ◌+◌, ◌/◌, ◌≤◌, ◌<◌}
 use mathlib.Core.Path.{◌≡◌, refl, sym, ap, ◌∙◌}
-use mathlib.Core.Bool.{Bool, true, false, ◌&&◌, and-true, and_assoc}
+use mathlib.Core.Bool.{Bool, true, false}
 use mathlib.Core.List.{List, [], ◌∷◌}
 use native.Mathlib.Omega.{arith}
 use lib.ListN.{length, get_or, drop, drop_of_length-le}
 use lib.Seq.{drop-cons}
-use Rattle.std.specs.Prelude.{fold, slice_index}
+use Rattle.std.specs.Prelude.{slice_index}
 use Rattle.std.specs.Simd.{first_chunks}
 use Rattle.std.specs.List.{list_all}
 use Rattle.base_lists.specs.Lists.{all}
 use Rattle.file_record.specs.Layout.{Event, fits_event}
 use Rattle.file_record.specs.Writer.{events_of}
-
--- what `all` of std says is what ours does
-pub all_is : (p : ℕ → Bool) (xs : List ℕ) → list_all p xs ≡ all p xs
-unfolding all
-all_is p [] = refl
-all_is p (x ∷ xs) = ap (λ (b : Bool). p x && b) (all_is p xs)
-
--- what a `fold` that asks all of them says
-pub all_folded : (p : ℕ → Bool) (xs : List ℕ) → fold (λ all x. all && p x) true xs ≡ list_all p xs
-all_folded p xs = go xs true
-  where
-    go : (l : List ℕ) (b : Bool) → fold (λ all x. all && p x) b l ≡ (b && list_all p l)
-    go [] b = sym (and-true b)
-    go (x ∷ l) b = rw (go l (b && p x)) (and_assoc b (p x) (list_all p l))
 
 -- the numbers of the events, five for each
 abbrev pub fives : List ℕ → List (List ℕ)

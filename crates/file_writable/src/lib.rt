@@ -76,7 +76,7 @@ fn in_bounds(participation: u32, first: u32, days: usize) -> bool
 }
 
 // Whether refusal 13 lets P, so many days from the first on, these moves and these events pass.
-#[tactic(auto, using(crate::proofs::Tests::all_is), unfolding(file_record::specs::Writer::sayable))]
+#[tactic(auto, using(base_lists::proofs::All::all_is), unfolding(file_record::specs::Writer::sayable))]
 pub fn is_sayable(
     participation: u32,
     first: u32,

@@ -11,6 +11,7 @@ use method::{Refusal, Request};
 use table_days::LentTable;
 
 // The baseline over a lent table: the first refusal that applies, or the answer, with the numerators in the first places of the output.
+// Inlined: called, it made a table that refusal 1 turns away take twice as long.
 #[inline(always)]
 pub fn baseline(
     table: &LentTable<'_, '_>,

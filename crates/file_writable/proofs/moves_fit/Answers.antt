@@ -3,8 +3,8 @@ use mathlib.Core.Bool.{true, ◌&&◌}
 use Rattle.std.proofs.Common.{rules, tests}
 use Rattle.std.proofs.lemmas.Iterator.{YieldsList-from_slice}
 use Rattle.std.proofs.lemmas.Iterator.Consumers.{fold_from_yields_List}
+use Rattle.base_lists.proofs.All.{all_folded}
 use Rattle.file_record.specs.Layout.{fits_day}
-use Rattle.file_writable.proofs.Tests.{all_folded}
 use Rattle.file_writable.proofs.moves_fit.Goals as goal
 
 pub returns : goal.returns
